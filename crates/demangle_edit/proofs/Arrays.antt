@@ -1,11 +1,12 @@
 -- Arrays, put together step by step.
-use Rattle.std.proofs.Common.{◌≡◌, ℕ, ◌+◌, ◌-◌, min, false, Option, Some, None, List, [], ◌++◌, length, take, drop, codes, sym, ap, ◌∙◌, refl, arith, append_assoc, is_some, subst, ◌≤◌}
+use Rattle.std.proofs.Common.{◌≡◌, ℕ, ◌+◌, ◌-◌, min, Bool, true, false, if◌then◌else◌, Option, Some, None, List, [], ◌++◌, length, take, drop, codes, sym, ap, ◌∙◌, refl, arith, append_assoc, is_some, subst, ◌≤◌}
 use Rattle.std.proofs.lemmas.List.{length-append, length-take, take-append-drop, append-nil}
 use Rattle.demangle_text.specs.declared.shape.Kind.TheVariants.{Array, Function}
 use Rattle.demangle_text.specs.declared.shape.Place.TheVariants.{Suffix, End}
 use Rattle.demangle_text.specs.Shape.{Form, Plain, Declared, Shape, form_text, inserted, declared_at, flattened, text_len, moved}
 use Rattle.demangle_text.specs.Calls.{IsPlain, kind_of, group_of, after_of}
-use Rattle.demangle_edit.specs.Types.{dimension_text, array_shape}
+use Rattle.demangle_edit.specs.Types.{dimension_text, array_shape, may_be_element}
+use Rattle.demangle_edit.specs.Calls.{array_step}
 use Rattle.demangle_edit.proofs.Cuts.{take_front, drop_front}
 
 -- an array of a plain type
@@ -91,3 +92,15 @@ module _ (elem flat cut longer whole : Shape) (dimension : Option ℕ) (at len p
       → longer ≡ inserted Suffix (dimension_text dimension) cut → whole ≡ flattened longer → array ≡ declared_at Array at whole → array ≡ array_shape dimension elem
   outer_shape array k g e l b by_flat by_cut by_longer by_whole by_array =
       by_array ∙ ap (declared_at Array at) (outer_is by_flat by_cut by_longer by_whole) ∙ array_in elem.form k g e l b
+
+-- which types have arrays
+pub outer_found : (elem found : Shape) (dimension : Option ℕ) → kind_of elem.form ≡ Some Array
+    → found ≡ array_shape dimension elem → array_step dimension elem ≡ Some found
+outer_found elem found dimension kind e =
+    ap (λ (b : Bool). if b then Some (array_shape dimension elem) else None) (may elem.form kind) ∙ ap Some (sym e)
+  where
+    may : (f : Form) → kind_of f ≡ Some Array → may_be_element f ≡ true
+    may (Plain t) h = cc
+    may (Declared k before (Some group) after) h = refl
+    may (Declared Array before None after) h = refl
+    may (Declared Function before None after) h = cc

@@ -1,5 +1,5 @@
 -- A declarator, cut in two and put together again with a group.
-use Rattle.std.proofs.Common.{◌≡◌, ℕ, ◌+◌, ◌-◌, ◌<◌, ◌≤◌, Bool, Option, Some, List, [], ◌∷◌, ◌++◌, length, take, drop, codes, sym, ap, ◌∙◌, refl, arith, append_assoc}
+use Rattle.std.proofs.Common.{◌≡◌, ℕ, ◌+◌, ◌-◌, ◌<◌, ◌≤◌, Bool, true, Option, Some, None, if◌then◌else◌, List, [], ◌∷◌, ◌++◌, length, take, drop, codes, sym, ap, ◌∙◌, refl, arith, append_assoc}
 use Rattle.std.specs.Prelude.{slice_range, slice_index}
 use Rattle.std.proofs.lemmas.List.{length-append, append-nil, get_or_at}
 use Rattle.demangle_text.specs.declared.shape.Kind.TheVariants.{Array, Function}
@@ -10,8 +10,8 @@ use Rattle.demangle_text.specs.declared.buffer.Buffer.{Buffer}
 use Rattle.demangle_text.specs.State.{shape, IsLiving, IsEdit, Opens}
 use Rattle.demangle_text.proofs.Laws.{Opens-edit}
 use Rattle.demangle_text.specs.Calls.{joined, IsDeclared, IsPlain, front_text, kind_of, after_of, declared_group}
-use Rattle.demangle_edit.specs.Types.{member_gap, member_pointer_shape}
-use Rattle.demangle_edit.specs.Calls.{after_text}
+use Rattle.demangle_edit.specs.Types.{member_gap, may_be_member, member_pointer_shape}
+use Rattle.demangle_edit.specs.Calls.{after_text, member_pointer_step}
 use Rattle.demangle_text.specs.declared.shape.Place.TheVariants.{End}
 use Rattle.demangle_edit.proofs.Insertions.{inserted_twice}
 use Rattle.demangle_edit.proofs.Cuts.{take_front, drop_front}
@@ -31,6 +31,21 @@ member_pointer_after class member begun gap flat by_gap by_begun =
 
 after_at : (at : ℕ) (before : List ℕ) (group : Option (List ℕ)) → Some at ≡ Some (length (before ++ grouped group)) → at ≡ length (before ++ grouped group)
 after_at at before group e = cc
+
+-- which types have members' pointers
+pub plain_member : (f : Form) → kind_of f ≡ None → may_be_member f ≡ true
+plain_member (Plain t) h = refl
+plain_member (Declared k before group after) h = cc
+
+pub function_member : (f : Form) → kind_of f ≡ Some Function → may_be_member f ≡ true
+function_member (Plain t) h = cc
+function_member (Declared Function before group after) h = refl
+function_member (Declared Array before group after) h = cc
+
+pub member_found : (class member found : Shape) → may_be_member member.form ≡ true
+    → found ≡ member_pointer_shape class member → member_pointer_step class member ≡ Some found
+member_found class member found may e =
+    ap (λ (b : Bool). if b then Some (member_pointer_shape class member) else None) may ∙ ap Some (sym e)
 
 -- the text up to `after`
 pub front_cut : (s : Shape) (at : ℕ) → IsDeclared s.form → Some at ≡ after_of s.form → slice_range (text s) 0 at ≡ front_text s.form

@@ -80,10 +80,6 @@ IsPutAfter Cast old new paren type literal = JoinsInPlace old new paren type lit
 abbrev pub value_text : List ℕ → List ℕ
 value_text value = sign_text value ++ digits_text value
 
--- the sign, and the digits in square brackets
-abbrev pub float_text : List ℕ → List ℕ
-float_text value = sign_text value ++ codes "[" ++ digits_text value ++ codes "]"
-
 -- the literal, where there is one
 abbrev pub literal_step : Shape → List ℕ → Option Shape
 literal_step type value = if has_literal (text type) value then Some (literal_shape type value) else None

@@ -25,19 +25,12 @@ pub enum LiteralForm {
     Cast,
 }
 
-// Returns whether a literal's value has a minus, which is a leading `n`.
-fn is_minus(value: &[u8]) -> bool
-    ensures value { result ≡ spec.is_minus value.now }
-{
-    value.starts_with(b"n")
-}
-
-// Returns how a literal is printed whose type has this text, with a minus or without one.
+// Returns how a literal is printed whose type has this text, with this value.
 #[inline(always)]
-fn literal_form(ty: &[u8], minus: bool) -> LiteralForm
-    ensures value { result ≡ spec.literal_form ty.now minus }
+fn literal_form(ty: &[u8], value: &[u8]) -> LiteralForm
+    ensures value { result ≡ spec.literal_form ty.now (spec.is_minus value.now) }
 {
-    if ty == b"bool".as_slice() && !minus {
+    if ty == b"bool".as_slice() && !value.starts_with(b"n") {
         return LiteralForm::Boolean;
     }
     if ty == b"std::nullptr_t".as_slice() {
@@ -52,18 +45,15 @@ fn literal_form(ty: &[u8], minus: bool) -> LiteralForm
     LiteralForm::Cast
 }
 
-// Returns the sign of a value: `-` or nothing.
-fn sign_bytes(value: &[u8]) -> &'static [u8]
-    ensures value { result.now ≡ spec.sign_text value.now }
+// Returns the sign of a value, `-` or nothing, and its digits: all bytes but the `n` of a minus.
+fn sign_and_digits(value: &[u8]) -> (&'static [u8], &[u8])
+    ensures sign { result.0.now ≡ spec.sign_text value.now }
+    ensures digits { result.1.now ≡ spec.digits_text value.now }
 {
-    if is_minus(value) { b"-" } else { b"" }
-}
-
-// Returns the digits of a value: all bytes but the `n` of a minus.
-fn digit_bytes(value: &[u8]) -> &[u8]
-    ensures value { result.now ≡ spec.digits_text value.now }
-{
-    if is_minus(value) { &value[1..] } else { value }
+    match value {
+        [b'n', digits @ ..] => (b"-", digits),
+        _ => (b"", value),
+    }
 }
 
 // Puts the text of the piece in parentheses, as a plain piece whose base name is the whole text, with no flag set.
@@ -89,37 +79,10 @@ fn append_value(buf: &mut Buffer, piece: Piece, value: &[u8]) -> Result<Piece, A
     ensures edit { OnOk result (IsEdit buf.old buf.new) }
     ensures in_place { IfOk result (λ p. StaysInPlace buf.old buf.new piece p) }
 {
-    let signed = buf.append(piece, sign_bytes(value))?;
-    let all = buf.append(signed, digit_bytes(value))?;
+    let (sign, digits) = sign_and_digits(value);
+    let signed = buf.append(piece, sign)?;
+    let all = buf.append(signed, digits)?;
     Ok(buf.whole(all))
-}
-
-// Pushes a value in square brackets, with its sign in front of them.
-fn push_float(buf: &mut Buffer, value: &[u8]) -> Result<Piece, AllocError>
-    ensures shape { IfOk result (λ p. Lives buf.new p (plain_shape (calls.float_text value.now))) }
-    ensures edit { OnOk result (IsEdit buf.old buf.new) }
-    ensures appends { IfOk result (λ p. Appends buf.old buf.new p) }
-{
-    let signed = buf.push(sign_bytes(value))?;
-    let opened = buf.append(signed, b"[")?;
-    let filled = buf.append(opened, digit_bytes(value))?;
-    let closed = buf.append(filled, b"]")?;
-    Ok(buf.whole(closed))
-}
-
-// Makes a literal with its type in parentheses. The piece `paren` is the `(`.
-fn print_cast(buf: &mut Buffer, paren: Piece, ty: Piece, value: &[u8]) -> Result<Piece, AllocError>
-    requires paren { Lives buf.old paren (plain_shape (codes "(")) }
-    requires ty { IsLiving buf.old ty }
-    ensures shape { IfOk result (λ p. Lives buf.new p
-        (plain_shape (spec.literal_text LiteralForm.Cast (text (shape buf.old ty)) value.now))) }
-    ensures edit { OnOk result (IsEdit buf.old buf.new) }
-    ensures in_place { IfOk result (λ p. JoinsInPlace buf.old buf.new paren ty p) }
-{
-    let opened = buf.join(paren, b"", ty)?;
-    let closed = buf.append(opened, b")")?;
-    let cast = buf.whole(closed);
-    append_value(buf, cast, value)
 }
 
 /// Makes the literal of a type with this value. One leading `n` of the value is the minus, and the rest are the
@@ -142,8 +105,7 @@ pub fn write_literal(buf: &mut Buffer, ty: Piece, value: &str) -> Result<Option<
         (spec.literal_form (text (shape buf.old ty)) (spec.is_minus value.now)) buf.old buf.new ty) }
 {
     let bytes = value.as_bytes();
-    let form = literal_form(buf.bytes(ty), is_minus(bytes));
-    let literal = match form {
+    let literal = match literal_form(buf.bytes(ty), bytes) {
         LiteralForm::Boolean if value == "0" => buf.push(b"false")?,
         LiteralForm::Boolean if value == "1" => buf.push(b"true")?,
         LiteralForm::Boolean => return Ok(None),
@@ -152,7 +114,14 @@ pub fn write_literal(buf: &mut Buffer, ty: Piece, value: &str) -> Result<Option<
             let empty = buf.push(b"")?;
             append_value(buf, empty, bytes)?
         }
-        LiteralForm::Float => push_float(buf, bytes)?,
+        LiteralForm::Float => {
+            let (sign, digits) = sign_and_digits(bytes);
+            let signed = buf.push(sign)?;
+            let opened = buf.append(signed, b"[")?;
+            let filled = buf.append(opened, digits)?;
+            let closed = buf.append(filled, b"]")?;
+            buf.whole(closed)
+        }
         LiteralForm::Cast => {
             let cast = parenthesize(buf, ty)?;
             append_value(buf, cast, bytes)?
@@ -179,10 +148,12 @@ pub fn write_opened_literal(
         (spec.literal_form (text (shape buf.old ty)) (spec.is_minus value.now)) buf.old buf.new paren ty) }
 {
     let bytes = value.as_bytes();
-    match literal_form(buf.bytes(ty), is_minus(bytes)) {
+    match literal_form(buf.bytes(ty), bytes) {
         LiteralForm::Cast => {
-            let cast = print_cast(buf, paren, ty, bytes)?;
-            Ok(Some(cast))
+            let opened = buf.join(paren, b"", ty)?;
+            let closed = buf.append(opened, b")")?;
+            let cast = buf.whole(closed);
+            Ok(Some(append_value(buf, cast, bytes)?))
         }
         _ => write_literal(buf, ty, value),
     }
@@ -192,8 +163,7 @@ pub fn write_opened_literal(
 /// name is the whole text, with no flag set. Otherwise it is the piece itself.
 pub fn subexpr(buf: &mut Buffer, piece: Piece, paren: bool) -> Result<Piece, AllocError>
     requires piece { IsLiving buf.old piece }
-    ensures shape { IfOk result (λ p. Lives buf.new p
-        (spec.operand_shape paren (shape buf.old piece))) }
+    ensures shape { IfOk result (λ p. Lives buf.new p (spec.operand_shape paren (shape buf.old piece))) }
     ensures edit { OnOk result (IsEdit buf.old buf.new) }
     ensures in_place { IfOk result (λ p. IsLeftOrStays buf.old buf.new piece p) }
     ensures same { paren ≡ false → (result ≡ Ok piece) × (buf.new ≡ buf.old) }

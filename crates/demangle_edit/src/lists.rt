@@ -19,8 +19,7 @@ use std::alloc::AllocError;
 /// empty.
 pub fn glue(buf: &mut Buffer, parts: &[Glue]) -> Result<Piece, AllocError>
     requires parts { All (IsLivingPart buf.old) parts.now }
-    ensures shape { IfOk result (λ p. Lives buf.new p
-        (glued (map (part_text (shape buf.old)) parts.now))) }
+    ensures shape { IfOk result (λ p. Lives buf.new p (glued (map (part_text (shape buf.old)) parts.now))) }
     ensures edit { OnOk result (IsEdit buf.old buf.new) }
     ensures appends { IfOk result (λ p. Appends buf.old buf.new p) }
 {
@@ -41,8 +40,7 @@ pub fn glue(buf: &mut Buffer, parts: &[Glue]) -> Result<Piece, AllocError>
 // Makes a plain piece of the texts of the pieces, with `, ` between them.
 pub(crate) fn list_pieces(buf: &mut Buffer, pieces: &[Piece]) -> Result<Piece, AllocError>
     requires pieces { All (IsLiving buf.old) pieces.now }
-    ensures shape { IfOk result (λ p. Lives buf.new p
-        (pack_shape (map (shape buf.old) pieces.now))) }
+    ensures shape { IfOk result (λ p. Lives buf.new p (pack_shape (map (shape buf.old) pieces.now))) }
     ensures kept { OnOk result (KeepsAll buf.old buf.new) }
     ensures appends { IfOk result (λ p. Appends buf.old buf.new p) }
 {
@@ -69,11 +67,8 @@ pub fn open_arguments(buf: &mut Buffer, name: Piece) -> Result<Piece, AllocError
     ensures in_place { IfOk result (λ p. StaysInPlace buf.old buf.new name p) }
 {
     let ctor = buf.ctor(name);
-    let opening: &[u8] = if buf.bytes(name).ends_with(b"<") {
-        b" <"
-    } else {
-        b"<"
-    };
+    let angle = buf.bytes(name).ends_with(b"<");
+    let opening: &[u8] = if angle { b" <" } else { b"<" };
     let plain = buf.plain(name);
     let opened = buf.append(plain, opening)?;
     Ok(buf.with_flags(opened, true, ctor))
@@ -96,11 +91,8 @@ pub fn close_arguments(buf: &mut Buffer, list: Piece) -> Result<Piece, AllocErro
     ensures in_place { (from to : ℕ) → Stands list from to
         → IfOk result (λ p. Stands p from (length (main_bytes buf.new))) }
 {
-    let end: &[u8] = if buf.main_bytes().ends_with(b">") {
-        b" >"
-    } else {
-        b">"
-    };
+    let angle = buf.main_bytes().ends_with(b">");
+    let end: &[u8] = if angle { b" >" } else { b">" };
     buf.push(end)?;
     Ok(buf.up_to_end(list))
 }
@@ -137,8 +129,7 @@ pub fn close_params(buf: &mut Buffer, list: Piece, quals: Quals) -> Result<Piece
 /// Appends the number to the piece, in decimal digits without leading zeros.
 pub fn append_number(buf: &mut Buffer, piece: Piece, number: u64) -> Result<Piece, AllocError>
     requires piece { IsLiving buf.old piece }
-    ensures shape { IfOk result (λ p. Lives buf.new p
-        (appended (decimal number) (shape buf.old piece))) }
+    ensures shape { IfOk result (λ p. Lives buf.new p (appended (decimal number) (shape buf.old piece))) }
     ensures edit { OnOk result (IsEdit buf.old buf.new) }
     ensures in_place { IfOk result (λ p. StaysInPlace buf.old buf.new piece p) }
 {

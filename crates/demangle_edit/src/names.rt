@@ -18,8 +18,7 @@ use std::alloc::AllocError;
 pub fn qualify(buf: &mut Buffer, parent: Piece, leaf: Piece) -> Result<Piece, AllocError>
     requires parent { IsLiving buf.old parent }
     requires leaf { IsLiving buf.old leaf }
-    ensures shape { IfOk result (λ p. Lives buf.new p
-        (qualified (shape buf.old parent) (shape buf.old leaf))) }
+    ensures shape { IfOk result (λ p. Lives buf.new p (qualified (shape buf.old parent) (shape buf.old leaf))) }
     ensures edit { OnOk result (IsEdit buf.old buf.new) }
     ensures in_place { IfOk result (λ p. JoinsInPlace buf.old buf.new parent leaf p) }
 {
@@ -38,8 +37,7 @@ pub fn qualify(buf: &mut Buffer, parent: Piece, leaf: Piece) -> Result<Piece, Al
 /// the output.
 pub fn qualify_text(buf: &mut Buffer, parent: Piece, text: &[u8]) -> Result<Piece, AllocError>
     requires parent { IsLiving buf.old parent }
-    ensures shape { IfOk result (λ p. Lives buf.new p
-        (qualified (shape buf.old parent) (plain_shape text.now))) }
+    ensures shape { IfOk result (λ p. Lives buf.new p (qualified (shape buf.old parent) (plain_shape text.now))) }
     ensures edit { OnOk result (IsEdit buf.old buf.new) }
     ensures in_place { IfOk result (λ p. StaysInPlace buf.old buf.new parent p) }
 {
@@ -120,8 +118,7 @@ pub fn default_arg(
 /// is set.
 pub fn qualify_ctor(buf: &mut Buffer, parent: Piece, destructor: bool) -> Result<Piece, AllocError>
     requires parent { IsLiving buf.old parent }
-    ensures shape { IfOk result (λ p. Lives buf.new p
-        (qualified_ctor (shape buf.old parent) destructor)) }
+    ensures shape { IfOk result (λ p. Lives buf.new p (qualified_ctor (shape buf.old parent) destructor)) }
     ensures edit { OnOk result (IsEdit buf.old buf.new) }
     ensures in_place { IfOk result (λ p. StaysInPlace buf.old buf.new parent p) }
 {
@@ -141,17 +138,13 @@ pub fn qualify_ctor(buf: &mut Buffer, parent: Piece, destructor: bool) -> Result
 pub fn attach_template_args(buf: &mut Buffer, name: Piece, args: Piece) -> Result<Piece, AllocError>
     requires name { IsLiving buf.old name }
     requires args { IsLiving buf.old args }
-    ensures shape { IfOk result (λ p. Lives buf.new p
-        (attached (shape buf.old name) (shape buf.old args))) }
+    ensures shape { IfOk result (λ p. Lives buf.new p (attached (shape buf.old name) (shape buf.old args))) }
     ensures edit { OnOk result (IsEdit buf.old buf.new) }
     ensures in_place { IfOk result (λ p. JoinsInPlace buf.old buf.new name args p) }
 {
     let ctor = buf.ctor(name);
-    let gap: &[u8] = if buf.bytes(name).ends_with(b"<") {
-        b" "
-    } else {
-        b""
-    };
+    let angle = buf.bytes(name).ends_with(b"<");
+    let gap: &[u8] = if angle { b" " } else { b"" };
     let whole = append_piece(buf, name, gap, args)?;
     Ok(buf.with_flags(whole, true, ctor))
 }
@@ -207,8 +200,7 @@ pub fn apply_name_qualifiers(
     shown: bool,
 ) -> Result<Piece, AllocError>
     requires name { IsLiving buf.old name }
-    ensures shape { IfOk result (λ p. Lives buf.new p
-        (with_name_qualifiers (shape buf.old name) quals shown)) }
+    ensures shape { IfOk result (λ p. Lives buf.new p (with_name_qualifiers (shape buf.old name) quals shown)) }
     ensures edit { OnOk result (IsEdit buf.old buf.new) }
     ensures in_place { IfOk result (λ p. IsLeftOrStays buf.old buf.new name p) }
     ensures same { has_quals quals ≡ false → (result ≡ Ok name) × (buf.new ≡ buf.old) }

@@ -79,12 +79,10 @@ pub fn collapse_ref(
     ensures none_main { OnNone result (main_bytes buf.new ≡ main_bytes buf.old) }
     ensures in_place { is_cut rvalue (shape buf.old inner) ≡ false
         → IfFound result (λ p. IsLeftOrStays buf.old buf.new inner p) }
-    ensures same { is_kept rvalue (shape buf.old inner) ≡ true
-        → (result ≡ Ok (Some inner)) × (buf.new ≡ buf.old) }
+    ensures same { is_kept rvalue (shape buf.old inner) ≡ true → (result ≡ Ok (Some inner)) × (buf.new ≡ buf.old) }
     ensures cut_main { is_cut rvalue (shape buf.old inner) ≡ true
         → OnOk result (main_bytes buf.new ≡ main_bytes buf.old) }
-    ensures cut_stands { is_cut rvalue (shape buf.old inner) ≡ true
-        → IfFound result (λ p. StandsShortened 1 inner p) }
+    ensures cut_stands { is_cut rvalue (shape buf.old inner) ≡ true → IfFound result (λ p. StandsShortened 1 inner p) }
 {
     if buf.kind(inner).is_some() || !buf.bytes(inner).ends_with(b"&") {
         return Ok(None);
@@ -92,27 +90,7 @@ pub fn collapse_ref(
     if rvalue || !buf.bytes(inner).ends_with(b"&&") {
         return Ok(Some(inner));
     }
-    let shorter = buf.cut(inner, 1)?;
-    Ok(Some(shorter))
-}
-
-// Returns the place where the words of a type's qualifiers go.
-fn words_place(buf: &Buffer, inner: Piece) -> Place
-    requires inner { IsLiving buf.now inner }
-    ensures value { result ≡ cv_place (shape buf.now inner).form }
-{
-    match buf.kind(inner) {
-        None => Place::End,
-        Some(kind) => {
-            if buf.has_group(inner) {
-                return Place::Close;
-            }
-            match kind {
-                Kind::Array => Place::Suffix,
-                Kind::Function => Place::End,
-            }
-        }
-    }
+    Ok(Some(buf.cut(inner, 1)?))
 }
 
 /// Adds the words ` const`, ` volatile` and ` restrict` of the qualifiers to the type. The words go to the end of the
@@ -124,7 +102,11 @@ pub fn wrap_cv(buf: &mut Buffer, inner: Piece, quals: Quals) -> Result<Piece, Al
     ensures edit { OnOk result (IsEdit buf.old buf.new) }
     ensures in_place { IfOk result (λ p. StaysInPlace buf.old buf.new inner p) }
 {
-    let place = words_place(buf, inner);
+    let place = match buf.kind(inner) {
+        Some(_) if buf.has_group(inner) => Place::Close,
+        Some(Kind::Array) => Place::Suffix,
+        Some(Kind::Function) | None => Place::End,
+    };
     buf.insert(inner, place, quals.words())
 }
 
@@ -151,48 +133,6 @@ fn insert_dimension(
     buf.insert(filled, place, b"]")
 }
 
-// Makes an array of a plain type.
-fn first_dimension(
-    buf: &mut Buffer,
-    elem: Piece,
-    dimension: Option<u64>,
-) -> Result<Piece, AllocError>
-    requires living { IsLiving buf.old elem }
-    requires plain { IsPlain (shape buf.old elem).form }
-    ensures shape { IfOk result (λ p. Lives buf.new p (array_shape dimension (shape buf.old elem))) }
-    ensures edit { OnOk result (IsEdit buf.old buf.new) }
-    ensures in_place { IfOk result (λ p. StaysInPlace buf.old buf.new elem p) }
-{
-    let at = buf.len(elem);
-    let longer = insert_dimension(buf, elem, Place::End, b" [", dimension)?;
-    // The prover learns here that the length fits 64 bits, and so does each place in the text.
-    let _len = buf.len(longer);
-    Ok(buf.declare(longer, Kind::Array, at))
-}
-
-// Adds a dimension to an array without a group, in front of its other dimensions: after the first byte of `after`.
-fn outer_dimension(
-    buf: &mut Buffer,
-    elem: Piece,
-    dimension: Option<u64>,
-) -> Result<Piece, AllocError>
-    requires living { IsLiving buf.old elem }
-    requires kind { kind_of (shape buf.old elem).form ≡ Some Kind.Array }
-    requires group { is_some (group_of (shape buf.old elem).form) ≡ false }
-    ensures shape { IfOk result (λ p. Lives buf.new p (array_shape dimension (shape buf.old elem))) }
-    ensures edit { OnOk result (IsEdit buf.old buf.new) }
-    ensures in_place { IfOk result (λ p. StaysInPlace buf.old buf.new elem p) }
-{
-    let at = buf.after_at(elem).unwrap();
-    let len = buf.len(elem);
-    let past = at + (len - at).min(1);
-    let flat = buf.plain(elem);
-    let cut = buf.declare(flat, Kind::Array, past);
-    let longer = insert_dimension(buf, cut, Place::Suffix, b"[", dimension)?;
-    let whole = buf.plain(longer);
-    Ok(buf.declare(whole, Kind::Array, at))
-}
-
 /// Makes an array of the type, with this dimension, or with `[]` if there is none. ` [n]` goes to the end of a group
 /// or after a plain text. For an array without a group, `[n]` goes after the first byte of what follows its name, so
 /// that the outer dimension is first. The flags stay.
@@ -210,41 +150,31 @@ pub fn wrap_array(
     ensures none_main { OnNone result (main_bytes buf.new ≡ main_bytes buf.old) }
     ensures in_place { IfFound result (λ p. StaysInPlace buf.old buf.new elem p) }
 {
-    let Some(kind) = buf.kind(elem) else {
-        let array = first_dimension(buf, elem, dimension)?;
-        return Ok(Some(array));
-    };
-    if buf.has_group(elem) {
-        let array = insert_dimension(buf, elem, Place::Close, b" [", dimension)?;
-        return Ok(Some(array));
-    }
-    match kind {
-        Kind::Array => {
-            let array = outer_dimension(buf, elem, dimension)?;
+    match buf.kind(elem) {
+        None => {
+            let at = buf.len(elem);
+            let longer = insert_dimension(buf, elem, Place::End, b" [", dimension)?;
+            // The prover learns here that the length fits 64 bits, and so does each place in the text.
+            let _len = buf.len(longer);
+            Ok(Some(buf.declare(longer, Kind::Array, at)))
+        }
+        Some(_) if buf.has_group(elem) => {
+            let array = insert_dimension(buf, elem, Place::Close, b" [", dimension)?;
             Ok(Some(array))
         }
-        Kind::Function => Ok(None),
+        // The dimension goes in front of the others: after the first byte of `after`.
+        Some(Kind::Array) => {
+            let at = buf.after_at(elem).unwrap();
+            let len = buf.len(elem);
+            let past = at + (len - at).min(1);
+            let flat = buf.plain(elem);
+            let cut = buf.declare(flat, Kind::Array, past);
+            let longer = insert_dimension(buf, cut, Place::Suffix, b"[", dimension)?;
+            let whole = buf.plain(longer);
+            Ok(Some(buf.declare(whole, Kind::Array, at)))
+        }
+        Some(Kind::Function) => Ok(None),
     }
-}
-
-// Makes a pointer to a member of a plain type.
-fn append_member(buf: &mut Buffer, class: Piece, member: Piece) -> Result<Piece, AllocError>
-    requires class { IsLiving buf.old class }
-    requires member { IsLiving buf.old member }
-    requires plain { IsPlain (shape buf.old member).form }
-    ensures shape { IfOk result (λ p. Lives buf.new p
-        (member_pointer_shape (shape buf.old class) (shape buf.old member))) }
-    ensures edit { OnOk result (IsEdit buf.old buf.new) }
-    ensures in_place { IfOk result (λ p. JoinsInPlace buf.old buf.new member class p) }
-{
-    let bytes = buf.bytes(member);
-    let gap: &[u8] = if bytes.ends_with(b"(") || bytes.ends_with(b" ") {
-        b""
-    } else {
-        b" "
-    };
-    let begun = append_piece(buf, member, gap, class)?;
-    buf.append(begun, b"::*")
 }
 
 // Returns the text of a declarator in two parts, cut where `after` begins.
@@ -262,31 +192,6 @@ fn cut_declarator(buf: &Buffer, piece: Piece) -> (Piece, Piece)
     (buf.own(front), buf.own(after))
 }
 
-// Makes a pointer to a member function, with the class in a new group.
-fn open_member(buf: &mut Buffer, class: Piece, member: Piece) -> Result<Piece, AllocError>
-    requires class { IsLiving buf.old class }
-    requires member { IsLiving buf.old member }
-    requires function { kind_of (shape buf.old member).form ≡ Some Kind.Function }
-    ensures shape { IfOk result (λ p. Lives buf.new p
-        (member_pointer_shape (shape buf.old class) (shape buf.old member))) }
-    ensures edit { OnOk result (IsEdit buf.old buf.new) }
-    ensures appends { IfOk result (λ p. Appends buf.old buf.new p) }
-{
-    let (templ, ctor) = (buf.templ(member), buf.ctor(member));
-    let class_len = buf.len(class);
-    let (front, after) = cut_declarator(buf, member);
-    let after_len = buf.len(after);
-    let opening = Buffer::group_opening(buf.bytes(front));
-    let mark = buf.open();
-    let begun = buf.join(front, opening, class)?;
-    let joined = buf.join(begun, b"::*)", after)?;
-    let whole = buf.close(mark, joined)?;
-    let at = buf.len(whole) - after_len;
-    let from = at - 5 - class_len;
-    let declared = buf.declare_group(whole, Kind::Function, from, at);
-    Ok(buf.with_flags(declared, templ, ctor))
-}
-
 /// Makes a pointer to a member of the class: adds the class and `::*`. They go to the end of a plain text, after a
 /// space unless the text ends in a space or `(`. For a function they go into a new group. The flags are those of the
 /// member.
@@ -299,8 +204,7 @@ pub fn wrap_member_pointer(
 ) -> Result<Option<Piece>, AllocError>
     requires class { IsLiving buf.old class }
     requires member { IsLiving buf.old member }
-    ensures shape { Answers result buf.new
-        (member_pointer_step (shape buf.old class) (shape buf.old member)) }
+    ensures shape { Answers result buf.new (member_pointer_step (shape buf.old class) (shape buf.old member)) }
     ensures edit { OnOk result (IsEdit buf.old buf.new) }
     ensures none { OnNone result (KeepsAll buf.old buf.new) }
     ensures none_main { OnNone result (main_bytes buf.new ≡ main_bytes buf.old) }
@@ -311,12 +215,26 @@ pub fn wrap_member_pointer(
 {
     match buf.kind(member) {
         None => {
-            let pointer = append_member(buf, class, member)?;
-            Ok(Some(pointer))
+            let bytes = buf.bytes(member);
+            let gapless = bytes.ends_with(b"(") || bytes.ends_with(b" ");
+            let gap: &[u8] = if gapless { b"" } else { b" " };
+            let begun = append_piece(buf, member, gap, class)?;
+            Ok(Some(buf.append(begun, b"::*")?))
         }
         Some(Kind::Function) => {
-            let pointer = open_member(buf, class, member)?;
-            Ok(Some(pointer))
+            let (templ, ctor) = (buf.templ(member), buf.ctor(member));
+            let class_len = buf.len(class);
+            let (front, after) = cut_declarator(buf, member);
+            let after_len = buf.len(after);
+            let opening = Buffer::group_opening(buf.bytes(front));
+            let mark = buf.open();
+            let begun = buf.join(front, opening, class)?;
+            let joined = buf.join(begun, b"::*)", after)?;
+            let whole = buf.close(mark, joined)?;
+            let at = buf.len(whole) - after_len;
+            let from = at - 5 - class_len;
+            let declared = buf.declare_group(whole, Kind::Function, from, at);
+            Ok(Some(buf.with_flags(declared, templ, ctor)))
         }
         Some(Kind::Array) => Ok(None),
     }
@@ -336,8 +254,7 @@ pub fn function_type(
 ) -> Result<Option<Piece>, AllocError>
     requires ret { IsLiving buf.old ret }
     requires params { All (IsLiving buf.old) params.now }
-    ensures shape { Answers result buf.new
-        (function_step (shape buf.old ret) (map (shape buf.old) params.now) quals) }
+    ensures shape { Answers result buf.new (function_step (shape buf.old ret) (map (shape buf.old) params.now) quals) }
     ensures edit { OnOk result (IsEdit buf.old buf.new) }
     ensures none { OnNone result (KeepsAll buf.old buf.new) }
     ensures none_main { OnNone result (main_bytes buf.new ≡ main_bytes buf.old) }

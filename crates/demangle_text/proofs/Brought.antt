@@ -18,6 +18,20 @@ tail-is s b p len same by h = subst (λ (v : Store). IsTail v p) same (subst (λ
 pub is-tail : (s b : Store) (p : Piece) (len : ℕ) → s ≡ b → len ≡ length s.output_text → IsTail b p → IsTailAt s.marked_len len p
 is-tail s b p len same by h = subst (λ (k : ℕ). IsTailAt s.marked_len k p) (sym by) (subst (λ (v : Store). IsTail v p) (sym same) h)
 
+-- a piece that ends where one at the end begins
+pub adjacent-is : (s b : Store) (first second : Piece) → s ≡ b → IsTailAt s.marked_len second.from_byte first → IsTail b second → IsAdjacent b first second
+adjacent-is s b first second same h tail =
+    let k = subst (λ (v : Store). IsTailAt v.marked_len second.from_byte first) same h in
+    record { first_in_main = k.in_main; second_in_main = tail.in_main; inner = k.inner; meets = k.ends; ends = tail.ends }
+
+pub is-adjacent : (s b : Store) (first second : Piece) → s ≡ b → IsAdjacent b first second → IsTailAt s.marked_len second.from_byte first
+is-adjacent s b first second same h =
+    subst (λ (v : Store). IsTailAt v.marked_len second.from_byte first) (sym same) (record { in_main = h.first_in_main; inner = h.inner; ends = h.meets })
+
+pub adjacent-tail : (b : Store) (first second : Piece) → IsLiving b first → IsAdjacent b first second → IsTail b second
+unfolding IsLiving
+adjacent-tail b first second lies h = record { in_main = h.second_in_main; inner = omega (arith, h.inner, h.meets, lies.ordered); ends = h.ends }
+
 -- one that ends it already
 pub IsBrought-stays : (output spill : List ℕ) (mark : ℕ) (p : Piece) → p.from_byte ≤ p.to_byte → IsTailAt mark (length output) p → IsBrought output spill mark p output p.from_byte
 IsBrought-stays output spill mark p ordered h = record {
@@ -80,6 +94,14 @@ IsSplice-extended s t p mid bytes from lies b is =
           let stays = b.in_place h in
           (stays.0, longer ∙ ap (λ (v : List ℕ). length v + length bytes) stays.1);
     }
+
+-- the same for the buffer that these fields are
+pub IsSplice-added : (s b : Store) (output : List ℕ) (p : Piece) (mid bytes : List ℕ) (from : ℕ) → s ≡ b → IsLiving b p
+    → IsBrought s.output_text s.spill_text s.marked_len p mid from → output ≡ mid ++ bytes
+    → IsSplice b (record s { output_text = output }) p (p.to_byte - p.from_byte) bytes from
+IsSplice-added s b output p mid bytes from same lies brought is =
+    subst (λ (v : Store). IsSplice v (record s { output_text = output }) p (p.to_byte - p.from_byte) bytes from) same
+    (IsSplice-extended s (record s { output_text = output }) p mid bytes from (subst (λ (v : Store). IsLiving v p) (sym same) lies) brought is)
 
 -- a part stays when the output grows
 part-longer : (output spill more : List ℕ) (h : Bool) (a b : ℕ) → a ≤ b → b ≤ length (home_bytes output spill h)

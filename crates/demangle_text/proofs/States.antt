@@ -2,6 +2,7 @@
 use Rattle.std.proofs.Common.{◌≡◌, ℕ, ◌+◌, ◌-◌, ◌<◌, ◌≤◌, Bool, true, false, List, [], ◌++◌, length, take, drop, slice_range}
 use Rattle.std.proofs.Common.{leb, All, map, refl, sym, ap, ◌∙◌, subst, arith, Result, Ok, Err, OnErr, append_assoc}
 use Rattle.std.proofs.Common.{set, get_or}
+use Rattle.std.specs.Prelude.{⊤}
 use Rattle.std.proofs.Math.Seq.{map-set_same}
 use Rattle.std.proofs.lemmas.Bool.{leb-true, leb-false}
 use Rattle.std.proofs.lemmas.List.Elements.{All-set, All-get_or, All-weaker}
@@ -11,7 +12,7 @@ use Rattle.demangle_text.specs.declared.shape.Mark.{Mark}
 use Rattle.demangle_text.specs.Shape.{text}
 use Rattle.demangle_text.specs.Pieces.{Store, IsStore, IsPiece, IsAt, IsOutlined, outline_of, shape_of, shape_in, piece_text, home_bytes, Extends}
 use Rattle.demangle_text.specs.State.{IsLiving, shape, saved, scopes, main_bytes, Stands, StandsBefore, frame}
-use Rattle.demangle_text.specs.State.{frame_start, inside, outside, Frame, IsOlder, KeepsAll, IsEdit, Opens}
+use Rattle.demangle_text.specs.State.{frame_start, outermost, inside, outside, Frame, IsOlder, IsAsOld, KeepsAll, IsEdit, Opens}
 use Rattle.demangle_text.specs.State.{Closes, Lives, parts_at}
 use Rattle.demangle_text.specs.Calls.{IsLast, IsInner, text_after}
 use Rattle.demangle_text.proofs.Forms.{text-form_of}
@@ -306,3 +307,8 @@ unchanged s new by_main by_side by_saved by_args by_starts by_marked_len =
 
 -- the lemmas for the calls of a buffer
 pub ruleset states = (KeepsAll-longer, IsStore-longer, text-form_of, unchanged)
+
+-- the definitions that they open
+unfoldable pub internals : ⊤
+unfolding IsLiving shape saved scopes main_bytes Stands frame outermost inside outside frame_start IsOlder IsAsOld
+internals = tt

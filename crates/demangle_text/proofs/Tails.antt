@@ -12,7 +12,7 @@ use Rattle.demangle_text.specs.Calls.{joined, named, CanInsert, IsDeclared, IsIn
 use Rattle.demangle_text.specs.Pieces.{Layout, Flat, Cut, Outline, IsLayout, IsAt, IsOutlined, outline_of, whole_outline, shape_of, place_at, layout_with, layout_opened, layout_end, own_at}
 use Rattle.demangle_text.specs.State.{IsLiving, shape, Lives, IsEditOf, IsJoinOf, main_bytes, frame, frame_start, Frame, Stands}
 use Rattle.demangle_text.specs.declared.shape.Place.{Place}
-use Rattle.demangle_text.specs.declared.shape.Place.TheVariants.{Suffix, End}
+use Rattle.demangle_text.specs.declared.shape.Place.TheVariants.{Suffix}
 use Rattle.demangle_text.proofs.Inserts.{Inserts, length-inserted, shape-inserted, IsOutlined-inserted}
 use Rattle.demangle_text.proofs.Groups.{Groups, group_text, layout_end_within, shape-opened, IsOutlined-opened}
 use Rattle.demangle_text.proofs.Texts.{part-part, front_below}
@@ -213,11 +213,6 @@ pub suffix_within : (t : List ℕ) (l : Layout) → IsLayout t l → place_at Su
 suffix_within t Flat h = omega arith
 suffix_within t (Cut kind None at) h = h
 suffix_within t (Cut kind (Some group) at) h = h.1
-
--- what is put at the end of a text goes after its parts
-pub layout_at_end : (n : ℕ) (l : Layout) → l ≡ layout_with End n l
-layout_at_end n Flat = refl
-layout_at_end n (Cut kind group at) = refl
 
 -- how long the text of a piece is
 pub length-text : (s : Store) (p : Piece) → IsLiving s p → length (piece_text s.output_text s.spill_text p) ≡ p.to_byte - p.from_byte

@@ -4,7 +4,7 @@ ghost use Rattle.std.specs.Prelude.{OnOk, OnErr, slice_range, slice_index, is_so
 ghost use Rattle.demangle_text.specs.Shape.{gap_after};
 
 use crate::moves::KeptPieces;
-use crate::parts::add_text;
+use crate::parts::{add_text, at_end, taken_back};
 use crate::piece_list::PieceList;
 use crate::shape::{Kind, Mark, Piece, Place};
 use growing_text::Text;
@@ -37,19 +37,7 @@ impl Model for Buffer {
     ghost invariant = { IsConsistent };
 }
 
-#[tactic(auto,
-// The lemmas for what is kept.
-using(crate::proofs::States::states), unfolding(
-// Pieces.
-crate::specs::State::IsLiving, crate::specs::State::shape,
-// Where they stand.
-crate::specs::State::main_bytes, crate::specs::State::Stands, crate::specs::State::frame_start,
-// How old they are.
-crate::specs::State::frame, crate::specs::State::outermost, crate::specs::State::IsOlder, crate::specs::State::IsAsOld,
-// Marks.
-crate::specs::State::inside, crate::specs::State::outside,
-// Lists.
-crate::specs::State::saved, crate::specs::State::scopes,),)]
+#[tactic(auto, using(crate::proofs::States::states), unfolding(crate::proofs::States::internals))]
 impl Buffer {
     ghost use Rattle.demangle_text.specs.State.{IsLiving, shape, saved, scopes, frame, inside, outermost, Lives};
     ghost use Rattle.demangle_text.specs.State.{KeepsAll, IsEdit, Opens, Closes, IsAsOld, main_bytes, Stands};
@@ -143,7 +131,15 @@ impl Buffer {
             ≡ take (frame_start (inside mark)) (main_bytes self.old) ++ text (shape self.old piece.old)) }
         ensures stands { OnOk result (Stands piece.new (frame_start (inside mark)) (length (main_bytes self.new))) }
     {
-        self.keep_only(mark.inside_len, piece)?;
+        let at = mark.inside_len;
+        if !piece.spilled && piece.from_byte == at && piece.to_byte == self.output.len() {
+            self.marked_len = mark.outside_len;
+            return Ok(());
+        }
+        self.move_down(at, piece.spilled, piece.from_byte, piece.to_byte)?;
+        piece.from_byte = at;
+        piece.to_byte = self.output.len();
+        piece.spilled = false;
         self.marked_len = mark.outside_len;
         Ok(())
     }
@@ -204,13 +200,7 @@ impl Buffer {
         ensures same { OnErr result (piece.new ≡ piece.old) }
     {
         let from = self.output.len();
-        add_text(
-            &mut self.output,
-            &self.kept.spill,
-            piece.spilled,
-            piece.from_byte,
-            piece.to_byte,
-        )?;
+        add_text(&mut self.output, &self.kept.spill, *piece)?;
         piece.from_byte = from;
         piece.to_byte = self.output.len();
         piece.spilled = false;
@@ -229,8 +219,12 @@ impl Buffer {
         ensures edit_of { IfOk result (λ p. IsEditOf self.old self.new piece p (length bytes.now)) }
         ensures main_err { OnErr result (main_bytes self.new ≡ main_bytes self.old) }
     {
-        let from = self.extend(piece, bytes)?;
-        Ok(piece.extended(bytes.len(), from, self.output.len()))
+        let len = self.output.len();
+        let from = at_end(&mut self.output, &self.kept.spill, self.marked_len, piece)?;
+        let added = self.output.add(bytes);
+        taken_back(&mut self.output, len, added)?;
+        let (at, n) = (piece.text_len(), bytes.len());
+        Ok(piece.with_bytes(Place::End, at, n, from, self.output.len()))
     }
 
     /// Appends two texts to the piece, and makes it plain. The second text is its base name, and both flags are off.
@@ -281,7 +275,7 @@ impl Buffer {
         let from = self.extend_by(piece, between, self.own(piece))?;
         let to = self.output.len();
         let n = between.len() + (piece.own_end - piece.own_start);
-        Ok(piece.extended(n, from, to))
+        Ok(piece.with_bytes(Place::End, piece.text_len(), n, from, to))
     }
 
     /// Inserts the bytes at a place of the piece's text. `Close` needs a group, and `Suffix` a declarator without one.
@@ -389,15 +383,15 @@ impl Buffer {
         ensures join_of { IfOk result (λ p. IsJoinOf self.old self.new first second p (length bytes.now)) }
         ensures main_err { OnErr result (main_bytes self.new ≡ main_bytes self.old) }
     {
-        if self.are_adjacent(first, second) {
-            self.insert_at(second.from_byte, bytes)?;
-            return Ok(Piece::whole_at(first.from_byte, self.output.len()));
-        }
-        if second.is_tail(self.marked_len, self.output.len())
-            && (first.spilled || first.to_byte <= second.from_byte)
-        {
-            self.insert_piece(second.from_byte, first, bytes)?;
-            return Ok(Piece::whole_at(second.from_byte, self.output.len()));
+        if second.is_tail(self.marked_len, self.output.len()) {
+            if first.is_tail(self.marked_len, second.from_byte) {
+                self.insert_at(second.from_byte, bytes)?;
+                return Ok(Piece::whole_at(first.from_byte, self.output.len()));
+            }
+            if first.spilled || first.to_byte <= second.from_byte {
+                self.insert_piece(second.from_byte, first, bytes)?;
+                return Ok(Piece::whole_at(second.from_byte, self.output.len()));
+            }
         }
         let from = self.extend_by(first, bytes, second)?;
         Ok(Piece::whole_at(from, self.output.len()))
@@ -414,7 +408,8 @@ impl Buffer {
         ensures stands { (from to : ℕ) → Stands piece from to → Stands result from (length (main_bytes self.now)) }
     {
         let to = self.output.len();
-        piece.extended(to - piece.to_byte, piece.from_byte, to)
+        let n = to - piece.to_byte;
+        piece.with_bytes(Place::End, piece.text_len(), n, piece.from_byte, to)
     }
 
     /// Returns the output.

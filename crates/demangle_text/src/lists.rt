@@ -6,19 +6,7 @@ use crate::buffer::Buffer;
 use crate::shape::Piece;
 use std::alloc::AllocError;
 
-#[tactic(auto,
-// The lemmas for what is kept.
-using(crate::proofs::States::states), unfolding(
-// Pieces.
-crate::specs::State::IsLiving, crate::specs::State::shape,
-// Where they stand.
-crate::specs::State::main_bytes, crate::specs::State::Stands, crate::specs::State::frame_start,
-// How old they are.
-crate::specs::State::frame, crate::specs::State::outermost, crate::specs::State::IsOlder, crate::specs::State::IsAsOld,
-// Marks.
-crate::specs::State::inside, crate::specs::State::outside,
-// Lists.
-crate::specs::State::saved, crate::specs::State::scopes,),)]
+#[tactic(auto, using(crate::proofs::States::states), unfolding(crate::proofs::States::internals))]
 impl Buffer {
     ghost use Rattle.demangle_text.specs.State.{IsLiving, shape, saved, scopes, KeepsAll, SameFrame, last_args};
     ghost use Rattle.demangle_text.specs.State.{with_arg, main_bytes};
@@ -117,11 +105,7 @@ impl Buffer {
         ensures shape { option_map (shape self.now) result ≡ slice_get (last_args (scopes self.now)) i }
         ensures living { IfSome result (IsLiving self.now) }
     {
-        let count = self.scopes();
-        if count == 0 {
-            return None;
-        }
-        let start = self.starts[count - 1];
+        let start = *self.starts.last()?;
         let args = &self.kept.args;
         if i < args.len() - start {
             args.get(start + i)

@@ -74,17 +74,14 @@ fn evict(
 {
     let first = pieces.count_by(block.low);
     for i in first..pieces.len() {
-        let piece = pieces.piece_at(i);
+        let mut piece = pieces.piece_at(i);
         if is_torn(piece, block) {
             let from = spill.len();
             spill.add(&output[piece.from_byte..piece.to_byte])?;
-            let moved = Piece {
-                from_byte: from,
-                to_byte: spill.len(),
-                spilled: true,
-                ..piece
-            };
-            pieces.set(i, moved);
+            piece.from_byte = from;
+            piece.to_byte = spill.len();
+            piece.spilled = true;
+            pieces.set(i, piece);
         }
     }
     Ok(())

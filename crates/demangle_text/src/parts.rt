@@ -1,30 +1,23 @@
 //! Puts the texts of pieces at the end of the output.
-ghost use Rattle.std.specs.Prelude.{◌≡◌, ◌≤◌, ◌++◌, length, take, slice_range, IfOk, OnOk, OnErr};
-ghost use Rattle.demangle_text.specs.Pieces.{home_bytes, IsBrought};
+ghost use Rattle.std.specs.Prelude.{◌≡◌, ◌≤◌, ◌++◌, length, take, IfOk, OnOk, OnErr};
+ghost use Rattle.demangle_text.specs.Pieces.{home_bytes, piece_text, IsBrought};
 
 use crate::shape::Piece;
 use growing_text::Text;
 use std::alloc::AllocError;
 
-// Appends a copy of a part of the output, or of the spill if `spilled` is true, to the output.
+// Appends a copy of the text of a piece to the output.
 #[inline(always)]
-pub(crate) fn add_text(
-    output: &mut Text,
-    spill: &Text,
-    spilled: bool,
-    from: usize,
-    to: usize,
-) -> Result<(), AllocError>
-    requires ordered { from ≤ to }
-    requires within { to ≤ length (home_bytes output.old spill.now spilled) }
-    ensures ok { OnOk result (output.new
-        ≡ output.old ++ slice_range (home_bytes output.old spill.now spilled) from to) }
+pub(crate) fn add_text(output: &mut Text, spill: &Text, piece: Piece) -> Result<(), AllocError>
+    requires ordered { piece.from_byte ≤ piece.to_byte }
+    requires within { piece.to_byte ≤ length (home_bytes output.old spill.now piece.spilled) }
+    ensures ok { OnOk result (output.new ≡ output.old ++ piece_text output.old spill.now piece) }
     ensures err { OnErr result (output.new ≡ output.old) }
 {
-    if spilled {
-        output.add(spill.part(from, to))
+    if piece.spilled {
+        output.add(spill.part(piece.from_byte, piece.to_byte))
     } else {
-        output.repeat(from, to)
+        output.repeat(piece.from_byte, piece.to_byte)
     }
 }
 
@@ -40,13 +33,10 @@ pub(crate) fn taken_back(
     ensures ok { OnOk result (output.new ≡ output.old) }
     ensures err { OnErr result (output.new ≡ take len output.old) }
 {
-    match added {
-        Ok(()) => Ok(()),
-        Err(error) => {
-            output.truncate(len);
-            Err(error)
-        }
+    if added.is_err() {
+        output.truncate(len);
     }
+    added
 }
 
 // Brings the text of a piece to the end of the output, and returns where it begins there. The text is copied, unless
@@ -68,6 +58,6 @@ pub(crate) fn at_end(
         return Ok(piece.from_byte);
     }
     let from = output.len();
-    add_text(output, spill, piece.spilled, piece.from_byte, piece.to_byte)?;
+    add_text(output, spill, piece)?;
     Ok(from)
 }

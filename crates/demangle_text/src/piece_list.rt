@@ -153,60 +153,18 @@ impl PieceList {
         ensures value { self.new ≡ map (carried block.low block.from dest) self.old }
     {
         let first = self.count_by(block.low);
-        if first == self.count {
-            return;
+        let mut reach = self.reach(first);
+        for i in first..self.count {
+            let mut piece = self.entries[i].piece;
+            if !piece.spilled {
+                if block.low < piece.to_byte {
+                    piece.from_byte = dest + (piece.from_byte - block.from);
+                    piece.to_byte = dest + (piece.to_byte - block.from);
+                }
+                reach = reach.max(piece.to_byte);
+            }
+            self.entries[i] = Entry { piece, reach };
         }
-        let reach = self.reach(first);
-        carry_each(&mut self.entries, first, self.count, reach, block, dest);
-    }
-}
-
-// Moves the pieces from `first` on along with the block, and computes their reaches anew.
-fn carry_each(
-    entries: &mut Vec<Entry>,
-    first: usize,
-    count: usize,
-    reach: usize,
-    block: Block,
-    dest: usize,
-)
-    requires first { first ≤ count }
-    requires reached { AreReached (pieces_of entries.old.items) (reaches_of entries.old.items) count }
-    requires below { AllWithin (EndsBy block.low) (pieces_of entries.old.items) 0 first }
-    requires ends { AllWithin (EndsBy reach) (pieces_of entries.old.items) 0 first }
-    requires ordered { All (λ p. p.from_byte ≤ p.to_byte) (take count (pieces_of entries.old.items)) }
-    requires block { block.from ≤ block.end }
-    requires apart { All (IsApart block.low block.from block.end) (take count (pieces_of entries.old.items)) }
-    requires fits { dest + (block.end - block.from) < 2 ^ 64 }
-    ensures reached { AreReached (pieces_of entries.new.items) (reaches_of entries.new.items) count }
-    ensures value { take count (pieces_of entries.new.items)
-        ≡ map (carried block.low block.from dest) (take count (pieces_of entries.old.items)) }
-{
-    let mut reach = reach;
-    for i in first..count {
-        let piece = carry_alone(entries[i].piece, block, dest);
-        if !piece.spilled {
-            reach = reach.max(piece.to_byte);
-        }
-        entries[i] = Entry { piece, reach };
-    }
-}
-
-// Returns a kept piece after the block was moved to `dest`.
-fn carry_alone(piece: Piece, block: Block, dest: usize) -> Piece
-    requires ordered { piece.from_byte ≤ piece.to_byte }
-    requires block { block.from ≤ block.end }
-    requires apart { IsApart block.low block.from block.end piece }
-    requires fits { dest + (block.end - block.from) < 2 ^ 64 }
-    ensures value { result ≡ carried block.low block.from dest piece }
-{
-    if piece.spilled || piece.to_byte <= block.low {
-        return piece;
-    }
-    Piece {
-        from_byte: dest + (piece.from_byte - block.from),
-        to_byte: dest + (piece.to_byte - block.from),
-        ..piece
     }
 }
 

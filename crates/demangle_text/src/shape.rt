@@ -91,7 +91,7 @@ impl Piece {
         self.to_byte - self.from_byte
     }
 
-    // Returns whether the piece ends the output, which has `end` bytes, and begins at the mark's byte or later.
+    // Returns whether the piece is in the output, begins at the mark's byte or later, and ends at the byte `end`.
     #[inline(always)]
     pub(crate) fn is_tail(self, mark: usize, end: usize) -> bool
         ensures tail { result ≡ true → IsTailAt mark end self }
@@ -106,18 +106,11 @@ impl Piece {
         requires ordered { self.from_byte ≤ self.to_byte }
         ensures value { result ≡ place_at place (outline_of self).layout (self.to_byte - self.from_byte) }
     {
-        let len = self.text_len();
-        if self.kind.is_none() {
-            return match place {
-                Place::Start => 0,
-                Place::Close | Place::Suffix | Place::End => len,
-            };
-        }
         match place {
             Place::Start => 0,
-            Place::End => len,
-            Place::Close => self.after_start.saturating_sub(1),
-            Place::Suffix => self.after_start,
+            Place::Close if self.kind.is_some() => self.after_start.saturating_sub(1),
+            Place::Suffix if self.kind.is_some() => self.after_start,
+            _ => self.text_len(),
         }
     }
 
@@ -134,6 +127,7 @@ impl Piece {
     ) -> Piece
         requires text { from ≤ to }
         requires ordered { self.own_start ≤ self.own_end }
+        requires within { place ≡ Place.End → self.own_end ≤ at }
         requires own_fits { self.own_end + n < 2 ^ 64 }
         requires layout_fits { layout_end (outline_of self).layout + n < 2 ^ 64 }
         ensures stands { IsAt result from to }
@@ -143,15 +137,16 @@ impl Piece {
         ensures templ { result.templ ≡ self.templ }
         ensures ctor { result.ctor ≡ self.ctor }
     {
-        let (own_start, own_end) = match self.kind {
-            Some(Kind::Function) => (0, to - from),
+        let (own_start, own_end) = match (self.kind, place) {
+            (Some(Kind::Function), _) => (0, to - from),
             _ if at <= self.own_start => (self.own_start + n, self.own_end + n),
+            (_, Place::End) => (self.own_start, self.own_end),
             _ if self.own_end <= at => (self.own_start, self.own_end),
             _ => (self.own_start, self.own_end + n),
         };
         let (group_start, after_start) = match place {
-            _ if self.kind.is_none() => (self.group_start, self.after_start),
             Place::End => (self.group_start, self.after_start),
+            _ if self.kind.is_none() => (self.group_start, self.after_start),
             Place::Start if self.grouped => (self.group_start + n, self.after_start + n),
             _ => (self.group_start, self.after_start + n),
         };
@@ -163,36 +158,6 @@ impl Piece {
         longer.own_end = own_end;
         longer.group_start = group_start;
         longer.after_start = after_start;
-        longer
-    }
-
-    // Returns the piece after n bytes were appended to its text. The new text is at these bytes of the output. A base
-    // name of no bytes at the end of the text moves on.
-    #[inline(always)]
-    pub(crate) fn extended(self, n: usize, from: usize, to: usize) -> Piece
-        requires text { from ≤ to }
-        requires long { self.from_byte ≤ self.to_byte }
-        requires ordered { self.own_start ≤ self.own_end }
-        requires within { self.own_end ≤ self.to_byte - self.from_byte }
-        requires own_fits { self.own_end + n < 2 ^ 64 }
-        ensures stands { IsAt result from to }
-        ensures layout { (outline_of result).layout ≡ (outline_of self).layout }
-        ensures own { (outline_of result).own ≡ own_at (outline_of self).layout (to - from)
-            (moved (self.to_byte - self.from_byte) n (outline_of self).own) }
-        ensures templ { result.templ ≡ self.templ }
-        ensures ctor { result.ctor ≡ self.ctor }
-    {
-        let (own_start, own_end) = match self.kind {
-            Some(Kind::Function) => (0, to - from),
-            _ if self.own_start == self.text_len() => (self.own_start + n, self.own_end + n),
-            _ => (self.own_start, self.own_end),
-        };
-        let mut longer = self;
-        longer.from_byte = from;
-        longer.to_byte = to;
-        longer.spilled = false;
-        longer.own_start = own_start;
-        longer.own_end = own_end;
         longer
     }
 

@@ -9,52 +9,17 @@ use crate::piece_list::Block;
 use crate::shape::Piece;
 use std::alloc::AllocError;
 
-#[tactic(auto,
-// The lemmas for what is kept.
-using(crate::proofs::States::states), unfolding(
-// Pieces.
-crate::specs::State::IsLiving, crate::specs::State::shape,
-// Where they stand.
-crate::specs::State::main_bytes, crate::specs::State::Stands, crate::specs::State::frame_start,
-// How old they are.
-crate::specs::State::frame, crate::specs::State::outermost, crate::specs::State::IsOlder, crate::specs::State::IsAsOld,
-// Marks.
-crate::specs::State::inside, crate::specs::State::outside,
-// Lists.
-crate::specs::State::saved, crate::specs::State::scopes,),)]
+#[tactic(auto, using(crate::proofs::States::states), unfolding(crate::proofs::States::internals))]
 impl Buffer {
     ghost use Rattle.demangle_text.specs.State.{IsLiving, KeepsAll, IsEdit};
     ghost use Rattle.demangle_text.specs.Gaps.{IsGap, IsOpen};
     ghost use Rattle.demangle_text.specs.Pieces.{IsSplice, IsAdjacent, IsAt, EndsBy, outline_of, piece_text, home_bytes};
 
-    // Makes the text of a piece all of the output since the innermost mark.
-    #[inline(always)]
-    pub(crate) fn keep_only(&mut self, at: usize, piece: &mut Piece) -> Result<(), AllocError>
-        requires mark { self.old.marked_len ≡ at }
-        requires living { IsLiving self.old piece.old }
-        ensures edit { OnOk result (IsEdit self.old self.new) }
-        ensures output { OnOk result (self.new.output_text ≡ take at self.old.output_text
-            ++ piece_text self.old.output_text self.old.spill_text piece.old) }
-        ensures stands { OnOk result (IsAt piece.new at (length self.new.output_text)) }
-        ensures outline { OnOk result (outline_of piece.new ≡ outline_of piece.old) }
-        ensures within { at ≤ length self.old.output_text }
-    {
-        let len = self.output.len();
-        if !piece.spilled && piece.from_byte == at && piece.to_byte == len {
-            return Ok(());
-        }
-        self.move_down(at, piece.spilled, piece.from_byte, piece.to_byte)?;
-        piece.from_byte = at;
-        piece.to_byte = self.output.len();
-        piece.spilled = false;
-        Ok(())
-    }
-
     // Makes a part of the output or of the spill all of the output since the innermost mark. A part in the spill, or
     // before the mark, is copied to the end first. Then the part moves down to the mark, and all else since the mark
     // goes.
     #[cold]
-    fn move_down(
+    pub(crate) fn move_down(
         &mut self,
         at: usize,
         spilled: bool,
@@ -72,7 +37,9 @@ impl Buffer {
         let mut to = to;
         if spilled || from < at {
             let copied = self.output.len();
-            add_text(&mut self.output, &self.kept.spill, spilled, from, to)?;
+            let mut part = Piece::whole_at(from, to);
+            part.spilled = spilled;
+            add_text(&mut self.output, &self.kept.spill, part)?;
             from = copied;
             to = self.output.len();
             if from == at {
@@ -155,31 +122,9 @@ impl Buffer {
         }
         let from = self.output.len();
         let rest = piece.text_len() - at;
-        add_text(
-            &mut self.output,
-            &self.kept.spill,
-            piece.spilled,
-            piece.from_byte,
-            piece.to_byte,
-        )?;
+        add_text(&mut self.output, &self.kept.spill, piece)?;
         let opened = self.output.open_room(self.output.len() - rest, n);
         taken_back(&mut self.output, from, opened)?;
-        Ok(from)
-    }
-
-    // Brings the text of a piece to the end of the output and appends the bytes. Returns where the text begins.
-    #[inline(always)]
-    pub(crate) fn extend(&mut self, piece: Piece, bytes: &[u8]) -> Result<usize, AllocError>
-        requires living { IsLiving self.old piece }
-        ensures splice { IfOk result (IsSplice self.old self.new piece (piece.to_byte - piece.from_byte) bytes.now) }
-        ensures edit { OnOk result (IsEdit self.old self.new) }
-        ensures err { OnErr result (KeepsAll self.old self.new) }
-        ensures main_err { OnErr result (self.new.output_text ≡ self.old.output_text) }
-    {
-        let len = self.output.len();
-        let from = at_end(&mut self.output, &self.kept.spill, self.marked_len, piece)?;
-        let added = self.output.add(bytes);
-        taken_back(&mut self.output, len, added)?;
         Ok(from)
     }
 
@@ -204,13 +149,7 @@ impl Buffer {
         let from = at_end(&mut self.output, &self.kept.spill, self.marked_len, piece)?;
         let added = self.output.add(bytes);
         taken_back(&mut self.output, len, added)?;
-        let added = add_text(
-            &mut self.output,
-            &self.kept.spill,
-            other.spilled,
-            other.from_byte,
-            other.to_byte,
-        );
+        let added = add_text(&mut self.output, &self.kept.spill, other);
         taken_back(&mut self.output, len, added)?;
         Ok(from)
     }
@@ -246,19 +185,5 @@ impl Buffer {
         };
         self.output.put(middle, bytes);
         Ok(())
-    }
-
-    // Returns whether the second piece begins where the first ends, the second ends the output, and the first begins
-    // at the innermost mark or later.
-    #[inline(always)]
-    pub(crate) fn are_adjacent(&self, first: Piece, second: Piece) -> bool
-        ensures adjacent { result ≡ true → IsAdjacent self.now first second }
-        ensures other { IsAdjacent self.now first second → result ≡ true }
-    {
-        !first.spilled
-            && self.marked_len <= first.from_byte
-            && first.to_byte == second.from_byte
-            && !second.spilled
-            && second.to_byte == self.output.len()
     }
 }

@@ -9,21 +9,12 @@ pub(crate) fn copy_text(room: &mut [u8], text: &[u8])
     requires same { length room.old ≡ length text.now }
     ensures value { room.new ≡ text.now }
 {
-    let n = text.len();
-    if n < 8 {
-        if n < 4 {
-            by_one(room, text);
-        } else {
-            by_lanes::<4>(room, text);
-        }
-    } else if n <= 16 {
-        by_lanes::<8>(room, text);
-    } else if n <= 32 {
-        by_lanes::<16>(room, text);
-    } else if n <= 64 {
-        by_lanes::<32>(room, text);
-    } else {
-        room.copy_from_slice(text);
+    match text.len() {
+        0..=7 => copy_short(room, text),
+        8..=16 => by_lanes::<8>(room, text),
+        17..=32 => by_lanes::<16>(room, text),
+        33..=64 => by_lanes::<32>(room, text),
+        _ => room.copy_from_slice(text),
     }
 }
 
@@ -42,13 +33,17 @@ fn by_lanes<const N: usize>(room: &mut [u8], text: &[u8])
     tail.copy_to_slice(&mut room[last..]);
 }
 
+// Copies a text of up to 7 bytes.
 #[inline(always)]
-fn by_one(room: &mut [u8], text: &[u8])
+fn copy_short(room: &mut [u8], text: &[u8])
     requires same { length room.old ≡ length text.now }
-    requires most { length text.now < 4 }
+    requires most { length text.now < 8 }
     ensures value { room.new ≡ text.now }
 {
     let n = text.len();
+    if 4 <= n {
+        return by_lanes::<4>(room, text);
+    }
     if 0 < n {
         room[0] = text[0];
     }

@@ -1,39 +1,99 @@
--- The text with the bytes after it stands at the end, and its outline is that of the shape with the bytes.
-use Rattle.std.proofs.Common.{◌≡◌, ◌-◌, ℕ, length, refl, ap, ◌∙◌, subst, arith}
+-- The bytes go after the text, which ends the output then, and the outline is that of the shape with the bytes.
+use Rattle.demangle_text.proofs.States.{states, internals, on_err_from}
+use Rattle.std.proofs.lemmas.Grind.{common_steps}
+use Rattle.std.proofs.Common.{◌≡◌, ◌-◌, ◌++◌, ℕ, OnOk, OnErr, length, refl, sym, ap, ◌∙◌, subst, arith}
 use Rattle.demangle_text.specs.declared.shape.Place.TheVariants.{End}
-use Rattle.demangle_text.specs.Pieces.{Store, IsAt, outline_of, own_at}
+use Rattle.demangle_text.specs.Pieces.{IsAt, outline_of, own_at}
 use Rattle.demangle_text.specs.Shape.{moved}
-use Rattle.demangle_text.proofs.Tails.{Lives-inserted, IsEditOf-spliced, own-fits, layout_at_end}
+use Rattle.demangle_text.specs.View.{store_of}
+use Rattle.demangle_text.proofs.Tails.{Lives-inserted, IsEditOf-spliced, own-fits, layout-fits}
+use Rattle.demangle_text.proofs.Brought.{KeepsAll-left, IsStore-extended, IsEdit-extended, IsSplice-added}
 use Rattle.demangle_text.proofs.buffer.Buffer.append.Goals as goal
 
-pub extended-requires-clause-own_fits : goal.extended-requires-clause-own_fits
-extended-requires-clause-own_fits c =
+pub returns-in_err-taken_back-clause-err : goal.returns-in_err-taken_back-clause-err
+returns-in_err-taken_back-clause-err c =
+    let s = store_of c.self.inside in
+    let mid = c.at_end.new.output in
+    let done = c.add-added.new.self in
+    let failed : done ≡ mid = subst (λ r. OnErr r (done ≡ mid)) (sym c.in_err-taken_back.ensures.same) c.add-added.ensures.err in
+    on_err_from c.from_residual-in_err-taken_back.result (rw (← c.self.view_is)
+    (KeepsAll-left s mid done c.taken_back.new.output c.len-len.result c.len-len.ensures.value c.in_ok-from.ensures.brought.longer failed c.in_err-taken_back.ensures.err))
+
+pub invariant_of-self-2 : goal.invariant_of-self-2
+invariant_of-self-2 c =
+    let mid = c.at_end.new.output in
+    let more = c.args.bytes.now in
+    let done = c.add-added.new.self in
+    let is = c.in_ok-taken_back.ensures.ok ∙ subst (λ r. OnOk r (done ≡ mid ++ more)) (sym c.in_ok-taken_back.ensures.same) c.add-added.ensures.ok in
+    IsStore-extended (store_of c.self.inside) mid more _ c.self.invariant c.in_ok-from.ensures.brought.longer is
+
+pub returns-clause-edit : goal.returns-clause-edit
+returns-clause-edit c =
+    let mid = c.at_end.new.output in
+    let more = c.args.bytes.now in
+    let done = c.add-added.new.self in
+    let is = c.in_ok-taken_back.ensures.ok ∙ subst (λ r. OnOk r (done ≡ mid ++ more)) (sym c.in_ok-taken_back.ensures.same) c.add-added.ensures.ok in
+    rw (← c.self.view_is) (IsEdit-extended (store_of c.self.inside) mid more _ c.self.invariant c.in_ok-from.ensures.brought.longer is)
+
+pub with_bytes-requires-clause-own_fits : goal.with_bytes-requires-clause-own_fits
+with_bytes-requires-clause-own_fits c =
+    let b = c.args.self.now in
+    let s = store_of c.self.inside in
     let p = c.args.piece in
-    let fits = own-fits c.args.self.now c.extend.new.self p (p.to_byte - p.from_byte) c.args.bytes.now c.in_ok-from.from c.requires.living c.in_ok-from.ensures.splice in
-    omega (arith, fits, c.len.ensures.value, ap (λ (b : Store). length b.output_text) c.self.view_is)
+    let done = c.add-added.new.self in
+    let added = subst (λ r. OnOk r (done ≡ c.at_end.new.output ++ c.args.bytes.now)) (sym c.in_ok-taken_back.ensures.same) c.add-added.ensures.ok in
+    let splice = IsSplice-added s b c.taken_back.new.output p _ _ c.in_ok-from.from c.self.view_is c.requires.living c.in_ok-from.ensures.brought (c.in_ok-taken_back.ensures.ok ∙ added) in
+    let fits = own-fits b _ p (p.to_byte - p.from_byte) c.args.bytes.now c.in_ok-from.from c.requires.living splice in
+    omega (arith, fits, c.len.ensures.value, c.len.type_inv)
+
+pub with_bytes-requires-clause-layout_fits : goal.with_bytes-requires-clause-layout_fits
+with_bytes-requires-clause-layout_fits c =
+    let b = c.args.self.now in
+    let s = store_of c.self.inside in
+    let p = c.args.piece in
+    let done = c.add-added.new.self in
+    let added = subst (λ r. OnOk r (done ≡ c.at_end.new.output ++ c.args.bytes.now)) (sym c.in_ok-taken_back.ensures.same) c.add-added.ensures.ok in
+    let splice = IsSplice-added s b c.taken_back.new.output p _ _ c.in_ok-from.from c.self.view_is c.requires.living c.in_ok-from.ensures.brought (c.in_ok-taken_back.ensures.ok ∙ added) in
+    let fits = layout-fits b _ p (p.to_byte - p.from_byte) c.args.bytes.now c.in_ok-from.from c.requires.living splice in
+    omega (arith, fits, c.len.ensures.value, c.len.type_inv)
 
 pub returns-clause-shape : goal.returns-clause-shape
 returns-clause-shape c =
     let b = c.args.self.now in
-    let n = c.extend.new.self in
+    let s = store_of c.self.inside in
     let p = c.args.piece in
     let from = c.in_ok-from.from in
     let bytes = c.args.bytes.now in
-    let m = c.extended.ensures in
-    let k : c.len.result ≡ length n.output_text = c.len.ensures.value ∙ ap (λ (s : Store). length s.output_text) c.self.view_is in
-    let splice = c.in_ok-from.ensures.splice in
-    Lives-inserted b n p (p.to_byte - p.from_byte) bytes from c.requires.living splice c.extended.result (subst (IsAt c.extended.result from) k m.stands)
-    End tt refl (m.layout ∙ layout_at_end (length bytes) (outline_of p).layout)
-    (m.own ∙ ap (λ (j : ℕ). own_at (outline_of p).layout (j - from) (moved (p.to_byte - p.from_byte) (length bytes) (outline_of p).own)) k) m.templ m.ctor
+    let m = c.with_bytes.ensures in
+    let done = c.add-added.new.self in
+    let added = subst (λ r. OnOk r (done ≡ c.at_end.new.output ++ bytes)) (sym c.in_ok-taken_back.ensures.same) c.add-added.ensures.ok in
+    let splice = IsSplice-added s b c.taken_back.new.output p _ _ from c.self.view_is c.requires.living c.in_ok-from.ensures.brought (c.in_ok-taken_back.ensures.ok ∙ added) in
+    let k = c.len.ensures.value in
+    Lives-inserted b _ p (p.to_byte - p.from_byte) bytes from c.requires.living splice c.with_bytes.result (subst (IsAt c.with_bytes.result from) k m.stands)
+    End tt refl m.layout
+    (m.own ∙ ap (λ (j : ℕ). own_at (outline_of p).layout (c.len.result - from) (moved j (length bytes) (outline_of p).own)) c.text_len-at.ensures.value
+    ∙ ap (λ (j : ℕ). own_at (outline_of p).layout (j - from) (moved (p.to_byte - p.from_byte) (length bytes) (outline_of p).own)) k) m.templ m.ctor
 
 pub returns-clause-edit_of : goal.returns-clause-edit_of
 returns-clause-edit_of c =
     let b = c.args.self.now in
-    let n = c.extend.new.self in
+    let s = store_of c.self.inside in
     let p = c.args.piece in
-    let q = c.extended.result in
+    let q = c.with_bytes.result in
     let from = c.in_ok-from.from in
-    let at = p.to_byte - p.from_byte in
-    let k : c.len.result ≡ length n.output_text = c.len.ensures.value ∙ ap (λ (s : Store). length s.output_text) c.self.view_is in
-    let splice = c.in_ok-from.ensures.splice in
-    IsEditOf-spliced b n p q at from c.args.bytes.now splice (subst (IsAt q from) k c.extended.ensures.stands)
+    let done = c.add-added.new.self in
+    let added = subst (λ r. OnOk r (done ≡ c.at_end.new.output ++ c.args.bytes.now)) (sym c.in_ok-taken_back.ensures.same) c.add-added.ensures.ok in
+    let splice = IsSplice-added s b c.taken_back.new.output p _ _ from c.self.view_is c.requires.living c.in_ok-from.ensures.brought (c.in_ok-taken_back.ensures.ok ∙ added) in
+    IsEditOf-spliced b _ p q (p.to_byte - p.from_byte) from c.args.bytes.now splice (subst (IsAt q from) c.len.ensures.value c.with_bytes.ensures.stands)
+
+pub at_end-requires-clause-ordered : goal.at_end-requires-clause-ordered
+unfolding internals
+at_end-requires-clause-ordered c = grind (arith, states)
+
+pub taken_back-requires : goal.taken_back-requires
+unfolding internals
+taken_back-requires c = grind (arith, common_steps)
+
+pub invariant_of-self-in_err-taken_back : goal.invariant_of-self-in_err-taken_back
+unfolding internals
+invariant_of-self-in_err-taken_back c = grind (arith, common_steps)

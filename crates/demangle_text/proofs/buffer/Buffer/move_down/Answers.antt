@@ -2,7 +2,7 @@
 use Rattle.demangle_text.specs.State.{IsAsOld, IsLiving, IsOlder, Stands, frame, frame_start, inside, main_bytes, outermost, outside, saved, scopes, shape}
 use Rattle.std.proofs.Common.{arith}
 use Rattle.std.proofs.lemmas.Grind.{common_steps}
-use Rattle.std.proofs.Common.{◌≡◌, ◌≤◌, ℕ, Bool, List, length, slice_range, sym, ap, subst, ◌∙◌}
+use Rattle.std.proofs.Common.{◌≡◌, ◌≤◌, ◌++◌, ℕ, Bool, List, length, slice_range, sym, ap, subst, ◌∙◌}
 use Rattle.demangle_text.specs.Pieces.{Store, home_bytes}
 use Rattle.demangle_text.specs.View.{store_of}
 use Rattle.demangle_text.proofs.Laws.{IsEdit-keeps, IsEdit-trans}
@@ -45,7 +45,8 @@ block c =
     let within = subst (λ (b : Store). c.args.to ≤ length (home_bytes b.output_text b.spill_text c.args.spilled)) (sym c.self.view_is) c.requires.within in
     elim c.if-spilled.branch [
       | then-spilled+in_ok-add_text+else-from-at-2 w ↦ rw (w.self-inside-is, w.from-is, w.to-is) (
-          IsBlock-copied s (part s c.args.spilled c.args.from c.args.to) w.add_text.new.output c.args.at w.len-copied.result w.len-to.result c.self.invariant mark w.in_ok-add_text.ensures.ok
+          IsBlock-copied s (part s c.args.spilled c.args.from c.args.to) w.add_text.new.output c.args.at w.len-copied.result w.len-to.result c.self.invariant mark
+          (w.in_ok-add_text.ensures.ok ∙ (λ j. s.output_text ++ slice_range (home_bytes s.output_text s.spill_text c.args.spilled) (w.whole_at-part.ensures.stands.begins j) (w.whole_at-part.ensures.stands.ends j)))
           w.len-copied.ensures.value w.len-to.ensures.value)
       | else-spilled+else-from-at w ↦ rw (w.self-inside-is, w.from-is, w.to-is) (
           IsBlock-here s c.args.spilled c.args.at c.args.from c.args.to c.self.invariant mark w.if-spilled.false c.requires.ordered within)

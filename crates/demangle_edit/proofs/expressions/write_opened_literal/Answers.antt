@@ -1,0 +1,21 @@
+use Rattle.std.proofs.Common.{rules, ◌≡◌, subst}
+use Rattle.demangle_text.specs.Shape.{text}
+use Rattle.demangle_text.specs.State.{shape}
+use Rattle.demangle_text.proofs.Laws.{IsEdit-trans, StaysInPlace-edit, JoinsInPlace-join, JoinsInPlace-named, JoinsInPlace-trans}
+use Rattle.demangle_edit.specs.declared.expressions.LiteralForm.{LiteralForm}
+use Rattle.demangle_edit.specs.declared.expressions.LiteralForm.TheVariants.{Cast}
+use Rattle.demangle_edit.specs.Calls.{IsPutAfter}
+use Rattle.demangle_edit.specs.Expressions as spec
+use Rattle.demangle_edit.proofs.expressions.write_opened_literal.Goals as goal
+
+-- the parenthesis and the type after it stay where they stand
+pub returns-in_ok-append_value-in-Cast-clause-put : goal.returns-in_ok-append_value-in-Cast-clause-put
+returns-in_ok-append_value-in-Cast-clause-put c =
+    let old = c.args.buf.now in
+    let joined = JoinsInPlace-join _ _ _ _ _ _ c.in_ok-opened-in-Cast.ensures.join_of in
+    let closed = JoinsInPlace-trans _ _ _ _ _ _ _ c.in_ok-opened-in-Cast.ensures.edit joined (StaysInPlace-edit _ _ _ _ _ c.in_ok-closed-in-Cast.ensures.edit_of) in
+    let cast = JoinsInPlace-named _ _ _ _ _ c.whole-cast.result closed c.whole-cast.ensures.stands in
+    let edit = IsEdit-trans _ _ _ c.in_ok-opened-in-Cast.ensures.edit c.in_ok-closed-in-Cast.ensures.edit in
+    let form : Cast ≡ spec.literal_form (text (shape old c.args.ty)) (spec.is_minus c.args.value.now) = search rules in
+    subst (λ (f : LiteralForm). IsPutAfter f old c.append_value.new.buf c.args.paren c.args.ty c.in_ok-append_value-in-Cast.field-0) form
+    (JoinsInPlace-trans _ _ _ _ _ _ _ edit cast c.in_ok-append_value-in-Cast.ensures.in_place)

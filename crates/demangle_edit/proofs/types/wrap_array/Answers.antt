@@ -1,0 +1,30 @@
+-- A dimension goes in front of the other dimensions of an array without a group.
+use Rattle.std.proofs.Common.{rules, ◌≡◌, ◌+◌, ◌-◌, false, min, Some, sym, ◌∙◌, arith, is_some}
+use Rattle.demangle_text.specs.declared.shape.Kind.TheVariants.{Array}
+use Rattle.demangle_text.specs.Calls.{after_of, kind_of, group_of}
+use Rattle.demangle_text.specs.State.{shape}
+use Rattle.demangle_edit.proofs.Arrays.{outer_shape, outer_found}
+use Rattle.demangle_text.proofs.Laws.{StaysInPlace-of, StaysInPlace-named}
+use Rattle.demangle_edit.proofs.types.wrap_array.Goals as goal
+
+pub returns-in_ok-longer-in-Some-Array-clause-shape : goal.returns-in_ok-longer-in-Some-Array-clause-shape
+returns-in_ok-longer-in-Some-Array-clause-shape c =
+    let elem = shape c.args.buf.now c.args.elem in
+    let at = c.unwrap-at.result in
+    let kind : kind_of elem.form ≡ Some Array = search rules in
+    let group : is_some (group_of elem.form) ≡ false = search rules in
+    let at_is : Some at ≡ after_of elem.form = sym c.unwrap-at.ensures ∙ c.after_at.ensures.value in
+    let past_is : at + c.min.result ≡ at + min (c.len-len-in-Some-Array.result - at) 1 = omega (arith, c.min.ensures) in
+    let is = outer_shape _ _ _ _ _ c.args.dimension _ _ _ _ kind group at_is c.len-len-in-Some-Array.ensures.value past_is
+    c.plain-flat.ensures.shape.shape_is c.declare-cut.ensures.shape.shape_is c.in_ok-longer-in-Some-Array.ensures.shape.shape_is c.plain-whole.ensures.shape.shape_is
+    c.declare-in-Some-Array.ensures.shape.shape_is in
+    (c.declare-in-Some-Array.ensures.shape.living, outer_found elem _ c.args.dimension kind is)
+
+-- the piece stays where it stands
+pub returns-in_ok-longer-in-Some-Array-clause-in_place : goal.returns-in_ok-longer-in-Some-Array-clause-in_place
+returns-in_ok-longer-in-Some-Array-clause-in_place c =
+    let at_longer = StaysInPlace-of _ _ c.args.elem c.plain-flat.result _ c.plain-flat.ensures.stands
+    (StaysInPlace-of _ _ c.plain-flat.result c.declare-cut.result _ c.declare-cut.ensures.stands
+    c.in_ok-longer-in-Some-Array.ensures.in_place) in
+    let at_whole = StaysInPlace-named _ _ _ _ c.plain-whole.result at_longer c.plain-whole.ensures.stands in
+    StaysInPlace-named _ _ _ _ c.declare-in-Some-Array.result at_whole c.declare-in-Some-Array.ensures.stands
