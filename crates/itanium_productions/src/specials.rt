@@ -7,24 +7,21 @@ ghost use Rattle.itanium_reader.specs.Outcome.{state, Gives, HasRoom, TakesSome,
 use crate::encodings::read_encoding;
 use crate::names::framed_name;
 use crate::types::{framed_type, read_type};
-use itanium_reader::{Reader, Stop};
+use demangle_edit::append_number;
+use itanium_reader::{ReadResult, Reader, Stop};
 use itanium_syntax::context::Context;
 use itanium_syntax::encodings::EncodingEnd;
+use itanium_syntax::numerals::{Radix, index_of};
 use itanium_syntax::offsets::past_base_offset;
 use itanium_syntax::specials::{SpecialCase, special_case, special_close, special_text};
 
 /// Reads `TV <type>`, `TT <type>`, `TI <type>`, `TS <type>` or `TF <type>`.
 #[tactic(auto, using(itanium_reader::proofs::Rules::words))]
 #[cycle(reader)]
-pub(crate) fn read_type_special(
-    reader: &mut Reader,
-    depth: usize,
-    context: Context,
-) -> Result<(), Stop>
+pub(crate) fn read_type_special(reader: &mut Reader, depth: usize, context: Context) -> ReadResult
     requires room { HasRoom 0 (state reader.old) }
     requires some { 0 < length reader.old.rest.now }
-    ensures reads { Gives result reader.new
-        (spec.parse_worded (spec.parse_type depth context) (state reader.old)) }
+    ensures reads { Gives result reader.new (spec.parse_worded (spec.parse_type depth context) (state reader.old)) }
     ensures run { OnOk result (IsRun reader.old.buffer.value reader.new.buffer.value) }
     ensures bounds { TakesSome 0 result (state reader.old) (state reader.new) }
     ensures saved { SavedBounds 1 result (state reader.old) (state reader.new) }
@@ -41,15 +38,10 @@ pub(crate) fn read_type_special(
 /// Reads `TH <name>`, `TW <name>` or `GV <name>`.
 #[tactic(auto, using(itanium_reader::proofs::Rules::words))]
 #[cycle(reader)]
-pub(crate) fn read_name_special(
-    reader: &mut Reader,
-    depth: usize,
-    context: Context,
-) -> Result<(), Stop>
+pub(crate) fn read_name_special(reader: &mut Reader, depth: usize, context: Context) -> ReadResult
     requires room { HasRoom 0 (state reader.old) }
     requires some { 0 < length reader.old.rest.now }
-    ensures reads { Gives result reader.new
-        (spec.parse_worded (spec.parse_name depth context) (state reader.old)) }
+    ensures reads { Gives result reader.new (spec.parse_worded (spec.parse_name depth context) (state reader.old)) }
     ensures run { OnOk result (IsRun reader.old.buffer.value reader.new.buffer.value) }
     ensures bounds { TakesSome 0 result (state reader.old) (state reader.new) }
     ensures saved { SavedBounds 1 result (state reader.old) (state reader.new) }
@@ -64,34 +56,33 @@ pub(crate) fn read_name_special(
 }
 
 /// Reads `GR <name> [<seq-id>] _`, a reference temporary.
-#[tactic(auto, using(itanium_reader::proofs::Rules::buffers))]
 #[cycle(reader)]
-pub(crate) fn read_temporary(
-    reader: &mut Reader,
-    depth: usize,
-    context: Context,
-) -> Result<(), Stop>
+pub(crate) fn read_temporary(reader: &mut Reader, depth: usize, context: Context) -> ReadResult
     requires room { HasRoom 0 (state reader.old) }
     requires some { 0 < length reader.old.rest.now }
-    ensures reads { Gives result reader.new
-        (spec.parse_temporary (spec.parse_name depth context) (state reader.old)) }
+    ensures reads { Gives result reader.new (spec.parse_temporary (spec.parse_name depth context) (state reader.old)) }
     ensures run { OnOk result (IsRun reader.old.buffer.value reader.new.buffer.value) }
     ensures bounds { TakesSome 0 result (state reader.old) (state reader.new) }
     ensures saved { SavedBounds 1 result (state reader.old) (state reader.new) }
 {
     reader.skip(2);
     framed_name(reader, depth, context, false)?;
-    reader.end_temporary()
+    let Some((number, rest)) = index_of(Radix::Base36, reader.rest) else {
+        return Err(Stop::Unread);
+    };
+    reader.rest = rest;
+    let mark = reader.buffer.open();
+    let begun = reader.buffer.push(b"reference temporary #")?;
+    let numbered = append_number(&mut reader.buffer, begun, number as u64)?;
+    let whole = reader.buffer.join(numbered, b" for ", reader.found)?;
+    reader.found = reader.buffer.close(mark, whole)?;
+    Ok(())
 }
 
 /// Reads `TC <type> <offset number> _ <base type>`, a construction vtable.
 #[tactic(auto, using(itanium_reader::proofs::Rules::words))]
 #[cycle(reader)]
-pub(crate) fn read_construction(
-    reader: &mut Reader,
-    depth: usize,
-    context: Context,
-) -> Result<(), Stop>
+pub(crate) fn read_construction(reader: &mut Reader, depth: usize, context: Context) -> ReadResult
     requires room { HasRoom 0 (state reader.old) }
     requires some { 0 < length reader.old.rest.now }
     ensures reads { Gives result reader.new
@@ -123,7 +114,7 @@ pub(crate) fn read_thunk(
     depth: usize,
     context: Context,
     end: EncodingEnd,
-) -> Result<(), Stop>
+) -> ReadResult
     requires room { HasRoom 1 (state reader.old) }
     requires some { 0 < length reader.old.rest.now }
     ensures reads { Gives result reader.new (spec.parse_thunk depth end context (state reader.old)) }
@@ -152,7 +143,7 @@ pub fn read_special_name(
     depth: usize,
     context: Context,
     end: EncodingEnd,
-) -> Result<(), Stop>
+) -> ReadResult
     requires room { HasRoom 1 (state reader.old) }
     ensures reads { Gives result reader.new (spec.parse_special depth end context (state reader.old)) }
     ensures run { OnOk result (IsRun reader.old.buffer.value reader.new.buffer.value) }

@@ -9,9 +9,9 @@ ghost use Rattle.itanium_reader.specs.Outcome.{state, Gives, HasRoom, TakesSome,
 
 use crate::args::read_template_args;
 use crate::names::{framed_name, read_name};
-use demangle_edit::{Pointer, Quals, append_piece, open_function};
+use demangle_edit::{Pointer, Quals, append_piece, expand, open_function, wrap_array, wrap_cv};
 use demangle_text::Piece;
-use itanium_reader::{Reader, Stop};
+use itanium_reader::{ReadResult, Reader, Stop};
 use itanium_syntax::args::{AttachedCase, attached_case};
 use itanium_syntax::context::Context;
 use itanium_syntax::encodings::EncodingEnd;
@@ -26,11 +26,7 @@ use itanium_syntax::types::{
 #[tactic(auto, using(itanium_reader::proofs::Rules::fronts))]
 #[cycle(reader)]
 #[inline(always)]
-pub(crate) fn read_type_attached(
-    reader: &mut Reader,
-    depth: usize,
-    context: Context,
-) -> Result<(), Stop>
+pub(crate) fn read_type_attached(reader: &mut Reader, depth: usize, context: Context) -> ReadResult
     requires room { HasRoom 1 (state reader.old) }
     requires living { IsLiving reader.old.buffer.value reader.old.found }
     ensures reads { Gives result reader.new (spec.type_attached_as (attached_case reader.old.rest.now)
@@ -52,7 +48,7 @@ pub(crate) fn read_type_attached(
 /// Reads `<type>`. At most `depth` counted productions may nest, this one included.
 #[tactic(auto, using(itanium_reader::proofs::Rules::types))]
 #[cycle(reader)]
-pub(crate) fn read_type(reader: &mut Reader, depth: usize, context: Context) -> Result<(), Stop>
+pub(crate) fn read_type(reader: &mut Reader, depth: usize, context: Context) -> ReadResult
     requires room { HasRoom 2 (state reader.old) }
     ensures reads { Gives result reader.new (spec.parse_type depth context (state reader.old)) }
     ensures run { OnOk result (IsRun reader.old.buffer.value reader.new.buffer.value) }
@@ -100,13 +96,9 @@ pub(crate) fn read_type(reader: &mut Reader, depth: usize, context: Context) -> 
 }
 
 /// Reads `Dp <type>`. The `...` is printed unless `context.dots_hidden` is set.
-#[tactic(auto, using(itanium_reader::proofs::Rules::buffers))]
 #[cycle(reader)]
-pub(crate) fn read_expansion(
-    reader: &mut Reader,
-    depth: usize,
-    context: Context,
-) -> Result<(), Stop>
+#[inline(never)]
+pub(crate) fn read_expansion(reader: &mut Reader, depth: usize, context: Context) -> ReadResult
     requires room { HasRoom 1 (state reader.old) }
     requires some { 0 < length reader.old.rest.now }
     ensures reads { Gives result reader.new
@@ -117,18 +109,17 @@ pub(crate) fn read_expansion(
 {
     reader.skip(2);
     read_type(reader, depth, context)?;
-    reader.save_expansion(context.dots_hidden)?;
+    if !context.dots_hidden {
+        reader.found = expand(&mut reader.buffer, reader.found)?;
+    }
+    reader.save_found()?;
     Ok(())
 }
 
 /// Reads `<array-type> ::= A [<number>] _ <type>`. Returns `Stop::Unread` also for an array of functions.
-#[tactic(auto, using(itanium_reader::proofs::Rules::buffers))]
 #[cycle(reader)]
-pub(crate) fn read_array_type(
-    reader: &mut Reader,
-    depth: usize,
-    context: Context,
-) -> Result<(), Stop>
+#[inline(never)]
+pub(crate) fn read_array_type(reader: &mut Reader, depth: usize, context: Context) -> ReadResult
     requires room { HasRoom 1 (state reader.old) }
     requires some { 0 < length reader.old.rest.now }
     ensures reads { Gives result reader.new (spec.parse_array (spec.parse_type depth context) (state reader.old)) }
@@ -142,18 +133,22 @@ pub(crate) fn read_array_type(
     };
     reader.rest = rest;
     read_type(reader, depth, context)?;
-    reader.save_array(dimension)
+    let Some(array) = wrap_array(&mut reader.buffer, reader.found, dimension)? else {
+        return Err(Stop::Unread);
+    };
+    reader.found = array;
+    reader.save_found()?;
+    Ok(())
 }
 
 /// Reads `P <type>`, `R <type>` or `O <type>`, and saves the pointer or reference as a component.
-#[tactic(auto, using(itanium_reader::proofs::Rules::buffers))]
 #[cycle(reader)]
 pub(crate) fn read_pointer(
     reader: &mut Reader,
     depth: usize,
     context: Context,
     kind: Pointer,
-) -> Result<(), Stop>
+) -> ReadResult
     requires room { HasRoom 1 (state reader.old) }
     requires some { 0 < length reader.old.rest.now }
     ensures reads { Gives result reader.new (spec.parse_pointer
@@ -173,11 +168,7 @@ pub(crate) fn read_pointer(
 #[tactic(auto, using(itanium_reader::proofs::Rules::words))]
 #[cycle(reader)]
 #[inline(never)]
-pub(crate) fn read_elaborated(
-    reader: &mut Reader,
-    depth: usize,
-    context: Context,
-) -> Result<(), Stop>
+pub(crate) fn read_elaborated(reader: &mut Reader, depth: usize, context: Context) -> ReadResult
     requires room { HasRoom 1 (state reader.old) }
     ensures reads { Gives result reader.new (spec.parse_elaborated (spec.parse_name depth context) (state reader.old)) }
     ensures run { OnOk result (IsRun reader.old.buffer.value reader.new.buffer.value) }
@@ -194,10 +185,9 @@ pub(crate) fn read_elaborated(
 
 /// Reads a `<type>` in its own frame. Pieces that lived before keep their shapes. The output afterwards is the old
 /// output followed by the type's text.
-#[tactic(auto, using(itanium_reader::proofs::Rules::buffers))]
 #[cycle(reader)]
 #[inline(always)]
-pub(crate) fn framed_type(reader: &mut Reader, depth: usize, context: Context) -> Result<(), Stop>
+pub(crate) fn framed_type(reader: &mut Reader, depth: usize, context: Context) -> ReadResult
     requires room { HasRoom 2 (state reader.old) }
     ensures reads { Gives result reader.new (spec.parse_type depth context (state reader.old)) }
     ensures kept { OnOk result (SameFrame reader.old.buffer.value reader.new.buffer.value) }
@@ -213,13 +203,12 @@ pub(crate) fn framed_type(reader: &mut Reader, depth: usize, context: Context) -
 }
 
 /// Reads `<pointer-to-member-type> ::= M <type> <type>`: first the class, then the member's type in its own frame.
-#[tactic(auto, using(itanium_reader::proofs::Rules::buffers))]
 #[cycle(reader)]
 pub(crate) fn read_pointer_to_member_type(
     reader: &mut Reader,
     depth: usize,
     context: Context,
-) -> Result<(), Stop>
+) -> ReadResult
     requires room { HasRoom 1 (state reader.old) }
     requires some { 0 < length reader.old.rest.now }
     ensures reads { Gives result reader.new (spec.parse_member (spec.parse_type depth context) (state reader.old)) }
@@ -235,9 +224,9 @@ pub(crate) fn read_pointer_to_member_type(
 }
 
 /// Reads `<qualified-type> ::= <CV-qualifiers> <type>`. The qualifiers of a function type become part of that type.
-#[tactic(auto, using(itanium_reader::proofs::Rules::buffers))]
 #[cycle(reader)]
-pub(crate) fn read_cv(reader: &mut Reader, depth: usize, context: Context) -> Result<(), Stop>
+#[inline(never)]
+pub(crate) fn read_cv(reader: &mut Reader, depth: usize, context: Context) -> ReadResult
     requires room { HasRoom 1 (state reader.old) }
     requires some { length (past_cv reader.old.rest.now) < length reader.old.rest.now }
     ensures reads { Gives result reader.new (spec.parse_cv (spec.parse_type depth context) (state reader.old)) }
@@ -251,7 +240,7 @@ pub(crate) fn read_cv(reader: &mut Reader, depth: usize, context: Context) -> Re
         CvCase::CvFunction => read_function_type(reader, depth, context, quals),
         CvCase::CvOther => {
             read_type(reader, depth, context)?;
-            reader.wrap_found(quals)?;
+            reader.found = wrap_cv(&mut reader.buffer, reader.found, quals)?;
             Ok(())
         }
     }
@@ -259,14 +248,13 @@ pub(crate) fn read_cv(reader: &mut Reader, depth: usize, context: Context) -> Re
 
 /// Reads `<function-type> ::= F <return type> <parameter types> [<ref-qualifier>] E`. `quals` are the qualifiers that
 /// stood in front of the `F`. Returns `Stop::Unread` for a function type with `Y` (extern "C").
-#[tactic(auto, using(itanium_reader::proofs::Rules::buffers))]
 #[cycle(reader)]
 pub(crate) fn read_function_type(
     reader: &mut Reader,
     depth: usize,
     context: Context,
     quals: Quals,
-) -> Result<(), Stop>
+) -> ReadResult
     requires room { HasRoom 1 (state reader.old) }
     requires some { 0 < length reader.old.rest.now }
     ensures reads { Gives result reader.new (spec.parse_function
@@ -302,7 +290,7 @@ pub(crate) fn read_params(
     end: EncodingEnd,
     of_function: bool,
     list: Piece,
-) -> Result<(), Stop>
+) -> ReadResult
     requires room { HasRoom 2 (state reader.old) }
     requires living { IsLiving reader.old.buffer.value list }
     ensures reads { Gives result reader.new (spec.typed_params_as (params_case end reader.old.rest.now) end of_function
