@@ -7,13 +7,14 @@ ghost use Rattle.itanium_reader.specs.Outcome.{state, Gives, HasRoom, TakesSome,
 
 use crate::encodings::read_encoding;
 use crate::types::framed_type;
-use demangle_edit::{Glue, address, glue};
+use demangle_edit::{Glue, address, glue, write_opened_literal};
 use demangle_text::Place;
 use itanium_reader::{ReadResult, Reader, Stop};
 use itanium_syntax::context::Context;
 use itanium_syntax::encodings::EncodingEnd;
 use itanium_syntax::expressions::{
     ExpressionCase, LiteralCase, expression_case, expression_text, is_external, literal_case,
+    literal_value,
 };
 
 /// Reads `<expr-primary> ::= L <type> <value> E | L _Z <encoding> E`.
@@ -39,7 +40,16 @@ pub(crate) fn read_expr_primary(reader: &mut Reader, depth: usize, context: Cont
             // need not move.
             let paren = reader.buffer.push(b"(")?;
             framed_type(reader, depth, context)?;
-            reader.end_literal(paren)
+            let Some((value, rest)) = literal_value(reader.rest) else {
+                return Err(Stop::Unread);
+            };
+            reader.rest = rest;
+            let literal = write_opened_literal(&mut reader.buffer, paren, reader.found, value)?;
+            let Some(literal) = literal else {
+                return Err(Stop::Unread);
+            };
+            reader.found = literal;
+            Ok(())
         }
         LiteralCase::UnreadLiteral => Err(Stop::Unread),
     }

@@ -113,7 +113,6 @@ pub(crate) fn read_unqualified_name(
 /// name.
 #[tactic(auto, using(itanium_reader::proofs::Rules::unqualified_names))]
 #[cycle(reader)]
-#[inline(never)]
 pub(crate) fn read_segment(reader: &mut Reader, depth: usize, context: Context) -> ReadResult
     requires room { HasRoom 0 (state reader.old) }
     requires living { IsLiving reader.old.buffer.value reader.old.found }

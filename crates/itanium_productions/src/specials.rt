@@ -7,11 +7,9 @@ ghost use Rattle.itanium_reader.specs.Outcome.{state, Gives, HasRoom, TakesSome,
 use crate::encodings::read_encoding;
 use crate::names::framed_name;
 use crate::types::{framed_type, read_type};
-use demangle_edit::append_number;
 use itanium_reader::{ReadResult, Reader, Stop};
 use itanium_syntax::context::Context;
 use itanium_syntax::encodings::EncodingEnd;
-use itanium_syntax::numerals::{Radix, index_of};
 use itanium_syntax::offsets::past_base_offset;
 use itanium_syntax::specials::{SpecialCase, special_case, special_close, special_text};
 
@@ -67,16 +65,7 @@ pub(crate) fn read_temporary(reader: &mut Reader, depth: usize, context: Context
 {
     reader.skip(2);
     framed_name(reader, depth, context, false)?;
-    let Some((number, rest)) = index_of(Radix::Base36, reader.rest) else {
-        return Err(Stop::Unread);
-    };
-    reader.rest = rest;
-    let mark = reader.buffer.open();
-    let begun = reader.buffer.push(b"reference temporary #")?;
-    let numbered = append_number(&mut reader.buffer, begun, number as u64)?;
-    let whole = reader.buffer.join(numbered, b" for ", reader.found)?;
-    reader.found = reader.buffer.close(mark, whole)?;
-    Ok(())
+    reader.end_temporary()
 }
 
 /// Reads `TC <type> <offset number> _ <base type>`, a construction vtable.
@@ -137,7 +126,6 @@ pub(crate) fn read_thunk(
 /// Reads `<special-name>`. Returns `Stop::Unread` for a special name that isn't supported.
 #[tactic(auto, using(itanium_reader::proofs::Rules::specials))]
 #[cycle(reader)]
-#[inline(never)]
 pub fn read_special_name(
     reader: &mut Reader,
     depth: usize,

@@ -9,7 +9,9 @@ ghost use Rattle.itanium_reader.specs.Outcome.{state, Gives, HasRoom, TakesSome,
 
 use crate::args::read_template_args;
 use crate::names::{framed_name, read_name};
-use demangle_edit::{Pointer, Quals, append_piece, expand, open_function, wrap_array, wrap_cv};
+use demangle_edit::{
+    Pointer, Quals, append_piece, close_function, expand, open_function, wrap_array, wrap_cv,
+};
 use demangle_text::Piece;
 use itanium_reader::{ReadResult, Reader, Stop};
 use itanium_syntax::args::{AttachedCase, attached_case};
@@ -18,14 +20,13 @@ use itanium_syntax::encodings::EncodingEnd;
 use itanium_syntax::numerals::optional_number;
 use itanium_syntax::types::{
     CvCase, FunctionCase, ParamsCase, TypeCase, TypesCase, cv_case, cv_quals, elaborated_text,
-    function_case, params_case, type_case, types_case,
+    function_case, params_case, ref_qualifier, type_case, types_case,
 };
 
 /// Reads `<template-args>` if they follow the type in `found`, and saves the type with its arguments as a component.
 /// If no `I` follows, nothing changes.
 #[tactic(auto, using(itanium_reader::proofs::Rules::fronts))]
 #[cycle(reader)]
-#[inline(always)]
 pub(crate) fn read_type_attached(reader: &mut Reader, depth: usize, context: Context) -> ReadResult
     requires room { HasRoom 1 (state reader.old) }
     requires living { IsLiving reader.old.buffer.value reader.old.found }
@@ -186,7 +187,6 @@ pub(crate) fn read_elaborated(reader: &mut Reader, depth: usize, context: Contex
 /// Reads a `<type>` in its own frame. Pieces that lived before keep their shapes. The output afterwards is the old
 /// output followed by the type's text.
 #[cycle(reader)]
-#[inline(always)]
 pub(crate) fn framed_type(reader: &mut Reader, depth: usize, context: Context) -> ReadResult
     requires room { HasRoom 2 (state reader.old) }
     ensures reads { Gives result reader.new (spec.parse_type depth context (state reader.old)) }
@@ -249,6 +249,7 @@ pub(crate) fn read_cv(reader: &mut Reader, depth: usize, context: Context) -> Re
 /// Reads `<function-type> ::= F <return type> <parameter types> [<ref-qualifier>] E`. `quals` are the qualifiers that
 /// stood in front of the `F`. Returns `Stop::Unread` for a function type with `Y` (extern "C").
 #[cycle(reader)]
+#[inline(never)]
 pub(crate) fn read_function_type(
     reader: &mut Reader,
     depth: usize,
@@ -273,7 +274,12 @@ pub(crate) fn read_function_type(
                 return Err(Stop::Unread);
             };
             read_params(reader, depth, context, EncodingEnd::AtE, true, list)?;
-            reader.end_function(front, quals)
+            let (reference, rest) = ref_qualifier(reader.rest);
+            let all = Quals { reference, ..quals };
+            reader.found = close_function(&mut reader.buffer, reader.found, front, all)?;
+            reader.rest = rest;
+            reader.skip(1);
+            Ok(())
         }
     }
 }

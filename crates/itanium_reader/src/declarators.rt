@@ -8,10 +8,9 @@ ghost use Rattle.itanium_reader.specs.Outcome.{state, Gives, TakesSome, MayTakeN
 
 use crate::reader::Reader;
 use crate::stop::{ReadResult, Stop};
-use demangle_edit::{Pointer, Quals, close_function, wrap_member_pointer, wrap_pointer};
+use demangle_edit::{Pointer, wrap_member_pointer, wrap_pointer};
 use demangle_text::Piece;
 use itanium_syntax::args::{AttachedCase, attached_case};
-use itanium_syntax::types::ref_qualifier;
 use std::alloc::AllocError;
 
 impl<'a> Reader<'a> {
@@ -46,25 +45,6 @@ impl<'a> Reader<'a> {
         };
         self.found = whole;
         self.save_found()?;
-        Ok(())
-    }
-
-    /// Reads `[<ref-qualifier>] E` and completes the function type. Before the call, `found` is the return type with
-    /// the list of parameters. The return type has `front` bytes.
-    #[inline(never)]
-    pub fn end_function(&mut self, front: usize, quals: Quals) -> ReadResult
-        requires living { IsLiving self.old.buffer.value self.old.found }
-        ensures reads { Gives result self.new (spec.function_end front quals
-            (shape self.old.buffer.value self.old.found) (state self.old)) }
-        ensures run { OnOk result (IsRun self.old.buffer.value self.new.buffer.value) }
-        ensures bounds { MayTakeNone 1 result (state self.old) (state self.new) }
-        ensures saved { SavedBounds 0 result (state self.old) (state self.new) }
-    {
-        let (reference, rest) = ref_qualifier(self.rest);
-        let all = Quals { reference, ..quals };
-        self.found = close_function(&mut self.buffer, self.found, front, all)?;
-        self.rest = rest;
-        self.skip(1);
         Ok(())
     }
 

@@ -1,6 +1,5 @@
 //! Literals, external names and expressions (Itanium C++ ABI 5.1, "Expressions").
-ghost use Rattle.std.specs.Prelude.{◌≡◌, ◌<◌, codes, OnOk};
-ghost use Rattle.demangle_text.specs.Shape.{plain_shape};
+ghost use Rattle.std.specs.Prelude.{◌≡◌, ◌<◌, OnOk};
 ghost use Rattle.demangle_text.specs.State.{IsLiving, Lives, shape, IsRun, SameFrame};
 ghost use Rattle.demangle_edit.specs.Expressions.{operand_shape};
 ghost use Rattle.itanium_grammar.specs.Tree.{binary_shape};
@@ -9,9 +8,8 @@ ghost use Rattle.itanium_reader.specs.Outcome.{state, Gives, TakesSome, SavedBou
 
 use crate::reader::Reader;
 use crate::stop::{ReadResult, Stop};
-use demangle_edit::{subexpr, write_opened_literal};
+use demangle_edit::subexpr;
 use demangle_text::Piece;
-use itanium_syntax::expressions::literal_value;
 use std::alloc::AllocError;
 
 impl<'a> Reader<'a> {
@@ -31,28 +29,6 @@ impl<'a> Reader<'a> {
             }
             _ => Err(Stop::Unread),
         }
-    }
-
-    /// Reads the value of a literal and the `E` after it. The literal's type is `found`. The piece `paren` is a `(`,
-    /// with which a literal that prints its type in parentheses begins.
-    pub fn end_literal(&mut self, paren: Piece) -> ReadResult
-        requires paren { Lives self.old.buffer.value paren (plain_shape (codes "(")) }
-        requires living { IsLiving self.old.buffer.value self.old.found }
-        ensures reads { Gives result self.new
-            (spec.literal_end (shape self.old.buffer.value self.old.found) (state self.old)) }
-        ensures run { OnOk result (IsRun self.old.buffer.value self.new.buffer.value) }
-        ensures bounds { TakesSome 0 result (state self.old) (state self.new) }
-        ensures saved { SavedBounds 1 result (state self.old) (state self.new) }
-    {
-        let Some((value, rest)) = literal_value(self.rest) else {
-            return Err(Stop::Unread);
-        };
-        let Some(literal) = write_opened_literal(&mut self.buffer, paren, self.found, value)? else {
-            return Err(Stop::Unread);
-        };
-        self.found = literal;
-        self.rest = rest;
-        Ok(())
     }
 
     /// Puts `found` in parentheses if `paren` is true.

@@ -11,6 +11,7 @@ use crate::reader::Reader;
 use crate::stop::{ReadResult, Stop};
 use demangle_edit::append_number;
 use demangle_text::{Buffer, Piece};
+use itanium_syntax::numerals::{Radix, index_of};
 use itanium_syntax::offsets::{CallOffset, Signed, ThunkOffsets, thunk_offsets};
 use std::alloc::AllocError;
 
@@ -109,5 +110,26 @@ impl<'a> Reader<'a> {
                 Ok(())
             }
         }
+    }
+
+    /// Reads the `[<seq-id>] _` of a reference temporary whose name is `found`.
+    pub fn end_temporary(&mut self) -> ReadResult
+        requires living { IsLiving self.old.buffer.value self.old.found }
+        ensures reads { Gives result self.new
+            (spec.temporary_end (shape self.old.buffer.value self.old.found) (state self.old)) }
+        ensures run { OnOk result (IsRun self.old.buffer.value self.new.buffer.value) }
+        ensures bounds { TakesSome 0 result (state self.old) (state self.new) }
+        ensures saved { SavedBounds 1 result (state self.old) (state self.new) }
+    {
+        let Some((number, rest)) = index_of(Radix::Base36, self.rest) else {
+            return Err(Stop::Unread);
+        };
+        self.rest = rest;
+        let mark = self.buffer.open();
+        let begun = self.buffer.push(b"reference temporary #")?;
+        let numbered = append_number(&mut self.buffer, begun, number as u64)?;
+        let whole = self.buffer.join(numbered, b" for ", self.found)?;
+        self.found = self.buffer.close(mark, whole)?;
+        Ok(())
     }
 }

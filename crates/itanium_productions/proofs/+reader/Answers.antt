@@ -244,7 +244,7 @@ encodings::read_entity-returns-in_ok-reader-in-DefaultArgumentEntity-clause-read
     let entity = c.framed_name.new.reader in
     let began = (c.in_ok-opened-in-DefaultArgumentEntity.ensures {u = tt}).shape in
     let kept = (c.in_ok-framed_name-in-DefaultArgumentEntity.ensures {u = tt}).kept.pieces c.in_ok-opened-in-DefaultArgumentEntity.opened began.living in
-    let closed = rw c.deref_mut-in-DefaultArgumentEntity.ensures.value at (c.in_ok-reader-in-DefaultArgumentEntity.ensures {u = tt}).shape.shape_is in (
+    let closed = rw c.deref_mut-in-DefaultArgumentEntity-2.ensures.value at (c.in_ok-reader-in-DefaultArgumentEntity.ensures {u = tt}).shape.shape_is in (
       search rules,
       default_argument_found (spec.parse_bare_name c.args.depth c.args.context)
           (shape c.args.reader.now.buffer.value c.args.encoding) (state c.args.reader.now) {number = c.in-Some.number}
@@ -253,7 +253,7 @@ encodings::read_entity-returns-in_ok-reader-in-DefaultArgumentEntity-clause-read
           (closed ∙ ap (λ (s : Shape). enclosed s (shape entity.buffer.value entity.found))
           {x = shape entity.buffer.value c.in_ok-opened-in-DefaultArgumentEntity.opened}
           {y = default_arg_opened (shape c.args.reader.now.buffer.value c.args.encoding) c.in-Some.number}
-          (cc (kept.shape_is, began.shape_is, c.deref_mut.ensures.value)))
+          (cc (kept.shape_is, began.shape_is, c.deref_mut-in-DefaultArgumentEntity.ensures.value)))
           (search rules),
     )
 
