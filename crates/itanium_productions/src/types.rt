@@ -1,4 +1,4 @@
-//! Types (Itanium C++ ABI 5.1.5).
+//! Types (Itanium C++ ABI 5.1.5). Five readers aren't inlined, to keep the stack frame of other types small.
 ghost use Rattle.std.specs.Prelude.{◌≡◌, ◌<◌, ◌++◌, OnOk, length, false};
 ghost use Rattle.demangle_text.specs.State.{IsLiving, shape, IsRun, SameFrame, main_bytes};
 ghost use Rattle.demangle_text.specs.Shape.{text};
@@ -164,8 +164,7 @@ pub(crate) fn read_pointer(
     Ok(())
 }
 
-/// Reads `<class-enum-type> ::= Ts <name> | Tu <name> | Te <name>`. The production is rare. The function isn't
-/// inlined, to keep the stack frame of other types small.
+/// Reads `<class-enum-type> ::= Ts <name> | Tu <name> | Te <name>`.
 #[tactic(auto, using(itanium_reader::proofs::Rules::words))]
 #[cycle(reader)]
 #[inline(never)]
