@@ -7,7 +7,7 @@ ghost use Rattle.itanium_reader.specs.Outcome.{state, Gives, HasRoom, TakesSome,
 ghost use Rattle.itanium_demangle.specs.Meaning.{ReadsAs, parse_mangled};
 
 use itanium_productions::{read_encoding, read_name, read_special_name};
-use itanium_reader::{Reader, Stop};
+use itanium_reader::{ReadResult, Reader, Stop};
 use itanium_syntax::context::{Context, INITIAL};
 use itanium_syntax::encodings::EncodingEnd;
 use itanium_syntax::names::begins_special;
@@ -16,7 +16,7 @@ use itanium_syntax::names::begins_special;
 /// counted productions may nest. A call of `read_encoding` would give the same and take 43 instructions more a name.
 #[tactic(auto, using(itanium_reader::proofs::Rules::symbols))]
 #[inline(always)]
-fn read_symbol(reader: &mut Reader, depth: usize, context: Context) -> Result<(), Stop>
+fn read_symbol(reader: &mut Reader, depth: usize, context: Context) -> ReadResult
     requires room { HasRoom 1 (state reader.old) }
     ensures reads { Gives result reader.new (spec.parse_encoding depth AfterName context (state reader.old)) }
     ensures run { OnOk result (IsRun reader.old.buffer.value reader.new.buffer.value) }
@@ -33,7 +33,7 @@ fn read_symbol(reader: &mut Reader, depth: usize, context: Context) -> Result<()
 /// Reads what follows the prefix of a symbol as a signature: an encoding that ends where no ASCII letter, digit or
 /// underscore is next. At most `depth` counted productions may nest, the signature included.
 #[tactic(auto, using(itanium_reader::proofs::Rules::signatures))]
-fn read_signature(reader: &mut Reader, depth: usize, context: Context) -> Result<(), Stop>
+fn read_signature(reader: &mut Reader, depth: usize, context: Context) -> ReadResult
     requires room { HasRoom 2 (state reader.old) }
     ensures reads { Gives result reader.new (spec.parse_signature depth context (state reader.old)) }
     ensures run { OnOk result (IsRun reader.old.buffer.value reader.new.buffer.value) }
@@ -52,11 +52,7 @@ fn read_signature(reader: &mut Reader, depth: usize, context: Context) -> Result
 /// `depth` counted productions may nest.
 #[tactic(auto, using(crate::proofs::Rules::readings))]
 #[inline(always)]
-pub(crate) fn read_mangled_name(
-    reader: &mut Reader,
-    depth: usize,
-    signature: bool,
-) -> Result<(), Stop>
+pub(crate) fn read_mangled_name(reader: &mut Reader, depth: usize, signature: bool) -> ReadResult
     requires room { HasRoom 2 (state reader.old) }
     ensures reads { Gives result reader.new (parse_mangled depth signature (state reader.old)) }
     // In terms of trees: `Ok` is a reading of the bytes, with which every other agrees. `Stop::Unread` means that no

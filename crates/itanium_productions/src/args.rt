@@ -9,7 +9,7 @@ ghost use Rattle.itanium_reader.specs.Outcome.{state, Gives, HasRoom, TakesSome,
 use crate::expressions::{read_expr_primary, read_expression};
 use crate::types::read_type;
 use demangle_edit::{append_piece, close_arguments, open_arguments};
-use itanium_reader::{Reader, Stop, text_limit};
+use itanium_reader::{ReadResult, Reader, Stop, text_limit};
 use itanium_syntax::args::{ArgsCase, ArgumentCase, args_case, argument_case};
 use itanium_syntax::context::Context;
 
@@ -22,13 +22,12 @@ pub(crate) fn read_template_args(
     depth: usize,
     context: Context,
     of_name: bool,
-) -> Result<(), Stop>
+) -> ReadResult
     requires room { HasRoom 1 (state reader.old) }
     requires some { 0 < length reader.old.rest.now }
     requires living { IsLiving reader.old.buffer.value reader.old.found }
-    ensures reads { Gives result reader.new
-        (spec.attached_by (spec.parse_args depth context of_name)
-        (shape reader.old.buffer.value reader.old.found) (state reader.old)) }
+    ensures reads { Gives result reader.new (spec.attached_by
+        (spec.parse_args depth context of_name) (shape reader.old.buffer.value reader.old.found) (state reader.old)) }
     ensures run { OnOk result (IsRun reader.old.buffer.value reader.new.buffer.value) }
     ensures last { OnOk result (IsLast reader.new.buffer.value reader.new.found) }
     ensures refused { depth ≡ 0 → reader.new.entered ≡ reader.old.entered }
@@ -58,7 +57,7 @@ pub(crate) fn read_template_args(
             }
             ArgsCase::NextArgument => {
                 reader.separate(first)?;
-                framed_template_arg(reader, depth, context)?;
+                read_template_arg(reader, depth, context)?;
                 reader.add_argument(opens, scopes)?;
                 if reader.buffer.len(reader.buffer.up_to_end(list)) > widest {
                     return Err(Stop::Unread);
@@ -74,11 +73,7 @@ pub(crate) fn read_template_args(
 #[tactic(auto, using(itanium_reader::proofs::Rules::packs))]
 #[cycle(reader)]
 #[inline(never)]
-pub(crate) fn read_argument_pack(
-    reader: &mut Reader,
-    depth: usize,
-    context: Context,
-) -> Result<(), Stop>
+pub(crate) fn read_argument_pack(reader: &mut Reader, depth: usize, context: Context) -> ReadResult
     requires room { HasRoom 1 (state reader.old) }
     requires some { 0 < length reader.old.rest.now }
     ensures reads { Gives result reader.new (spec.parse_pack depth context (state reader.old)) }
@@ -102,7 +97,7 @@ pub(crate) fn read_argument_pack(
             }
             ArgsCase::NextArgument => {
                 list = reader.separate_list(list, first)?;
-                framed_template_arg(reader, depth, inside)?;
+                read_template_arg(reader, depth, inside)?;
                 list = append_piece(&mut reader.buffer, list, b"", reader.found)?;
                 if reader.is_too_wide(list) {
                     return Err(Stop::Unread);
@@ -113,48 +108,14 @@ pub(crate) fn read_argument_pack(
     }
 }
 
-/// Reads `<template-arg> ::= <type> | X <expression> E | <expr-primary> | J <template-arg>* E`.
+/// Reads `<template-arg> ::= <type> | X <expression> E | <expr-primary> | J <template-arg>* E` in its own frame. Pieces
+/// that lived before keep their shapes. The output afterwards is the old output followed by the argument's text.
 #[tactic(auto, using(itanium_reader::proofs::Rules::arguments))]
 #[cycle(reader)]
 #[inline(always)]
-pub(crate) fn read_template_arg(
-    reader: &mut Reader,
-    depth: usize,
-    context: Context,
-) -> Result<(), Stop>
+pub(crate) fn read_template_arg(reader: &mut Reader, depth: usize, context: Context) -> ReadResult
     requires room { HasRoom 2 (state reader.old) }
-    ensures reads { Gives result reader.new
-        (spec.parse_argument depth context (state reader.old)) }
-    ensures run { OnOk result (IsRun reader.old.buffer.value reader.new.buffer.value) }
-    ensures bounds { TakesSome 2 result (state reader.old) (state reader.new) }
-    ensures saved { SavedBounds 0 result (state reader.old) (state reader.new) }
-{
-    match argument_case(reader.rest) {
-        ArgumentCase::PackArgument => read_argument_pack(reader, depth, context),
-        ArgumentCase::ExpressionArgument => {
-            reader.skip(1);
-            read_expression(reader, depth, context)?;
-            reader.read_end()
-        }
-        ArgumentCase::LiteralArgument => read_expr_primary(reader, depth, context),
-        ArgumentCase::ConstraintArgument => Err(Stop::Unread),
-        ArgumentCase::TypeArgument => read_type(reader, depth, context),
-    }
-}
-
-/// Reads a `<template-arg>` in its own frame. Pieces that lived before keep their shapes. The output afterwards is the
-/// old output followed by the argument's text.
-#[tactic(auto, using(itanium_reader::proofs::Rules::buffers))]
-#[cycle(reader)]
-#[inline(always)]
-pub(crate) fn framed_template_arg(
-    reader: &mut Reader,
-    depth: usize,
-    context: Context,
-) -> Result<(), Stop>
-    requires room { HasRoom 2 (state reader.old) }
-    ensures reads { Gives result reader.new
-        (spec.parse_argument depth context (state reader.old)) }
+    ensures reads { Gives result reader.new (spec.parse_argument depth context (state reader.old)) }
     ensures kept { OnOk result (SameFrame reader.old.buffer.value reader.new.buffer.value) }
     ensures output { OnOk result (main_bytes reader.new.buffer.value
         ≡ main_bytes reader.old.buffer.value ++ text (shape reader.new.buffer.value reader.new.found)) }
@@ -162,7 +123,17 @@ pub(crate) fn framed_template_arg(
     ensures saved { SavedBounds 0 result (state reader.old) (state reader.new) }
 {
     let mark = reader.buffer.open();
-    read_template_arg(reader, depth, context)?;
+    match argument_case(reader.rest) {
+        ArgumentCase::PackArgument => read_argument_pack(reader, depth, context)?,
+        ArgumentCase::ExpressionArgument => {
+            reader.skip(1);
+            read_expression(reader, depth, context)?;
+            reader.read_end()?;
+        }
+        ArgumentCase::LiteralArgument => read_expr_primary(reader, depth, context)?,
+        ArgumentCase::ConstraintArgument => return Err(Stop::Unread),
+        ArgumentCase::TypeArgument => read_type(reader, depth, context)?,
+    }
     reader.close_found(mark)?;
     Ok(())
 }

@@ -17,7 +17,7 @@ use demangle_edit::{
     open_parent,
 };
 use demangle_text::Piece;
-use itanium_reader::{Reader, Stop};
+use itanium_reader::{ReadResult, Reader, Stop};
 use itanium_syntax::context::Context;
 use itanium_syntax::encodings::{
     EncodingEnd, EncodingParamsCase, EntityCase, ReturnCase, encoding_params_case, entity_case,
@@ -26,27 +26,8 @@ use itanium_syntax::encodings::{
 use itanium_syntax::names::{EncodingCase, encoding_case};
 use itanium_syntax::numerals::ordinal;
 
-/// Reads a `<type>` and removes its text from the output. The components that it saved and the scopes that it
-/// opened stay.
-#[tactic(auto, using(itanium_reader::proofs::Rules::buffers))]
-#[cycle(reader)]
-pub(crate) fn drop_type(reader: &mut Reader, depth: usize, context: Context) -> Result<(), Stop>
-    requires room { HasRoom 2 (state reader.old) }
-    ensures reads { Leaves result reader.new (spec.dropped (spec.parse_type depth context (state reader.old))) }
-    ensures kept { OnOk result (SameFrame reader.old.buffer.value reader.new.buffer.value) }
-    ensures bounds { TakesSome 2 result (state reader.old) (state reader.new) }
-    ensures saved { SavedBounds 0 result (state reader.old) (state reader.new) }
-{
-    let mark = reader.buffer.open();
-    read_type(reader, depth, context)?;
-    let empty = reader.buffer.push(b"")?;
-    reader.buffer.close(mark, empty)?;
-    Ok(())
-}
-
-/// Reads the return type of an `<encoding>`, if there is one, and prints nothing. `templ` and `ctor` are the flags of
-/// the name in front of it.
-#[tactic(auto, using(itanium_reader::proofs::Rules::buffers))]
+/// Reads the return type of an `<encoding>`, if there is one, and removes its text from the output. The components
+/// that it saved and the scopes that it opened stay. `templ` and `ctor` are the flags of the name in front of it.
 #[cycle(reader)]
 pub(crate) fn read_return(
     reader: &mut Reader,
@@ -55,7 +36,7 @@ pub(crate) fn read_return(
     end: EncodingEnd,
     templ: bool,
     ctor: bool,
-) -> Result<(), Stop>
+) -> ReadResult
     requires room { HasRoom 2 (state reader.old) }
     ensures reads { Leaves result reader.new (spec.return_as (return_case end templ ctor reader.old.rest.now)
         (spec.parse_type depth context) (state reader.old)) }
@@ -65,14 +46,19 @@ pub(crate) fn read_return(
 {
     match return_case(end, templ, ctor, reader.rest) {
         ReturnCase::NoReturnType => Ok(()),
-        ReturnCase::SomeReturnType => drop_type(reader, depth, context),
+        ReturnCase::SomeReturnType => {
+            let mark = reader.buffer.open();
+            read_type(reader, depth, context)?;
+            let empty = reader.buffer.push(b"")?;
+            reader.buffer.close(mark, empty)?;
+            Ok(())
+        }
     }
 }
 
 /// Reads the return type and the parameters of an `<encoding>`, and appends the parameters to `name`. `reader.quals`
 /// holds the name's own qualifiers, which are printed last. If the encoding ends after its name, only the qualifiers
 /// are printed.
-#[tactic(auto, using(itanium_reader::proofs::Rules::buffers))]
 #[cycle(reader)]
 pub(crate) fn end_encoding(
     reader: &mut Reader,
@@ -80,7 +66,7 @@ pub(crate) fn end_encoding(
     context: Context,
     end: EncodingEnd,
     name: Piece,
-) -> Result<(), Stop>
+) -> ReadResult
     requires room { HasRoom 2 (state reader.old) }
     requires living { IsLiving reader.old.buffer.value name }
     ensures reads { Gives result reader.new (spec.encoding_end end (spec.parse_type depth context)
@@ -117,7 +103,7 @@ pub fn read_encoding(
     depth: usize,
     context: Context,
     end: EncodingEnd,
-) -> Result<(), Stop>
+) -> ReadResult
     requires room { HasRoom 1 (state reader.old) }
     ensures reads { Gives result reader.new (spec.parse_encoding depth end context (state reader.old)) }
     ensures run { OnOk result (IsRun reader.old.buffer.value reader.new.buffer.value) }
@@ -144,7 +130,7 @@ pub(crate) fn read_entity(
     depth: usize,
     context: Context,
     encoding: Piece,
-) -> Result<(), Stop>
+) -> ReadResult
     requires room { HasRoom 0 (state reader.old) }
     requires living { IsLiving reader.old.buffer.value encoding }
     ensures reads { GivesBareName result reader.new (spec.entity_as (entity_case reader.old.rest.now)
@@ -156,7 +142,7 @@ pub(crate) fn read_entity(
     match entity_case(reader.rest) {
         EntityCase::StringLiteralEntity => {
             reader.skip(2);
-            reader.print_string_literal(encoding)?;
+            reader.found = reader.buffer.append(encoding, b"::string literal")?;
             reader.quals = None;
             Ok(())
         }
@@ -186,15 +172,10 @@ pub(crate) fn read_entity(
 /// `Z`. Leaves the entity's own qualifiers in `reader.quals`.
 #[tactic(auto, using(itanium_reader::proofs::Rules::local_names))]
 #[cycle(reader)]
-pub(crate) fn read_local_name(
-    reader: &mut Reader,
-    depth: usize,
-    context: Context,
-) -> Result<(), Stop>
+pub(crate) fn read_local_name(reader: &mut Reader, depth: usize, context: Context) -> ReadResult
     requires room { HasRoom 2 (state reader.old) }
-    ensures reads { GivesBareName result reader.new (spec.parse_local
-        (spec.parse_encoding depth AtE (inside_encoding context))
-        (spec.parse_bare_name depth (showing_words context)) (state reader.old)) }
+    ensures reads { GivesBareName result reader.new (spec.parse_local (spec.parse_encoding depth AtE
+        (inside_encoding context)) (spec.parse_bare_name depth (showing_words context)) (state reader.old)) }
     ensures run { OnOk result (IsRun reader.old.buffer.value reader.new.buffer.value) }
     ensures bounds { TakesSome 1 result (state reader.old) (state reader.new) }
     ensures saved { SavedBounds 1 result (state reader.old) (state reader.new) }

@@ -1,29 +1,26 @@
 //! Literals, external names and expressions (Itanium C++ ABI 5.1, "Expressions").
 ghost use Rattle.std.specs.Prelude.{◌≡◌, ◌<◌, ◌++◌, OnOk, length};
-ghost use Rattle.demangle_text.specs.State.{IsLiving, shape, IsRun, SameFrame, main_bytes};
+ghost use Rattle.demangle_text.specs.State.{shape, IsRun, SameFrame, main_bytes};
 ghost use Rattle.demangle_text.specs.Shape.{text};
 ghost use Rattle.itanium_reader.specs.Parser as spec;
 ghost use Rattle.itanium_reader.specs.Outcome.{state, Gives, HasRoom, TakesSome, SavedBounds};
 
 use crate::encodings::read_encoding;
 use crate::types::framed_type;
-use demangle_edit::address;
-use demangle_text::Piece;
-use itanium_reader::{Reader, Stop};
+use demangle_edit::{Glue, address, glue, write_opened_literal};
+use demangle_text::Place;
+use itanium_reader::{ReadResult, Reader, Stop};
 use itanium_syntax::context::Context;
 use itanium_syntax::encodings::EncodingEnd;
 use itanium_syntax::expressions::{
     ExpressionCase, LiteralCase, expression_case, expression_text, is_external, literal_case,
+    literal_value,
 };
 
 /// Reads `<expr-primary> ::= L <type> <value> E | L _Z <encoding> E`.
 #[tactic(auto, using(itanium_reader::proofs::Rules::primaries))]
 #[cycle(reader)]
-pub(crate) fn read_expr_primary(
-    reader: &mut Reader,
-    depth: usize,
-    context: Context,
-) -> Result<(), Stop>
+pub(crate) fn read_expr_primary(reader: &mut Reader, depth: usize, context: Context) -> ReadResult
     requires room { HasRoom 0 (state reader.old) }
     requires some { 0 < length reader.old.rest.now }
     ensures reads { Gives result reader.new (spec.parse_primary depth context (state reader.old)) }
@@ -39,38 +36,32 @@ pub(crate) fn read_expr_primary(
         }
         LiteralCase::ValueLiteral => {
             reader.skip(1);
-            read_literal(reader, depth, context)
+            // Most literals print their type in parentheses. The `(` is printed before the type is read, so the type
+            // need not move.
+            let paren = reader.buffer.push(b"(")?;
+            framed_type(reader, depth, context)?;
+            let Some((value, rest)) = literal_value(reader.rest) else {
+                return Err(Stop::Unread);
+            };
+            reader.rest = rest;
+            let literal = write_opened_literal(&mut reader.buffer, paren, reader.found, value)?;
+            let Some(literal) = literal else {
+                return Err(Stop::Unread);
+            };
+            reader.found = literal;
+            Ok(())
         }
         LiteralCase::UnreadLiteral => Err(Stop::Unread),
     }
 }
 
-/// Reads `<type> <value> E`, the rest of a literal after its `L`.
-#[tactic(auto, using(itanium_reader::proofs::Rules::buffers))]
-#[cycle(reader)]
-#[inline(always)]
-pub(crate) fn read_literal(reader: &mut Reader, depth: usize, context: Context) -> Result<(), Stop>
-    requires room { HasRoom 2 (state reader.old) }
-    ensures reads { Gives result reader.new (spec.literal_by (spec.parse_type depth context) (state reader.old)) }
-    ensures run { OnOk result (IsRun reader.old.buffer.value reader.new.buffer.value) }
-    ensures bounds { TakesSome 2 result (state reader.old) (state reader.new) }
-    ensures saved { SavedBounds 0 result (state reader.old) (state reader.new) }
-{
-    // Most literals print their type in parentheses. The `(` is printed before the type is read, so the type need not
-    // move.
-    let paren = reader.buffer.push(b"(")?;
-    framed_type(reader, depth, context)?;
-    reader.end_literal(paren)
-}
-
 /// Reads `pp_ <expression>` or `mm_ <expression>`, a prefix increment or decrement.
 #[tactic(auto, using(itanium_reader::proofs::Rules::words))]
 #[cycle(reader)]
-pub(crate) fn read_pre(reader: &mut Reader, depth: usize, context: Context) -> Result<(), Stop>
+pub(crate) fn read_pre(reader: &mut Reader, depth: usize, context: Context) -> ReadResult
     requires room { HasRoom 0 (state reader.old) }
     requires some { 0 < length reader.old.rest.now }
-    ensures reads { Gives result reader.new
-        (spec.parse_pre (spec.parse_expression depth context) (state reader.old)) }
+    ensures reads { Gives result reader.new (spec.parse_pre (spec.parse_expression depth context) (state reader.old)) }
     ensures run { OnOk result (IsRun reader.old.buffer.value reader.new.buffer.value) }
     ensures bounds { TakesSome 0 result (state reader.old) (state reader.new) }
     ensures saved { SavedBounds 1 result (state reader.old) (state reader.new) }
@@ -85,9 +76,8 @@ pub(crate) fn read_pre(reader: &mut Reader, depth: usize, context: Context) -> R
 }
 
 /// Reads `ad <expression>` for an external name, and prints `&` in front of it.
-#[tactic(auto, using(itanium_reader::proofs::Rules::buffers))]
 #[cycle(reader)]
-pub(crate) fn read_address(reader: &mut Reader, depth: usize, context: Context) -> Result<(), Stop>
+pub(crate) fn read_address(reader: &mut Reader, depth: usize, context: Context) -> ReadResult
     requires room { HasRoom 0 (state reader.old) }
     requires some { 0 < length reader.old.rest.now }
     ensures reads { Gives result reader.new
@@ -105,7 +95,7 @@ pub(crate) fn read_address(reader: &mut Reader, depth: usize, context: Context) 
 /// Reads the two letters of a unary operator and its operand. The operator is printed in front.
 #[tactic(auto, using(itanium_reader::proofs::Rules::words))]
 #[cycle(reader)]
-pub(crate) fn read_unary(reader: &mut Reader, depth: usize, context: Context) -> Result<(), Stop>
+pub(crate) fn read_unary(reader: &mut Reader, depth: usize, context: Context) -> ReadResult
     requires room { HasRoom 0 (state reader.old) }
     requires some { 0 < length reader.old.rest.now }
     ensures reads { Gives result reader.new
@@ -123,9 +113,8 @@ pub(crate) fn read_unary(reader: &mut Reader, depth: usize, context: Context) ->
 }
 
 /// Reads `pp <expression>` or `mm <expression>`, a postfix increment or decrement.
-#[tactic(auto, using(itanium_reader::proofs::Rules::buffers))]
 #[cycle(reader)]
-pub(crate) fn read_post(reader: &mut Reader, depth: usize, context: Context) -> Result<(), Stop>
+pub(crate) fn read_post(reader: &mut Reader, depth: usize, context: Context) -> ReadResult
     requires room { HasRoom 0 (state reader.old) }
     requires some { 0 < length reader.old.rest.now }
     ensures reads { Gives result reader.new
@@ -137,14 +126,14 @@ pub(crate) fn read_post(reader: &mut Reader, depth: usize, context: Context) -> 
     let text = expression_text(reader.rest);
     reader.skip(2);
     read_operand(reader, depth, context)?;
-    reader.print_post(text)?;
+    let parts = [Glue::Piece(reader.found), Glue::Text(text.as_bytes())];
+    reader.found = glue(&mut reader.buffer, &parts)?;
     Ok(())
 }
 
 /// Reads the two letters of a binary operator and its two operands. The operator is printed between them.
-#[tactic(auto, using(itanium_reader::proofs::Rules::buffers))]
 #[cycle(reader)]
-pub(crate) fn read_binary(reader: &mut Reader, depth: usize, context: Context) -> Result<(), Stop>
+pub(crate) fn read_binary(reader: &mut Reader, depth: usize, context: Context) -> ReadResult
     requires room { HasRoom 0 (state reader.old) }
     requires some { 0 < length reader.old.rest.now }
     ensures reads { Gives result reader.new
@@ -163,9 +152,8 @@ pub(crate) fn read_binary(reader: &mut Reader, depth: usize, context: Context) -
 }
 
 /// Reads `gt <expression> <expression>`. Each of the two is printed in parentheses, and so is the whole.
-#[tactic(auto, using(itanium_reader::proofs::Rules::buffers))]
 #[cycle(reader)]
-pub(crate) fn read_greater(reader: &mut Reader, depth: usize, context: Context) -> Result<(), Stop>
+pub(crate) fn read_greater(reader: &mut Reader, depth: usize, context: Context) -> ReadResult
     requires room { HasRoom 0 (state reader.old) }
     requires some { 0 < length reader.old.rest.now }
     ensures reads { Gives result reader.new
@@ -178,46 +166,16 @@ pub(crate) fn read_greater(reader: &mut Reader, depth: usize, context: Context) 
     read_expression(reader, depth, context)?;
     let left = reader.found;
     framed_expression(reader, depth, context)?;
-    reader.print_greater(left)?;
+    let both = reader.buffer.join(left, b")>(", reader.found)?;
+    let opened = reader.buffer.insert(both, Place::Start, b"((")?;
+    let closed = reader.buffer.append(opened, b"))")?;
+    reader.found = reader.buffer.whole(closed);
     Ok(())
 }
 
-/// Reads the second and third operands of a conditional expression, whose first operand is `condition`. Prints `?` and
-/// ` : ` between the three.
-#[tactic(auto, using(itanium_reader::proofs::Rules::buffers))]
+/// Reads `qu <expression> <expression> <expression>`, a conditional expression. Prints `?` and ` : ` between the three.
 #[cycle(reader)]
-pub(crate) fn read_alternatives(
-    reader: &mut Reader,
-    depth: usize,
-    context: Context,
-    condition: Piece,
-) -> Result<(), Stop>
-    requires room { HasRoom 1 (state reader.old) }
-    requires condition { IsLiving reader.old.buffer.value condition }
-    ensures reads { Gives result reader.new (spec.parse_alternatives (spec.parse_expression depth context)
-        (shape reader.old.buffer.value condition) (state reader.old)) }
-    ensures run { OnOk result (IsRun reader.old.buffer.value reader.new.buffer.value) }
-    ensures bounds { TakesSome 1 result (state reader.old) (state reader.new) }
-    ensures saved { SavedBounds 1 result (state reader.old) (state reader.new) }
-{
-    let mark = reader.buffer.open();
-    framed_operand(reader, depth, context)?;
-    let then = reader.found;
-    framed_operand(reader, depth, context)?;
-    reader.print_binary(then, " : ")?;
-    reader.close_found(mark)?;
-    reader.print_binary(condition, "?")?;
-    Ok(())
-}
-
-/// Reads `qu <expression> <expression> <expression>`, a conditional expression.
-#[tactic(auto, using(itanium_reader::proofs::Rules::buffers))]
-#[cycle(reader)]
-pub(crate) fn read_conditional(
-    reader: &mut Reader,
-    depth: usize,
-    context: Context,
-) -> Result<(), Stop>
+pub(crate) fn read_conditional(reader: &mut Reader, depth: usize, context: Context) -> ReadResult
     requires room { HasRoom 0 (state reader.old) }
     requires some { 0 < length reader.old.rest.now }
     ensures reads { Gives result reader.new
@@ -228,17 +186,19 @@ pub(crate) fn read_conditional(
 {
     reader.skip(2);
     read_operand(reader, depth, context)?;
-    read_alternatives(reader, depth, context, reader.found)
+    let condition = reader.found;
+    framed_operand(reader, depth, context)?;
+    reader.print_binary(condition, "?")?;
+    let begun = reader.found;
+    framed_operand(reader, depth, context)?;
+    reader.print_binary(begun, " : ")?;
+    Ok(())
 }
 
 /// Reads `<expression>`. At most `depth` counted productions may nest, this one included.
 #[tactic(auto, using(itanium_reader::proofs::Rules::expressions))]
 #[cycle(reader)]
-pub(crate) fn read_expression(
-    reader: &mut Reader,
-    depth: usize,
-    context: Context,
-) -> Result<(), Stop>
+pub(crate) fn read_expression(reader: &mut Reader, depth: usize, context: Context) -> ReadResult
     requires room { HasRoom 1 (state reader.old) }
     ensures reads { Gives result reader.new (spec.parse_expression depth context (state reader.old)) }
     ensures run { OnOk result (IsRun reader.old.buffer.value reader.new.buffer.value) }
@@ -265,9 +225,8 @@ pub(crate) fn read_expression(
 }
 
 /// Reads an operand, which is an `<expression>`. The operand is printed in parentheses unless it is an external name.
-#[tactic(auto, using(itanium_reader::proofs::Rules::buffers))]
 #[cycle(reader)]
-pub(crate) fn read_operand(reader: &mut Reader, depth: usize, context: Context) -> Result<(), Stop>
+pub(crate) fn read_operand(reader: &mut Reader, depth: usize, context: Context) -> ReadResult
     requires room { HasRoom 1 (state reader.old) }
     ensures reads { Gives result reader.new
         (spec.operand_by (spec.parse_expression depth context) (state reader.old)) }
@@ -283,13 +242,8 @@ pub(crate) fn read_operand(reader: &mut Reader, depth: usize, context: Context) 
 
 /// Reads an operand in its own frame. Pieces that lived before keep their shapes. The output afterwards is the old
 /// output followed by the operand's text.
-#[tactic(auto, using(itanium_reader::proofs::Rules::buffers))]
 #[cycle(reader)]
-pub(crate) fn framed_operand(
-    reader: &mut Reader,
-    depth: usize,
-    context: Context,
-) -> Result<(), Stop>
+pub(crate) fn framed_operand(reader: &mut Reader, depth: usize, context: Context) -> ReadResult
     requires room { HasRoom 1 (state reader.old) }
     ensures reads { Gives result reader.new
         (spec.operand_by (spec.parse_expression depth context) (state reader.old)) }
@@ -307,13 +261,8 @@ pub(crate) fn framed_operand(
 
 /// Reads an `<expression>` in its own frame. Pieces that lived before keep their shapes. The output afterwards is the
 /// old output followed by the expression's text.
-#[tactic(auto, using(itanium_reader::proofs::Rules::buffers))]
 #[cycle(reader)]
-pub(crate) fn framed_expression(
-    reader: &mut Reader,
-    depth: usize,
-    context: Context,
-) -> Result<(), Stop>
+pub(crate) fn framed_expression(reader: &mut Reader, depth: usize, context: Context) -> ReadResult
     requires room { HasRoom 1 (state reader.old) }
     ensures reads { Gives result reader.new (spec.parse_expression depth context (state reader.old)) }
     ensures kept { OnOk result (SameFrame reader.old.buffer.value reader.new.buffer.value) }

@@ -1,5 +1,5 @@
 //! Names (Itanium C++ ABI 5.1.2).
-ghost use Rattle.std.specs.Prelude.{◌≡◌, ◌++◌, length, None, Some, IfOk, OnOk, true, false};
+ghost use Rattle.std.specs.Prelude.{◌≡◌, ◌++◌, None, Some, IfOk, OnOk, true, false};
 ghost use Rattle.demangle_text.specs.State.{IsLiving, shape, IsRun, SameFrame, main_bytes};
 ghost use Rattle.demangle_text.specs.Shape.{text};
 ghost use Rattle.demangle_text.specs.Calls.{IsLast};
@@ -14,8 +14,7 @@ use crate::args::read_template_args;
 use crate::encodings::read_local_name;
 use crate::types::{read_params, read_type};
 use demangle_edit::{close_opened, open_parent};
-use demangle_text::Piece;
-use itanium_reader::{Reader, Stop};
+use itanium_reader::{ReadResult, Reader, Stop};
 use itanium_syntax::args::{AttachedCase, attached_case};
 use itanium_syntax::context::Context;
 use itanium_syntax::encodings::EncodingEnd;
@@ -34,7 +33,7 @@ pub(crate) fn read_closure_type_name(
     reader: &mut Reader,
     depth: usize,
     context: Context,
-) -> Result<(), Stop>
+) -> ReadResult
     requires room { HasRoom 2 (state reader.old) }
     ensures reads { Gives result reader.new (spec.parse_lambda (spec.parse_type depth context) (state reader.old)) }
     ensures run { OnOk result (IsRun reader.old.buffer.value reader.new.buffer.value) }
@@ -50,11 +49,7 @@ pub(crate) fn read_closure_type_name(
 /// Reads an `<unqualified-name>` that needs no parent, which is any but a `<ctor-dtor-name>`. ABI tags aren't read.
 #[tactic(auto, using(itanium_reader::proofs::Rules::ordinary_names))]
 #[cycle(reader)]
-pub(crate) fn read_ordinary_name(
-    reader: &mut Reader,
-    depth: usize,
-    context: Context,
-) -> Result<(), Stop>
+pub(crate) fn read_ordinary_name(reader: &mut Reader, depth: usize, context: Context) -> ReadResult
     requires room { HasRoom 0 (state reader.old) }
     ensures reads { Gives result reader.new (spec.ordinary_as (ordinary_case reader.old.rest.now)
         (spec.parse_type depth context) (spec.parse_type depth (inside_lambda context)) (state reader.old)) }
@@ -97,10 +92,9 @@ pub(crate) fn read_unqualified_name(
     reader: &mut Reader,
     depth: usize,
     context: Context,
-) -> Result<(), Stop>
+) -> ReadResult
     requires room { HasRoom 0 (state reader.old) }
-    ensures reads { Gives result reader.new
-        (spec.unqualified_name depth context None (state reader.old)) }
+    ensures reads { Gives result reader.new (spec.unqualified_name depth context None (state reader.old)) }
     ensures run { OnOk result (IsRun reader.old.buffer.value reader.new.buffer.value) }
     ensures last { OnOk result (IsLast reader.new.buffer.value reader.new.found) }
     ensures bounds { TakesSome 0 result (state reader.old) (state reader.new) }
@@ -119,13 +113,11 @@ pub(crate) fn read_unqualified_name(
 /// name.
 #[tactic(auto, using(itanium_reader::proofs::Rules::unqualified_names))]
 #[cycle(reader)]
-#[inline(never)]
-pub(crate) fn read_segment(reader: &mut Reader, depth: usize, context: Context) -> Result<(), Stop>
+pub(crate) fn read_segment(reader: &mut Reader, depth: usize, context: Context) -> ReadResult
     requires room { HasRoom 0 (state reader.old) }
     requires living { IsLiving reader.old.buffer.value reader.old.found }
     requires last { IsLast reader.old.buffer.value reader.old.found }
-    ensures reads { Gives result reader.new
-        (spec.unqualified_name depth context
+    ensures reads { Gives result reader.new (spec.unqualified_name depth context
         (Some (shape reader.old.buffer.value reader.old.found)) (state reader.old)) }
     ensures run { OnOk result (IsRun reader.old.buffer.value reader.new.buffer.value) }
     ensures last { OnOk result (IsLast reader.new.buffer.value reader.new.found) }
@@ -152,7 +144,7 @@ pub(crate) fn read_ordinary_segment(
     reader: &mut Reader,
     depth: usize,
     context: Context,
-) -> Result<(), Stop>
+) -> ReadResult
     requires room { HasRoom 0 (state reader.old) }
     requires living { IsLiving reader.old.buffer.value reader.old.found }
     ensures reads { Gives result reader.new
@@ -224,15 +216,10 @@ pub(crate) fn read_first_segment(
 #[tactic(auto, using(itanium_reader::proofs::Rules::nested_names))]
 #[cycle(reader)]
 #[inline(always)]
-pub(crate) fn read_nested_name(
-    reader: &mut Reader,
-    depth: usize,
-    context: Context,
-) -> Result<(), Stop>
+pub(crate) fn read_nested_name(reader: &mut Reader, depth: usize, context: Context) -> ReadResult
     requires room { HasRoom 2 (state reader.old) }
     ensures reads { GivesBareName result reader.new (spec.parse_nested
-        (spec.unqualified_name depth context)
-        (spec.parse_args depth context true) context (state reader.old)) }
+        (spec.unqualified_name depth context) (spec.parse_args depth context true) context (state reader.old)) }
     ensures run { OnOk result (IsRun reader.old.buffer.value reader.new.buffer.value) }
     ensures bounds { TakesSome 1 result (state reader.old) (state reader.new) }
     ensures saved { SavedBounds 1 result (state reader.old) (state reader.new) }
@@ -258,11 +245,10 @@ pub(crate) fn read_nested_name(
 #[tactic(auto, using(itanium_reader::proofs::Rules::segments))]
 #[cycle(reader)]
 #[inline(always)]
-pub(crate) fn read_prefix(reader: &mut Reader, depth: usize, context: Context) -> Result<(), Stop>
+pub(crate) fn read_prefix(reader: &mut Reader, depth: usize, context: Context) -> ReadResult
     requires room { HasRoom 2 (state reader.old) }
     ensures reads { Gives result reader.new (spec.parse_after_quals
-        (spec.unqualified_name depth context)
-        (spec.parse_args depth context true) context (state reader.old)) }
+        (spec.unqualified_name depth context) (spec.parse_args depth context true) context (state reader.old)) }
     ensures run { OnOk result (IsRun reader.old.buffer.value reader.new.buffer.value) }
     ensures bounds { TakesSome 1 result (state reader.old) (state reader.new) }
     ensures saved { SavedBounds 1 result (state reader.old) (state reader.new) }
@@ -300,16 +286,10 @@ pub(crate) fn read_prefix(reader: &mut Reader, depth: usize, context: Context) -
 /// function returns `Stop::Unread`.
 #[tactic(auto, using(itanium_reader::proofs::Rules::segments))]
 #[cycle(reader)]
-pub(crate) fn read_unscoped_name(
-    reader: &mut Reader,
-    depth: usize,
-    context: Context,
-) -> Result<(), Stop>
+pub(crate) fn read_unscoped_name(reader: &mut Reader, depth: usize, context: Context) -> ReadResult
     requires room { HasRoom 0 (state reader.old) }
-    ensures reads { Gives result reader.new
-        (spec.unscoped_as (unscoped_case reader.old.rest.now)
-        (spec.unqualified_name depth context)
-        (spec.parse_args depth context true) (state reader.old)) }
+    ensures reads { Gives result reader.new (spec.unscoped_as (unscoped_case reader.old.rest.now)
+        (spec.unqualified_name depth context) (spec.parse_args depth context true) (state reader.old)) }
     ensures run { OnOk result (IsRun reader.old.buffer.value reader.new.buffer.value) }
     ensures bounds { TakesSome 0 result (state reader.old) (state reader.new) }
     ensures saved { SavedBounds 1 result (state reader.old) (state reader.new) }
@@ -347,12 +327,7 @@ pub(crate) fn read_unscoped_name(
 #[tactic(auto, using(crate::proofs::OwnQualifiers::names))]
 #[cycle(reader)]
 #[inline(always)]
-pub fn read_name(
-    reader: &mut Reader,
-    depth: usize,
-    context: Context,
-    bare: bool,
-) -> Result<(), Stop>
+pub fn read_name(reader: &mut Reader, depth: usize, context: Context, bare: bool) -> ReadResult
     requires room { HasRoom 1 (state reader.old) }
     ensures reads { GivesName bare result reader.new depth context (state reader.old) }
     ensures fits { OnOk result (spec.is_too_wide (shape reader.new.buffer.value reader.new.found) ≡ false) }
@@ -392,14 +367,13 @@ pub fn read_name(
 
 /// Reads a `<name>` in its own frame. Pieces that lived before keep their shapes. The output afterwards is the old
 /// output followed by the name's text.
-#[tactic(auto, using(itanium_reader::proofs::Rules::buffers))]
 #[cycle(reader)]
 pub(crate) fn framed_name(
     reader: &mut Reader,
     depth: usize,
     context: Context,
     bare: bool,
-) -> Result<(), Stop>
+) -> ReadResult
     requires room { HasRoom 1 (state reader.old) }
     ensures reads { GivesName bare result reader.new depth context (state reader.old) }
     ensures kept { OnOk result (SameFrame reader.old.buffer.value reader.new.buffer.value) }

@@ -7,7 +7,7 @@ ghost use Rattle.itanium_reader.specs.Outcome.{state, Gives, HasRoom, TakesSome,
 use crate::encodings::read_encoding;
 use crate::names::framed_name;
 use crate::types::{framed_type, read_type};
-use itanium_reader::{Reader, Stop};
+use itanium_reader::{ReadResult, Reader, Stop};
 use itanium_syntax::context::Context;
 use itanium_syntax::encodings::EncodingEnd;
 use itanium_syntax::offsets::past_base_offset;
@@ -16,15 +16,10 @@ use itanium_syntax::specials::{SpecialCase, special_case, special_close, special
 /// Reads `TV <type>`, `TT <type>`, `TI <type>`, `TS <type>` or `TF <type>`.
 #[tactic(auto, using(itanium_reader::proofs::Rules::words))]
 #[cycle(reader)]
-pub(crate) fn read_type_special(
-    reader: &mut Reader,
-    depth: usize,
-    context: Context,
-) -> Result<(), Stop>
+pub(crate) fn read_type_special(reader: &mut Reader, depth: usize, context: Context) -> ReadResult
     requires room { HasRoom 0 (state reader.old) }
     requires some { 0 < length reader.old.rest.now }
-    ensures reads { Gives result reader.new
-        (spec.parse_worded (spec.parse_type depth context) (state reader.old)) }
+    ensures reads { Gives result reader.new (spec.parse_worded (spec.parse_type depth context) (state reader.old)) }
     ensures run { OnOk result (IsRun reader.old.buffer.value reader.new.buffer.value) }
     ensures bounds { TakesSome 0 result (state reader.old) (state reader.new) }
     ensures saved { SavedBounds 1 result (state reader.old) (state reader.new) }
@@ -41,15 +36,10 @@ pub(crate) fn read_type_special(
 /// Reads `TH <name>`, `TW <name>` or `GV <name>`.
 #[tactic(auto, using(itanium_reader::proofs::Rules::words))]
 #[cycle(reader)]
-pub(crate) fn read_name_special(
-    reader: &mut Reader,
-    depth: usize,
-    context: Context,
-) -> Result<(), Stop>
+pub(crate) fn read_name_special(reader: &mut Reader, depth: usize, context: Context) -> ReadResult
     requires room { HasRoom 0 (state reader.old) }
     requires some { 0 < length reader.old.rest.now }
-    ensures reads { Gives result reader.new
-        (spec.parse_worded (spec.parse_name depth context) (state reader.old)) }
+    ensures reads { Gives result reader.new (spec.parse_worded (spec.parse_name depth context) (state reader.old)) }
     ensures run { OnOk result (IsRun reader.old.buffer.value reader.new.buffer.value) }
     ensures bounds { TakesSome 0 result (state reader.old) (state reader.new) }
     ensures saved { SavedBounds 1 result (state reader.old) (state reader.new) }
@@ -64,17 +54,11 @@ pub(crate) fn read_name_special(
 }
 
 /// Reads `GR <name> [<seq-id>] _`, a reference temporary.
-#[tactic(auto, using(itanium_reader::proofs::Rules::buffers))]
 #[cycle(reader)]
-pub(crate) fn read_temporary(
-    reader: &mut Reader,
-    depth: usize,
-    context: Context,
-) -> Result<(), Stop>
+pub(crate) fn read_temporary(reader: &mut Reader, depth: usize, context: Context) -> ReadResult
     requires room { HasRoom 0 (state reader.old) }
     requires some { 0 < length reader.old.rest.now }
-    ensures reads { Gives result reader.new
-        (spec.parse_temporary (spec.parse_name depth context) (state reader.old)) }
+    ensures reads { Gives result reader.new (spec.parse_temporary (spec.parse_name depth context) (state reader.old)) }
     ensures run { OnOk result (IsRun reader.old.buffer.value reader.new.buffer.value) }
     ensures bounds { TakesSome 0 result (state reader.old) (state reader.new) }
     ensures saved { SavedBounds 1 result (state reader.old) (state reader.new) }
@@ -87,11 +71,7 @@ pub(crate) fn read_temporary(
 /// Reads `TC <type> <offset number> _ <base type>`, a construction vtable.
 #[tactic(auto, using(itanium_reader::proofs::Rules::words))]
 #[cycle(reader)]
-pub(crate) fn read_construction(
-    reader: &mut Reader,
-    depth: usize,
-    context: Context,
-) -> Result<(), Stop>
+pub(crate) fn read_construction(reader: &mut Reader, depth: usize, context: Context) -> ReadResult
     requires room { HasRoom 0 (state reader.old) }
     requires some { 0 < length reader.old.rest.now }
     ensures reads { Gives result reader.new
@@ -123,7 +103,7 @@ pub(crate) fn read_thunk(
     depth: usize,
     context: Context,
     end: EncodingEnd,
-) -> Result<(), Stop>
+) -> ReadResult
     requires room { HasRoom 1 (state reader.old) }
     requires some { 0 < length reader.old.rest.now }
     ensures reads { Gives result reader.new (spec.parse_thunk depth end context (state reader.old)) }
@@ -146,13 +126,12 @@ pub(crate) fn read_thunk(
 /// Reads `<special-name>`. Returns `Stop::Unread` for a special name that isn't supported.
 #[tactic(auto, using(itanium_reader::proofs::Rules::specials))]
 #[cycle(reader)]
-#[inline(never)]
 pub fn read_special_name(
     reader: &mut Reader,
     depth: usize,
     context: Context,
     end: EncodingEnd,
-) -> Result<(), Stop>
+) -> ReadResult
     requires room { HasRoom 1 (state reader.old) }
     ensures reads { Gives result reader.new (spec.parse_special depth end context (state reader.old)) }
     ensures run { OnOk result (IsRun reader.old.buffer.value reader.new.buffer.value) }

@@ -1,4 +1,4 @@
-//! Types (Itanium C++ ABI 5.1.5).
+//! Types (Itanium C++ ABI 5.1.5). Five readers aren't inlined, to keep the stack frame of other types small.
 ghost use Rattle.std.specs.Prelude.{◌≡◌, ◌<◌, ◌++◌, OnOk, length, false};
 ghost use Rattle.demangle_text.specs.State.{IsLiving, shape, IsRun, SameFrame, main_bytes};
 ghost use Rattle.demangle_text.specs.Shape.{text};
@@ -9,28 +9,25 @@ ghost use Rattle.itanium_reader.specs.Outcome.{state, Gives, HasRoom, TakesSome,
 
 use crate::args::read_template_args;
 use crate::names::{framed_name, read_name};
-use demangle_edit::{Pointer, Quals, append_piece, open_function};
+use demangle_edit::{
+    Pointer, Quals, append_piece, close_function, expand, open_function, wrap_array, wrap_cv,
+};
 use demangle_text::Piece;
-use itanium_reader::{Reader, Stop};
+use itanium_reader::{ReadResult, Reader, Stop};
 use itanium_syntax::args::{AttachedCase, attached_case};
 use itanium_syntax::context::Context;
 use itanium_syntax::encodings::EncodingEnd;
 use itanium_syntax::numerals::optional_number;
 use itanium_syntax::types::{
     CvCase, FunctionCase, ParamsCase, TypeCase, TypesCase, cv_case, cv_quals, elaborated_text,
-    function_case, params_case, type_case, types_case,
+    function_case, params_case, ref_qualifier, type_case, types_case,
 };
 
 /// Reads `<template-args>` if they follow the type in `found`, and saves the type with its arguments as a component.
 /// If no `I` follows, nothing changes.
 #[tactic(auto, using(itanium_reader::proofs::Rules::fronts))]
 #[cycle(reader)]
-#[inline(always)]
-pub(crate) fn read_type_attached(
-    reader: &mut Reader,
-    depth: usize,
-    context: Context,
-) -> Result<(), Stop>
+pub(crate) fn read_type_attached(reader: &mut Reader, depth: usize, context: Context) -> ReadResult
     requires room { HasRoom 1 (state reader.old) }
     requires living { IsLiving reader.old.buffer.value reader.old.found }
     ensures reads { Gives result reader.new (spec.type_attached_as (attached_case reader.old.rest.now)
@@ -52,7 +49,7 @@ pub(crate) fn read_type_attached(
 /// Reads `<type>`. At most `depth` counted productions may nest, this one included.
 #[tactic(auto, using(itanium_reader::proofs::Rules::types))]
 #[cycle(reader)]
-pub(crate) fn read_type(reader: &mut Reader, depth: usize, context: Context) -> Result<(), Stop>
+pub(crate) fn read_type(reader: &mut Reader, depth: usize, context: Context) -> ReadResult
     requires room { HasRoom 2 (state reader.old) }
     ensures reads { Gives result reader.new (spec.parse_type depth context (state reader.old)) }
     ensures run { OnOk result (IsRun reader.old.buffer.value reader.new.buffer.value) }
@@ -100,13 +97,9 @@ pub(crate) fn read_type(reader: &mut Reader, depth: usize, context: Context) -> 
 }
 
 /// Reads `Dp <type>`. The `...` is printed unless `context.dots_hidden` is set.
-#[tactic(auto, using(itanium_reader::proofs::Rules::buffers))]
 #[cycle(reader)]
-pub(crate) fn read_expansion(
-    reader: &mut Reader,
-    depth: usize,
-    context: Context,
-) -> Result<(), Stop>
+#[inline(never)]
+pub(crate) fn read_expansion(reader: &mut Reader, depth: usize, context: Context) -> ReadResult
     requires room { HasRoom 1 (state reader.old) }
     requires some { 0 < length reader.old.rest.now }
     ensures reads { Gives result reader.new
@@ -117,18 +110,17 @@ pub(crate) fn read_expansion(
 {
     reader.skip(2);
     read_type(reader, depth, context)?;
-    reader.save_expansion(context.dots_hidden)?;
+    if !context.dots_hidden {
+        reader.found = expand(&mut reader.buffer, reader.found)?;
+    }
+    reader.save_found()?;
     Ok(())
 }
 
 /// Reads `<array-type> ::= A [<number>] _ <type>`. Returns `Stop::Unread` also for an array of functions.
-#[tactic(auto, using(itanium_reader::proofs::Rules::buffers))]
 #[cycle(reader)]
-pub(crate) fn read_array_type(
-    reader: &mut Reader,
-    depth: usize,
-    context: Context,
-) -> Result<(), Stop>
+#[inline(never)]
+pub(crate) fn read_array_type(reader: &mut Reader, depth: usize, context: Context) -> ReadResult
     requires room { HasRoom 1 (state reader.old) }
     requires some { 0 < length reader.old.rest.now }
     ensures reads { Gives result reader.new (spec.parse_array (spec.parse_type depth context) (state reader.old)) }
@@ -142,18 +134,22 @@ pub(crate) fn read_array_type(
     };
     reader.rest = rest;
     read_type(reader, depth, context)?;
-    reader.save_array(dimension)
+    let Some(array) = wrap_array(&mut reader.buffer, reader.found, dimension)? else {
+        return Err(Stop::Unread);
+    };
+    reader.found = array;
+    reader.save_found()?;
+    Ok(())
 }
 
 /// Reads `P <type>`, `R <type>` or `O <type>`, and saves the pointer or reference as a component.
-#[tactic(auto, using(itanium_reader::proofs::Rules::buffers))]
 #[cycle(reader)]
 pub(crate) fn read_pointer(
     reader: &mut Reader,
     depth: usize,
     context: Context,
     kind: Pointer,
-) -> Result<(), Stop>
+) -> ReadResult
     requires room { HasRoom 1 (state reader.old) }
     requires some { 0 < length reader.old.rest.now }
     ensures reads { Gives result reader.new (spec.parse_pointer
@@ -168,16 +164,11 @@ pub(crate) fn read_pointer(
     Ok(())
 }
 
-/// Reads `<class-enum-type> ::= Ts <name> | Tu <name> | Te <name>`. The production is rare. The function isn't
-/// inlined, to keep the stack frame of other types small.
+/// Reads `<class-enum-type> ::= Ts <name> | Tu <name> | Te <name>`.
 #[tactic(auto, using(itanium_reader::proofs::Rules::words))]
 #[cycle(reader)]
 #[inline(never)]
-pub(crate) fn read_elaborated(
-    reader: &mut Reader,
-    depth: usize,
-    context: Context,
-) -> Result<(), Stop>
+pub(crate) fn read_elaborated(reader: &mut Reader, depth: usize, context: Context) -> ReadResult
     requires room { HasRoom 1 (state reader.old) }
     ensures reads { Gives result reader.new (spec.parse_elaborated (spec.parse_name depth context) (state reader.old)) }
     ensures run { OnOk result (IsRun reader.old.buffer.value reader.new.buffer.value) }
@@ -194,10 +185,8 @@ pub(crate) fn read_elaborated(
 
 /// Reads a `<type>` in its own frame. Pieces that lived before keep their shapes. The output afterwards is the old
 /// output followed by the type's text.
-#[tactic(auto, using(itanium_reader::proofs::Rules::buffers))]
 #[cycle(reader)]
-#[inline(always)]
-pub(crate) fn framed_type(reader: &mut Reader, depth: usize, context: Context) -> Result<(), Stop>
+pub(crate) fn framed_type(reader: &mut Reader, depth: usize, context: Context) -> ReadResult
     requires room { HasRoom 2 (state reader.old) }
     ensures reads { Gives result reader.new (spec.parse_type depth context (state reader.old)) }
     ensures kept { OnOk result (SameFrame reader.old.buffer.value reader.new.buffer.value) }
@@ -213,13 +202,12 @@ pub(crate) fn framed_type(reader: &mut Reader, depth: usize, context: Context) -
 }
 
 /// Reads `<pointer-to-member-type> ::= M <type> <type>`: first the class, then the member's type in its own frame.
-#[tactic(auto, using(itanium_reader::proofs::Rules::buffers))]
 #[cycle(reader)]
 pub(crate) fn read_pointer_to_member_type(
     reader: &mut Reader,
     depth: usize,
     context: Context,
-) -> Result<(), Stop>
+) -> ReadResult
     requires room { HasRoom 1 (state reader.old) }
     requires some { 0 < length reader.old.rest.now }
     ensures reads { Gives result reader.new (spec.parse_member (spec.parse_type depth context) (state reader.old)) }
@@ -235,9 +223,9 @@ pub(crate) fn read_pointer_to_member_type(
 }
 
 /// Reads `<qualified-type> ::= <CV-qualifiers> <type>`. The qualifiers of a function type become part of that type.
-#[tactic(auto, using(itanium_reader::proofs::Rules::buffers))]
 #[cycle(reader)]
-pub(crate) fn read_cv(reader: &mut Reader, depth: usize, context: Context) -> Result<(), Stop>
+#[inline(never)]
+pub(crate) fn read_cv(reader: &mut Reader, depth: usize, context: Context) -> ReadResult
     requires room { HasRoom 1 (state reader.old) }
     requires some { length (past_cv reader.old.rest.now) < length reader.old.rest.now }
     ensures reads { Gives result reader.new (spec.parse_cv (spec.parse_type depth context) (state reader.old)) }
@@ -251,7 +239,7 @@ pub(crate) fn read_cv(reader: &mut Reader, depth: usize, context: Context) -> Re
         CvCase::CvFunction => read_function_type(reader, depth, context, quals),
         CvCase::CvOther => {
             read_type(reader, depth, context)?;
-            reader.wrap_found(quals)?;
+            reader.found = wrap_cv(&mut reader.buffer, reader.found, quals)?;
             Ok(())
         }
     }
@@ -259,14 +247,14 @@ pub(crate) fn read_cv(reader: &mut Reader, depth: usize, context: Context) -> Re
 
 /// Reads `<function-type> ::= F <return type> <parameter types> [<ref-qualifier>] E`. `quals` are the qualifiers that
 /// stood in front of the `F`. Returns `Stop::Unread` for a function type with `Y` (extern "C").
-#[tactic(auto, using(itanium_reader::proofs::Rules::buffers))]
 #[cycle(reader)]
+#[inline(never)]
 pub(crate) fn read_function_type(
     reader: &mut Reader,
     depth: usize,
     context: Context,
     quals: Quals,
-) -> Result<(), Stop>
+) -> ReadResult
     requires room { HasRoom 1 (state reader.old) }
     requires some { 0 < length reader.old.rest.now }
     ensures reads { Gives result reader.new (spec.parse_function
@@ -285,7 +273,12 @@ pub(crate) fn read_function_type(
                 return Err(Stop::Unread);
             };
             read_params(reader, depth, context, EncodingEnd::AtE, true, list)?;
-            reader.end_function(front, quals)
+            let (reference, rest) = ref_qualifier(reader.rest);
+            let all = Quals { reference, ..quals };
+            reader.found = close_function(&mut reader.buffer, reader.found, front, all)?;
+            reader.rest = rest;
+            reader.skip(1);
+            Ok(())
         }
     }
 }
@@ -302,7 +295,7 @@ pub(crate) fn read_params(
     end: EncodingEnd,
     of_function: bool,
     list: Piece,
-) -> Result<(), Stop>
+) -> ReadResult
     requires room { HasRoom 2 (state reader.old) }
     requires living { IsLiving reader.old.buffer.value list }
     ensures reads { Gives result reader.new (spec.typed_params_as (params_case end reader.old.rest.now) end of_function

@@ -7,7 +7,7 @@ use Rattle.std.specs.Option.{unwrap_or}
 use Rattle.demangle_quals.specs.declared.quals.Quals.{Quals}
 use Rattle.demangle_quals.specs.Quals.{no_quals}
 use Rattle.itanium_syntax.specs.declared.context.Context.{Context}
-use Rattle.itanium_reader.specs.Parser.{ParserState, Parses, Turn, loop, enter, with_rest, save_unsaved, is_too_wide}
+use Rattle.itanium_reader.specs.Parser.{ParserState, Parses, Turn, loop, enter, save_unsaved, is_too_wide}
 use Rattle.itanium_reader.specs.Parser.{parse_bare_name, parse_name}
 use Rattle.itanium_reader.specs.declared.reader.Reader.{Reader}
 use Rattle.itanium_reader.specs.declared.stop.Stop.{Stop}
@@ -79,12 +79,6 @@ ChecksWidth (Err e) t = (e ≡ Unread) × (is_too_wide t ≡ true)
 -- would still fit 64 bits.
 abbrev pub HasRoom : ℕ → ParserState → Type 0
 HasRoom more s = s.entered + 2 * length s.rest + more < 2 ^ 64
-
--- A reading takes bytes, and all else of the state stays. A run that fails leaves all of it.
-abbrev pub OnlyTakes : Result (Unit {0}) Stop → ParserState → ParserState → Type 0
-OnlyTakes (Ok u) before after = (length after.rest < length before.rest) × (after ≡ with_rest after.rest before)
-OnlyTakes (Err Unread) before after = after ≡ before
-OnlyTakes (Err Memory) before after = Unit {0}
 
 -- What a successful reading costs.
 pub record CostBounds (least slack : ℕ) (before after : ParserState) : Type 0 where

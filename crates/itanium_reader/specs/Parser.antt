@@ -555,10 +555,6 @@ abbrev pub literal_end : Shape → Parses Shape
 literal_end type s =
     literal_value s.rest >>= λ found. literal_step type found.0 >>= λ literal. Some (literal, with_rest found.1 s)
 
--- a type, and the value of a literal after it
-abbrev pub literal_by : Parses Shape → Parses Shape
-literal_by type s = type s >>= λ t. literal_end t.0 t.1
-
 -- <expr-primary>, by what it begins with
 abbrev pub literal_as : LiteralCase → Parses Shape → Parses Shape → Parses Shape
 literal_as ExternalName type encoding s = ended (encoding (skip 3 s))

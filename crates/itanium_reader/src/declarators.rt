@@ -1,19 +1,16 @@
 //! Methods for types. Most make a type of the one in `found`, and append it to the substitution table.
 ghost use Rattle.std.specs.Prelude.{◌≡◌, OnOk};
-ghost use Rattle.demangle_text.specs.State.{IsLiving, shape, Lives, IsRun, SameFrame, scopes};
-ghost use Rattle.demangle_edit.specs.Types.{pointer_shape, cv_shape};
+ghost use Rattle.demangle_text.specs.State.{IsLiving, shape, Lives, IsRun};
+ghost use Rattle.demangle_edit.specs.Types.{pointer_shape};
 ghost use Rattle.itanium_syntax.specs.Args.{attached_case};
 ghost use Rattle.itanium_reader.specs.Parser as spec;
 ghost use Rattle.itanium_reader.specs.Outcome.{state, Gives, TakesSome, MayTakeNone, SavedBounds, SavesOne};
 
 use crate::reader::Reader;
-use crate::stop::Stop;
-use demangle_edit::{
-    Pointer, Quals, close_function, expand, wrap_array, wrap_cv, wrap_member_pointer, wrap_pointer,
-};
+use crate::stop::{ReadResult, Stop};
+use demangle_edit::{Pointer, wrap_member_pointer, wrap_pointer};
 use demangle_text::Piece;
 use itanium_syntax::args::{AttachedCase, attached_case};
-use itanium_syntax::types::ref_qualifier;
 use std::alloc::AllocError;
 
 impl<'a> Reader<'a> {
@@ -32,60 +29,13 @@ impl<'a> Reader<'a> {
         self.save_found()
     }
 
-    /// Adds the words of the qualifiers to the type in `found`.
-    pub fn wrap_found(&mut self, quals: Quals) -> Result<(), AllocError>
-        requires living { IsLiving self.old.buffer.value self.old.found }
-        ensures shape { OnOk result (Lives self.new.buffer.value self.new.found (cv_shape quals
-            (shape self.old.buffer.value self.old.found))) }
-        ensures state { OnOk result (state self.new ≡ state self.old) }
-        ensures run { OnOk result (IsRun self.old.buffer.value self.new.buffer.value) }
-    {
-        self.found = wrap_cv(&mut self.buffer, self.found, quals)?;
-        Ok(())
-    }
-
-    /// Replaces the type in `found` by its pack expansion, and saves that as a component. `...` is appended unless
-    /// `in_pack` is true.
-    pub fn save_expansion(&mut self, in_pack: bool) -> Result<(), AllocError>
-        requires living { IsLiving self.old.buffer.value self.old.found }
-        ensures shape { OnOk result (Lives self.new.buffer.value self.new.found
-            (spec.expansion_in in_pack (shape self.old.buffer.value self.old.found))) }
-        ensures state { OnOk result (state self.new ≡ spec.save
-            (spec.expansion_in in_pack (shape self.old.buffer.value self.old.found)) (state self.old)) }
-        ensures run { OnOk result (IsRun self.old.buffer.value self.new.buffer.value) }
-    {
-        if !in_pack {
-            self.found = expand(&mut self.buffer, self.found)?;
-        }
-        self.save_found()
-    }
-
-    /// Replaces the type in `found` by an array of it, and saves that as a component. Returns `Stop::Unread` for an
-    /// array of functions.
-    pub fn save_array(&mut self, dimension: Option<u64>) -> Result<(), Stop>
-        requires living { IsLiving self.old.buffer.value self.old.found }
-        ensures reads { Gives result self.new (spec.saved_array dimension
-            (shape self.old.buffer.value self.old.found) (state self.old)) }
-        ensures run { OnOk result (IsRun self.old.buffer.value self.new.buffer.value) }
-        ensures bounds { MayTakeNone 1 result (state self.old) (state self.new) }
-        ensures one { SavesOne result (state self.old) (state self.new) }
-    {
-        let Some(whole) = wrap_array(&mut self.buffer, self.found, dimension)? else {
-            return Err(Stop::Unread);
-        };
-        self.found = whole;
-        self.save_found()?;
-        Ok(())
-    }
-
     /// Replaces the type in `found` by a pointer to a member of `class` of that type, and saves the pointer as a
     /// component. Returns `Stop::Unread` if the member's type is an array.
-    pub fn save_member(&mut self, class: Piece) -> Result<(), Stop>
+    pub fn save_member(&mut self, class: Piece) -> ReadResult
         requires class { IsLiving self.old.buffer.value class }
         requires living { IsLiving self.old.buffer.value self.old.found }
-        ensures reads { Gives result self.new
-            (spec.saved_member (shape self.old.buffer.value class)
-            (shape self.old.buffer.value self.old.found) (state self.old)) }
+        ensures reads { Gives result self.new (spec.saved_member
+            (shape self.old.buffer.value class) (shape self.old.buffer.value self.old.found) (state self.old)) }
         ensures run { OnOk result (IsRun self.old.buffer.value self.new.buffer.value) }
         ensures bounds { MayTakeNone 1 result (state self.old) (state self.new) }
         ensures one { SavesOne result (state self.old) (state self.new) }
@@ -98,27 +48,8 @@ impl<'a> Reader<'a> {
         Ok(())
     }
 
-    /// Reads `[<ref-qualifier>] E` and completes the function type. Before the call, `found` is the return type with
-    /// the list of parameters. The return type has `front` bytes.
-    #[inline(never)]
-    pub fn end_function(&mut self, front: usize, quals: Quals) -> Result<(), Stop>
-        requires living { IsLiving self.old.buffer.value self.old.found }
-        ensures reads { Gives result self.new (spec.function_end front quals
-            (shape self.old.buffer.value self.old.found) (state self.old)) }
-        ensures run { OnOk result (IsRun self.old.buffer.value self.new.buffer.value) }
-        ensures bounds { MayTakeNone 1 result (state self.old) (state self.new) }
-        ensures saved { SavedBounds 0 result (state self.old) (state self.new) }
-    {
-        let (reference, rest) = ref_qualifier(self.rest);
-        let all = Quals { reference, ..quals };
-        self.found = close_function(&mut self.buffer, self.found, front, all)?;
-        self.rest = rest;
-        self.skip(1);
-        Ok(())
-    }
-
     /// Reads `u <source-name>`. Returns `Stop::Unread` if `<template-args>` follow.
-    pub fn read_vendor_type(&mut self) -> Result<(), Stop>
+    pub fn read_vendor_type(&mut self) -> ReadResult
         ensures reads { Gives result self.new (spec.parse_vendor (state self.old)) }
         ensures run { OnOk result (IsRun self.old.buffer.value self.new.buffer.value) }
         ensures bounds { TakesSome 0 result (state self.old) (state self.new) }
@@ -126,12 +57,10 @@ impl<'a> Reader<'a> {
     {
         self.skip(1);
         self.read_source_name()?;
-        match attached_case(self.rest) {
-            AttachedCase::NoneAttached => {
-                self.save_found()?;
-                Ok(())
-            }
-            AttachedCase::ArgsAttached => Err(Stop::Unread),
+        if let AttachedCase::ArgsAttached = attached_case(self.rest) {
+            return Err(Stop::Unread);
         }
+        self.save_found()?;
+        Ok(())
     }
 }

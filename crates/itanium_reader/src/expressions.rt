@@ -1,22 +1,20 @@
 //! Literals, external names and expressions (Itanium C++ ABI 5.1, "Expressions").
-ghost use Rattle.std.specs.Prelude.{◌≡◌, ◌<◌, codes, OnOk};
-ghost use Rattle.demangle_text.specs.Shape.{plain_shape};
+ghost use Rattle.std.specs.Prelude.{◌≡◌, ◌<◌, OnOk};
 ghost use Rattle.demangle_text.specs.State.{IsLiving, Lives, shape, IsRun, SameFrame};
 ghost use Rattle.demangle_edit.specs.Expressions.{operand_shape};
-ghost use Rattle.itanium_grammar.specs.Tree.{post_shape, binary_shape, greater_shape};
+ghost use Rattle.itanium_grammar.specs.Tree.{binary_shape};
 ghost use Rattle.itanium_reader.specs.Parser as spec;
 ghost use Rattle.itanium_reader.specs.Outcome.{state, Gives, TakesSome, SavedBounds};
 
 use crate::reader::Reader;
-use crate::stop::Stop;
-use demangle_edit::{Glue, glue, subexpr, write_opened_literal};
-use demangle_text::{Piece, Place};
-use itanium_syntax::expressions::literal_value;
+use crate::stop::{ReadResult, Stop};
+use demangle_edit::subexpr;
+use demangle_text::Piece;
 use std::alloc::AllocError;
 
 impl<'a> Reader<'a> {
     /// Reads the `E` after `found`. Returns `Stop::Unread` if another byte is next.
-    pub fn read_end(&mut self) -> Result<(), Stop>
+    pub fn read_end(&mut self) -> ReadResult
         requires living { IsLiving self.old.buffer.value self.old.found }
         ensures reads { Gives result self.new
             (spec.ended (Some (shape self.old.buffer.value self.old.found, state self.old))) }
@@ -33,28 +31,6 @@ impl<'a> Reader<'a> {
         }
     }
 
-    /// Reads the value of a literal and the `E` after it. The literal's type is `found`. The piece `paren` is a `(`,
-    /// with which a literal that prints its type in parentheses begins.
-    pub fn end_literal(&mut self, paren: Piece) -> Result<(), Stop>
-        requires paren { Lives self.old.buffer.value paren (plain_shape (codes "(")) }
-        requires living { IsLiving self.old.buffer.value self.old.found }
-        ensures reads { Gives result self.new
-            (spec.literal_end (shape self.old.buffer.value self.old.found) (state self.old)) }
-        ensures run { OnOk result (IsRun self.old.buffer.value self.new.buffer.value) }
-        ensures bounds { TakesSome 0 result (state self.old) (state self.new) }
-        ensures saved { SavedBounds 1 result (state self.old) (state self.new) }
-    {
-        let Some((value, rest)) = literal_value(self.rest) else {
-            return Err(Stop::Unread);
-        };
-        let Some(literal) = write_opened_literal(&mut self.buffer, paren, self.found, value)? else {
-            return Err(Stop::Unread);
-        };
-        self.found = literal;
-        self.rest = rest;
-        Ok(())
-    }
-
     /// Puts `found` in parentheses if `paren` is true.
     #[inline(never)]
     pub fn print_operand(&mut self, paren: bool) -> Result<(), AllocError>
@@ -68,19 +44,6 @@ impl<'a> Reader<'a> {
         Ok(())
     }
 
-    /// Appends an operator's text to `found`.
-    pub fn print_post(&mut self, text: &str) -> Result<(), AllocError>
-        requires living { IsLiving self.old.buffer.value self.old.found }
-        ensures shape { OnOk result (Lives self.new.buffer.value self.new.found
-            (post_shape (shape self.old.buffer.value self.old.found) text.now)) }
-        ensures state { OnOk result (state self.new ≡ state self.old) }
-        ensures run { OnOk result (IsRun self.old.buffer.value self.new.buffer.value) }
-    {
-        let parts = [Glue::Piece(self.found), Glue::Text(text.as_bytes())];
-        self.found = glue(&mut self.buffer, &parts)?;
-        Ok(())
-    }
-
     /// Joins the left operand, the operator's text and the right operand, which is `found`.
     pub fn print_binary(&mut self, left: Piece, text: &str) -> Result<(), AllocError>
         requires left { IsLiving self.old.buffer.value left }
@@ -91,23 +54,6 @@ impl<'a> Reader<'a> {
         ensures run { OnOk result (IsRun self.old.buffer.value self.new.buffer.value) }
     {
         self.found = self.buffer.join(left, text.as_bytes(), self.found)?;
-        Ok(())
-    }
-
-    /// Joins the left expression, `>` and the right expression, which is `found`. Each of the two stands in
-    /// parentheses, and so does the whole.
-    pub fn print_greater(&mut self, left: Piece) -> Result<(), AllocError>
-        requires left { IsLiving self.old.buffer.value left }
-        requires living { IsLiving self.old.buffer.value self.old.found }
-        ensures shape { OnOk result (Lives self.new.buffer.value self.new.found
-            (greater_shape (shape self.old.buffer.value left) (shape self.old.buffer.value self.old.found))) }
-        ensures state { OnOk result (state self.new ≡ state self.old) }
-        ensures run { OnOk result (IsRun self.old.buffer.value self.new.buffer.value) }
-    {
-        let both = self.buffer.join(left, b")>(", self.found)?;
-        let opened = self.buffer.insert(both, Place::Start, b"((")?;
-        let closed = self.buffer.append(opened, b"))")?;
-        self.found = self.buffer.whole(closed);
         Ok(())
     }
 }

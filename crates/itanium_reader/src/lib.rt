@@ -17,4 +17,4 @@ mod specials;
 mod stop;
 
 pub use crate::reader::{MAX_TEXT, Reader, text_limit};
-pub use crate::stop::Stop;
+pub use crate::stop::{ReadResult, Stop};

@@ -1,7 +1,6 @@
 //! Names (Itanium C++ ABI 5.1.2).
-ghost use Rattle.std.specs.Prelude.{◌≡◌, codes, Some, OnOk};
-ghost use Rattle.demangle_text.specs.Shape.{appended};
-ghost use Rattle.demangle_text.specs.State.{IsLiving, shape, Lives, IsEdit, IsRun};
+ghost use Rattle.std.specs.Prelude.{◌≡◌, Some, OnOk};
+ghost use Rattle.demangle_text.specs.State.{IsLiving, shape, Lives, IsRun};
 ghost use Rattle.demangle_text.specs.Calls.{IsLast};
 ghost use Rattle.demangle_edit.specs.Names.{qualified_ctor, with_name_qualifiers};
 ghost use Rattle.itanium_grammar.specs.Tree.{conversion_shape};
@@ -9,7 +8,7 @@ ghost use Rattle.itanium_reader.specs.Parser as spec;
 ghost use Rattle.itanium_reader.specs.Outcome.{state, Gives, TakesSome, MayTakeNone, SavedBounds};
 
 use crate::reader::Reader;
-use crate::stop::Stop;
+use crate::stop::{ReadResult, Stop};
 use demangle_edit::{Quals, append_number, apply_name_qualifiers, close_lambda, qualify_ctor, tag};
 use demangle_text::{Piece, Place};
 use itanium_syntax::names::{TagCase, source_text, tag_case};
@@ -19,26 +18,13 @@ use itanium_syntax::scalar::source_name;
 use std::alloc::AllocError;
 
 impl<'a> Reader<'a> {
-    /// Replaces `found` by the string literal of an encoding: the encoding and `::string literal`.
-    pub fn print_string_literal(&mut self, encoding: Piece) -> Result<(), AllocError>
-        requires living { IsLiving self.old.buffer.value encoding }
-        ensures shape { OnOk result (Lives self.new.buffer.value self.new.found
-            (appended (codes "::string literal") (shape self.old.buffer.value encoding))) }
-        ensures state { OnOk result (state self.new ≡ state self.old) }
-        ensures edit { OnOk result (IsEdit self.old.buffer.value self.new.buffer.value) }
-    {
-        self.found = self.buffer.append(encoding, b"::string literal")?;
-        Ok(())
-    }
-
     /// Reads a `<source-name>` and its ABI tags, and appends `::` and the name to the parent in `found`. If `unsaved`
     /// is true, the parent is saved as a component first.
     #[inline(always)]
-    pub fn read_source_segment(&mut self, unsaved: bool) -> Result<(), Stop>
+    pub fn read_source_segment(&mut self, unsaved: bool) -> ReadResult
         requires living { IsLiving self.old.buffer.value self.old.found }
         requires last { IsLast self.old.buffer.value self.old.found }
-        ensures reads { Gives result self.new (spec.parse_source_in
-            (Some (shape self.old.buffer.value self.old.found))
+        ensures reads { Gives result self.new (spec.parse_source_in (Some (shape self.old.buffer.value self.old.found))
             (spec.save_unsaved unsaved (shape self.old.buffer.value self.old.found) (state self.old))) }
         ensures run { OnOk result (IsRun self.old.buffer.value self.new.buffer.value) }
         ensures last { OnOk result (IsLast self.new.buffer.value self.new.found) }
@@ -77,7 +63,7 @@ impl<'a> Reader<'a> {
     /// Reads `<abi-tags> ::= (B <source-name>)*` and appends them to the name in `found`. Most names have none.
     #[tactic(auto, using(crate::proofs::Rules::tagged_names))]
     #[inline(always)]
-    pub fn read_tags(&mut self) -> Result<(), Stop>
+    pub fn read_tags(&mut self) -> ReadResult
         requires living { IsLiving self.old.buffer.value self.old.found }
         ensures reads { Gives result self.new
             (spec.parse_tags (shape self.old.buffer.value self.old.found) (state self.old)) }
@@ -96,7 +82,7 @@ impl<'a> Reader<'a> {
     /// Reads the tags for `read_tags`, if there is at least one.
     #[tactic(auto, using(crate::proofs::Rules::tags))]
     #[cold]
-    fn read_some_tags(&mut self) -> Result<(), Stop>
+    fn read_some_tags(&mut self) -> ReadResult
         requires living { IsLiving self.old.buffer.value self.old.found }
         ensures reads { Gives result self.new
             (spec.parse_tags (shape self.old.buffer.value self.old.found) (state self.old)) }
@@ -120,7 +106,7 @@ impl<'a> Reader<'a> {
 
     /// Reads `<unnamed-type-name> ::= Ut [<nonnegative number>] _`, after its `Ut`.
     #[inline(never)]
-    pub fn read_unnamed_type(&mut self) -> Result<(), Stop>
+    pub fn read_unnamed_type(&mut self) -> ReadResult
         ensures reads { Gives result self.new (spec.parse_unnamed_type (state self.old)) }
         ensures run { OnOk result (IsRun self.old.buffer.value self.new.buffer.value) }
         ensures last { OnOk result (IsLast self.new.buffer.value self.new.found) }
@@ -140,7 +126,7 @@ impl<'a> Reader<'a> {
 
     /// Reads `<operator-name> ::= li <source-name>`, after its `li`.
     #[inline(never)]
-    pub fn read_literal_operator_name(&mut self) -> Result<(), Stop>
+    pub fn read_literal_operator_name(&mut self) -> ReadResult
         ensures reads { Gives result self.new (spec.parse_literal_operator (state self.old)) }
         ensures run { OnOk result (IsRun self.old.buffer.value self.new.buffer.value) }
         ensures last { OnOk result (IsLast self.new.buffer.value self.new.found) }
@@ -160,7 +146,7 @@ impl<'a> Reader<'a> {
 
     /// Reads an `<operator-name>` that is a code of two letters.
     #[inline(never)]
-    pub fn read_operator_name(&mut self) -> Result<(), Stop>
+    pub fn read_operator_name(&mut self) -> ReadResult
         ensures reads { Gives result self.new (spec.parse_operator (state self.old)) }
         ensures run { OnOk result (IsRun self.old.buffer.value self.new.buffer.value) }
         ensures last { OnOk result (IsLast self.new.buffer.value self.new.found) }
@@ -179,7 +165,7 @@ impl<'a> Reader<'a> {
 
     /// Reads the end of a lambda's parameters, `E [<nonnegative number>] _`.
     #[inline(never)]
-    pub fn end_lambda(&mut self, list: Piece) -> Result<(), Stop>
+    pub fn end_lambda(&mut self, list: Piece) -> ReadResult
         requires living { IsLiving self.old.buffer.value list }
         ensures reads { Gives result self.new (spec.lambda_end (shape self.old.buffer.value list) (state self.old)) }
         ensures run { OnOk result (IsRun self.old.buffer.value self.new.buffer.value) }

@@ -1,19 +1,18 @@
 //! The state that the readers share: the bytes that are left, the buffer with the substitution table, and the last
 //! piece.
-ghost use Rattle.std.specs.Prelude.{◌≡◌, ◌<◌, ◌≤◌, ◌+◌, ◌^◌, ◌++◌, IfOk, OnOk, length, take, max, true, false};
+ghost use Rattle.std.specs.Prelude.{◌≡◌, ◌<◌, ◌≤◌, ◌+◌, ◌^◌, ◌++◌, IfOk, OnOk, length, take, max, true};
 ghost use Rattle.demangle_text.specs.Shape.{plain_shape, text};
 ghost use Rattle.demangle_text.specs.State.{Closes, Stands, frame_start, inside};
 ghost use Rattle.demangle_text.specs.State.{IsLiving, Lives, shape, IsRun, SameFrame, saved, scopes, main_bytes, frame};
 ghost use Rattle.demangle_text.specs.Calls.{IsLast};
 ghost use Rattle.demangle_edit.specs.Built.{separated, separator};
-ghost use Rattle.itanium_syntax.specs.Names.{past_internal, segment_case};
+ghost use Rattle.itanium_syntax.specs.Names.{past_internal};
 ghost use Rattle.itanium_syntax.specs.Types.{builtin_text, past_builtin};
 ghost use Rattle.itanium_grammar.specs.Answer.{max_text};
-ghost use Rattle.itanium_grammar.specs.Cases.{EndOfSegments};
 ghost use Rattle.itanium_reader.specs.Parser as spec;
-ghost use Rattle.itanium_reader.specs.Outcome.{state, Enters, Gives, ChecksWidth, OnlyTakes, HasRoom, TakesSome, SavedBounds};
+ghost use Rattle.itanium_reader.specs.Outcome.{state, Enters, Gives, ChecksWidth, HasRoom, TakesSome, SavedBounds};
 
-use crate::stop::Stop;
+use crate::stop::{ReadResult, Stop};
 use demangle_edit::Quals;
 use demangle_text::{Buffer, Mark, Piece};
 use itanium_syntax::abbreviations::{abbreviation_of, abbreviation_own_len, abbreviation_text};
@@ -147,9 +146,8 @@ impl<'a> Reader<'a> {
         ensures quals { OnOk result (self.new.quals ≡ self.old.quals) }
         ensures entered { self.new.entered ≡ self.old.entered }
         ensures closed { OnOk result (Closes self.old.buffer.value self.new.buffer.value mark) }
-        ensures output { OnOk result (main_bytes self.new.buffer.value
-            ≡ take (frame_start (inside mark)) (main_bytes self.old.buffer.value)
-            ++ text (shape self.old.buffer.value self.old.found)) }
+        ensures output { OnOk result (main_bytes self.new.buffer.value ≡ take (frame_start (inside mark))
+            (main_bytes self.old.buffer.value) ++ text (shape self.old.buffer.value self.old.found)) }
         ensures stands { OnOk result (Stands self.new.found (frame_start (inside mark))
             (length (main_bytes self.new.buffer.value))) }
     {
@@ -202,7 +200,7 @@ impl<'a> Reader<'a> {
 
     /// Returns `Stop::Unread` if `found` is longer than `MAX_TEXT` bytes.
     #[inline(always)]
-    pub fn check_width(&self) -> Result<(), Stop>
+    pub fn check_width(&self) -> ReadResult
         requires living { IsLiving self.now.buffer.value self.now.found }
         ensures fits { ChecksWidth result (shape self.now.buffer.value self.now.found) }
     {
@@ -239,7 +237,7 @@ impl<'a> Reader<'a> {
 
     /// Reads `<source-name> ::= <positive length number> <identifier>`.
     #[inline(always)]
-    pub fn read_source_name(&mut self) -> Result<(), Stop>
+    pub fn read_source_name(&mut self) -> ReadResult
         ensures reads { Gives result self.new (spec.parse_source (state self.old)) }
         ensures kept { OnOk result (SameFrame self.old.buffer.value self.new.buffer.value) }
         ensures last { OnOk result (IsLast self.new.buffer.value self.new.found) }
@@ -259,7 +257,7 @@ impl<'a> Reader<'a> {
     /// Reads `<substitution> ::= S [<seq-id>] _ | Sa | Sb | Ss | Si | So | Sd`.
     #[tactic(auto, using(crate::proofs::Rules::substitutions))]
     #[inline(always)]
-    pub fn read_substitution(&mut self) -> Result<(), Stop>
+    pub fn read_substitution(&mut self) -> ReadResult
         ensures reads { Gives result self.new (spec.parse_substitution (state self.old)) }
         ensures kept { OnOk result (SameFrame self.old.buffer.value self.new.buffer.value) }
         ensures bounds { TakesSome 0 result (state self.old) (state self.new) }
@@ -267,51 +265,34 @@ impl<'a> Reader<'a> {
     {
         self.skip(1);
         match substitution_case(self.rest) {
-            SubstitutionCase::AbbreviationSubstitution => self.read_abbreviation(),
-            SubstitutionCase::ComponentSubstitution => self.read_component(),
+            SubstitutionCase::AbbreviationSubstitution => {
+                let Some(abbreviation) = abbreviation_of(self.rest) else {
+                    return Err(Stop::Unread);
+                };
+                self.skip(1);
+                let piece = self.buffer.push(abbreviation_text(abbreviation))?;
+                let end = 5 + abbreviation_own_len(abbreviation);
+                self.found = self.buffer.own_at(piece, 5, end);
+                Ok(())
+            }
+            SubstitutionCase::ComponentSubstitution => {
+                let Some((index, rest)) = index_of(Radix::Base36, self.rest) else {
+                    return Err(Stop::Unread);
+                };
+                let Some(component) = self.buffer.saved(index) else {
+                    return Err(Stop::Unread);
+                };
+                self.found = component;
+                self.rest = rest;
+                Ok(())
+            }
         }
-    }
-
-    /// Reads a `<substitution>` that abbreviates a name of std, after its `S`.
-    #[inline(never)]
-    fn read_abbreviation(&mut self) -> Result<(), Stop>
-        ensures reads { Gives result self.new (spec.parse_abbreviation (state self.old)) }
-        ensures kept { OnOk result (SameFrame self.old.buffer.value self.new.buffer.value) }
-        ensures taken { OnlyTakes result (state self.old) (state self.new) }
-    {
-        let Some(abbreviation) = abbreviation_of(self.rest) else {
-            return Err(Stop::Unread);
-        };
-        self.skip(1);
-        let piece = self.buffer.push(abbreviation_text(abbreviation))?;
-        let end = 5 + abbreviation_own_len(abbreviation);
-        self.found = self.buffer.own_at(piece, 5, end);
-        Ok(())
-    }
-
-    /// Reads `<substitution> ::= S [<seq-id>] _`, after its `S`. Afterwards `found` is the component of that index.
-    /// Returns `Stop::Unread` if the table has no such entry.
-    #[inline(always)]
-    fn read_component(&mut self) -> Result<(), Stop>
-        ensures reads { Gives result self.new (spec.parse_component (state self.old)) }
-        ensures kept { OnOk result (SameFrame self.old.buffer.value self.new.buffer.value) }
-        ensures taken { OnlyTakes result (state self.old) (state self.new) }
-    {
-        let Some((index, rest)) = index_of(Radix::Base36, self.rest) else {
-            return Err(Stop::Unread);
-        };
-        let Some(component) = self.buffer.saved(index) else {
-            return Err(Stop::Unread);
-        };
-        self.found = component;
-        self.rest = rest;
-        Ok(())
     }
 
     /// Reads `<template-param> ::= T [<number>] _`. Afterwards `found` is the argument of that index in the last
     /// scope, or `auto` in a lambda's signature. Returns `Stop::Unread` if there is no such argument.
     #[tactic(auto, using(crate::proofs::Rules::parameters))]
-    pub fn read_template_param(&mut self, context: Context) -> Result<(), Stop>
+    pub fn read_template_param(&mut self, context: Context) -> ReadResult
         ensures reads { Gives result self.new (spec.parse_parameter context (state self.old)) }
         ensures kept { OnOk result (SameFrame self.old.buffer.value self.new.buffer.value) }
         ensures bounds { TakesSome 0 result (state self.old) (state self.new) }

@@ -8,19 +8,12 @@ ghost use Rattle.itanium_reader.specs.Parser as spec;
 ghost use Rattle.itanium_reader.specs.Outcome.{state, Gives, TakesSome, SavedBounds};
 
 use crate::reader::Reader;
-use crate::stop::Stop;
+use crate::stop::{ReadResult, Stop};
 use demangle_edit::append_number;
 use demangle_text::{Buffer, Piece};
 use itanium_syntax::numerals::{Radix, index_of};
 use itanium_syntax::offsets::{CallOffset, Signed, ThunkOffsets, thunk_offsets};
 use std::alloc::AllocError;
-
-/// Returns the sign of a number: `-` or nothing.
-fn offset_sign_bytes(number: Signed) -> &'static [u8]
-    ensures value { result.now ≡ offset_sign number }
-{
-    if number.negative { b"-" } else { b"" }
-}
 
 /// Appends the bytes to the words, and then the number with its sign.
 fn append_signed(
@@ -35,7 +28,8 @@ fn append_signed(
     ensures edit { OnOk result (IsEdit buf.old buf.new) }
 {
     let opened = buf.append(words, bytes)?;
-    let signed = buf.append(opened, offset_sign_bytes(number))?;
+    let sign = if number.negative { "-" } else { "" };
+    let signed = buf.append(opened, sign.as_bytes())?;
     let numbered = append_number(buf, signed, number.magnitude)?;
     Ok(numbered)
 }
@@ -72,9 +66,8 @@ impl<'a> Reader<'a> {
         requires plain { shape self.old.buffer.value words ≡ plain_shape (text (shape self.old.buffer.value words)) }
         requires inner { IsInner self.old.buffer.value words }
         requires after { text_after self.old.buffer.value words ≡ text (shape self.old.buffer.value self.old.found) }
-        ensures shape { OnOk result (Lives self.new.buffer.value self.new.found
-            (worded_shape (text (shape self.old.buffer.value words))
-            (shape self.old.buffer.value self.old.found) close.now)) }
+        ensures shape { OnOk result (Lives self.new.buffer.value self.new.found (worded_shape
+            (text (shape self.old.buffer.value words)) (shape self.old.buffer.value self.old.found) close.now)) }
         ensures state { OnOk result (state self.new ≡ state self.old) }
         ensures run { OnOk result (IsRun self.old.buffer.value self.new.buffer.value) }
     {
@@ -88,7 +81,7 @@ impl<'a> Reader<'a> {
     /// offsets has in front of its encoding.
     #[tactic(auto, unfolding(crate::specs::Parser::thunk_front))]
     #[cold]
-    pub fn open_thunk(&mut self) -> Result<(), Stop>
+    pub fn open_thunk(&mut self) -> ReadResult
         requires some { 0 < length self.old.rest.now }
         ensures reads { Gives result self.new (spec.thunk_front (state self.old)) }
         ensures plain { OnOk result (shape self.new.buffer.value self.new.found
@@ -120,7 +113,7 @@ impl<'a> Reader<'a> {
     }
 
     /// Reads the `[<seq-id>] _` of a reference temporary whose name is `found`.
-    pub fn end_temporary(&mut self) -> Result<(), Stop>
+    pub fn end_temporary(&mut self) -> ReadResult
         requires living { IsLiving self.old.buffer.value self.old.found }
         ensures reads { Gives result self.new
             (spec.temporary_end (shape self.old.buffer.value self.old.found) (state self.old)) }

@@ -14,6 +14,9 @@ pub enum Stop {
     Memory,
 }
 
+/// What a reader returns: nothing where it has read its production, or why it stopped.
+pub type ReadResult = Result<(), Stop>;
+
 impl From<AllocError> for Stop {
     ghost from_gives = { λ _ e. e ≡ Memory };
 

@@ -83,18 +83,18 @@ args::read_template_args-returns-then-len-widest-2-clause-reads t c =
     let list = c.in_ok-list.list in
     let old = c.loop-reader.reader.buffer.value in
     let separated = c.separate.new.self.buffer.value in
-    let framed = c.framed_template_arg.new.reader in
+    let framed = c.read_template_arg.new.reader in
     let new = c.add_argument.new.self.buffer.value in
     let next = shape framed.buffer.value framed.found in
     let kept = (c.in_ok-separate-in-NextArgument.ensures {u = tt}).kept in
     let one = text_after-more old separated list (separator c.loop-reader.first) so_far.begun.living so_far.inner (c.in_ok-separate-in-NextArgument.ensures {u = tt}).output in
     let two = text_after-more separated framed.buffer.value list (text next) (kept.pieces list so_far.begun.living).living
-    (IsInner-same old separated list so_far.inner kept) (c.in_ok-framed_template_arg-in-NextArgument.ensures {u = tt}).output in
+    (IsInner-same old separated list so_far.inner kept) (c.in_ok-read_template_arg-in-NextArgument.ensures {u = tt}).output in
     let three = text_after-same framed.buffer.value new list (c.in_ok-add_argument-in-NextArgument.ensures {u = tt}).output in
     let longer : text_after new list ≡ (text_after old list ++ separator c.loop-reader.first) ++ text next =
     three ∙ two ∙ ap (λ (v : List ℕ). v ++ text next) one in
     let begun = Lives-same _ _ _ _ (c.in_ok-add_argument-in-NextArgument.ensures {u = tt}).kept
-    (Lives-same _ _ _ _ (c.in_ok-framed_template_arg-in-NextArgument.ensures {u = tt}).kept (Lives-same _ _ _ _ kept so_far.begun)) in
+    (Lives-same _ _ _ _ (c.in_ok-read_template_arg-in-NextArgument.ensures {u = tt}).kept (Lives-same _ _ _ _ kept so_far.begun)) in
     let all = shape new c.up_to_end.result in
     let built : all ≡ appended (text_after new list) (arguments_opened (shape c.args.reader.now.buffer.value c.args.reader.now.found)) =
     subst (λ (b : Buffer). shape b c.up_to_end.result ≡ appended (text_after b list) (shape b list)) c.deref-in-NextArgument-2.ensures c.up_to_end.ensures.shape.shape_is
@@ -104,12 +104,12 @@ args::read_template_args-returns-then-len-widest-2-clause-reads t c =
     (sym c.in-NextArgument.ensures.case) (search rules) longer built
     (omega (arith, c.if-len-widest-2.true, so_far.widest, long, so_far.front))
 
-pub args::read_template_args-returns-in_err-framed_template_arg-in-NextArgument-clause-reads : goal.args::read_template_args-returns-in_err-framed_template_arg-in-NextArgument-clause-reads
-args::read_template_args-returns-in_err-framed_template_arg-in-NextArgument-clause-reads t c =
-    let r = c.from_residual-in_err-framed_template_arg-in-NextArgument in
+pub args::read_template_args-returns-in_err-read_template_arg-in-NextArgument-clause-reads : goal.args::read_template_args-returns-in_err-read_template_arg-in-NextArgument-clause-reads
+args::read_template_args-returns-in_err-read_template_arg-in-NextArgument-clause-reads t c =
+    let r = c.from_residual-in_err-read_template_arg-in-NextArgument in
     let e = err_from_is_err_and r.result r.ensures.1 in
     let whole = spec.attached_by (spec.parse_args c.args.depth c.args.context c.args.of_name) (shape c.args.reader.now.buffer.value c.args.reader.now.found) (state c.args.reader.now) in
-    rw (e.1, e.2) (stops _ {whole = whole} _ (c.in_err-framed_template_arg-in-NextArgument.ensures {u = tt}).reads
+    rw (e.1, e.2) (stops _ {whole = whole} _ (c.in_err-read_template_arg-in-NextArgument.ensures {u = tt}).reads
     (λ none. attached_fail {whole = whole} _ _ _ c.loop-reader.invariant.reads (sym c.in-NextArgument.ensures.case) (search rules)))
 
 pub args::read_template_args-loop-reader-preserved : goal.args::read_template_args-loop-reader-preserved
@@ -118,18 +118,18 @@ args::read_template_args-loop-reader-preserved t c =
     let list = c.in_ok-list.list in
     let old = c.loop-reader.reader.buffer.value in
     let separated = c.separate.new.self.buffer.value in
-    let framed = c.framed_template_arg.new.reader in
+    let framed = c.read_template_arg.new.reader in
     let new = c.add_argument.new.self.buffer.value in
     let next = shape framed.buffer.value framed.found in
     let kept = (c.in_ok-separate-in-NextArgument.ensures {u = tt}).kept in
     let one = text_after-more old separated list (separator c.loop-reader.first) so_far.begun.living so_far.inner (c.in_ok-separate-in-NextArgument.ensures {u = tt}).output in
     let two = text_after-more separated framed.buffer.value list (text next) (kept.pieces list so_far.begun.living).living
-    (IsInner-same old separated list so_far.inner kept) (c.in_ok-framed_template_arg-in-NextArgument.ensures {u = tt}).output in
+    (IsInner-same old separated list so_far.inner kept) (c.in_ok-read_template_arg-in-NextArgument.ensures {u = tt}).output in
     let three = text_after-same framed.buffer.value new list (c.in_ok-add_argument-in-NextArgument.ensures {u = tt}).output in
     let longer : text_after new list ≡ (text_after old list ++ separator c.loop-reader.first) ++ text next =
     three ∙ two ∙ ap (λ (v : List ℕ). v ++ text next) one in
     let begun = Lives-same _ _ _ _ (c.in_ok-add_argument-in-NextArgument.ensures {u = tt}).kept
-    (Lives-same _ _ _ _ (c.in_ok-framed_template_arg-in-NextArgument.ensures {u = tt}).kept (Lives-same _ _ _ _ kept so_far.begun)) in
+    (Lives-same _ _ _ _ (c.in_ok-read_template_arg-in-NextArgument.ensures {u = tt}).kept (Lives-same _ _ _ _ kept so_far.begun)) in
     let all = shape new c.up_to_end.result in
     let built : all ≡ appended (text_after new list) (arguments_opened (shape c.args.reader.now.buffer.value c.args.reader.now.found)) =
     subst (λ (b : Buffer). shape b c.up_to_end.result ≡ appended (text_after b list) (shape b list)) c.deref-in-NextArgument-2.ensures c.up_to_end.ensures.shape.shape_is
@@ -166,17 +166,17 @@ pub args::read_argument_pack-returns-in-EndOfArguments-clause-reads : goal.args:
 args::read_argument_pack-returns-in-EndOfArguments-clause-reads t c =
     (search rules, pack_ends _ c.loop-reader.invariant.reads (sym c.in-EndOfArguments.ensures.case) (search rules) (search rules) (search rules))
 
-pub args::read_argument_pack-returns-in_err-framed_template_arg-in-NextArgument-clause-reads : goal.args::read_argument_pack-returns-in_err-framed_template_arg-in-NextArgument-clause-reads
-args::read_argument_pack-returns-in_err-framed_template_arg-in-NextArgument-clause-reads t c =
-    let r = c.from_residual-in_err-framed_template_arg-in-NextArgument in
+pub args::read_argument_pack-returns-in_err-read_template_arg-in-NextArgument-clause-reads : goal.args::read_argument_pack-returns-in_err-read_template_arg-in-NextArgument-clause-reads
+args::read_argument_pack-returns-in_err-read_template_arg-in-NextArgument-clause-reads t c =
+    let r = c.from_residual-in_err-read_template_arg-in-NextArgument in
     let e = err_from_is_err_and r.result r.ensures.1 in
-    rw (e.1, e.2) (stops _ _ (c.in_err-framed_template_arg-in-NextArgument.ensures {u = tt}).reads
+    rw (e.1, e.2) (stops _ _ (c.in_err-read_template_arg-in-NextArgument.ensures {u = tt}).reads
     (λ none. items_fail _ _ _ c.loop-reader.invariant.reads (sym c.in-NextArgument.ensures.case) (search rules)))
 
 pub args::read_argument_pack-loop-reader-preserved : goal.args::read_argument_pack-loop-reader-preserved
 args::read_argument_pack-loop-reader-preserved t c = record {
   below = grind (arith, common_steps);
-  reads = items_more _ _ _ c.loop-reader.invariant.reads {next = shape c.framed_template_arg.new.reader.buffer.value c.framed_template_arg.new.reader.found} {mid = state c.framed_template_arg.new.reader}
+  reads = items_more _ _ _ c.loop-reader.invariant.reads {next = shape c.read_template_arg.new.reader.buffer.value c.read_template_arg.new.reader.found} {mid = state c.read_template_arg.new.reader}
       (sym c.in-NextArgument.ensures.case) (search rules) (search rules) (search rules) (search rules) (search rules) (search rules);
   living = grind (arith, common_steps);
   run = search rules;
@@ -229,8 +229,8 @@ types::read_type-returns-in_err-check_width-clause-reads t c =
 
 pub args::read_argument_pack-returns-then-is_too_wide-clause-reads : goal.args::read_argument_pack-returns-then-is_too_wide-clause-reads
 args::read_argument_pack-returns-then-is_too_wide-clause-reads t c =
-    items_wide _ _ _ c.loop-reader.invariant.reads {next = shape c.framed_template_arg.new.reader.buffer.value c.framed_template_arg.new.reader.found}
-    {found = shape c.append_piece.new.buf c.in_ok-list-in-NextArgument-2.list} {mid = state c.framed_template_arg.new.reader}
+    items_wide _ _ _ c.loop-reader.invariant.reads {next = shape c.read_template_arg.new.reader.buffer.value c.read_template_arg.new.reader.found}
+    {found = shape c.append_piece.new.buf c.in_ok-list-in-NextArgument-2.list} {mid = state c.read_template_arg.new.reader}
     (sym c.in-NextArgument.ensures.case) (search rules) (search rules) (search rules)
 
 -- an entity in a default argument is found
@@ -244,7 +244,7 @@ encodings::read_entity-returns-in_ok-reader-in-DefaultArgumentEntity-clause-read
     let entity = c.framed_name.new.reader in
     let began = (c.in_ok-opened-in-DefaultArgumentEntity.ensures {u = tt}).shape in
     let kept = (c.in_ok-framed_name-in-DefaultArgumentEntity.ensures {u = tt}).kept.pieces c.in_ok-opened-in-DefaultArgumentEntity.opened began.living in
-    let closed = rw c.deref_mut-in-DefaultArgumentEntity.ensures.value at (c.in_ok-reader-in-DefaultArgumentEntity.ensures {u = tt}).shape.shape_is in (
+    let closed = rw c.deref_mut-in-DefaultArgumentEntity-2.ensures.value at (c.in_ok-reader-in-DefaultArgumentEntity.ensures {u = tt}).shape.shape_is in (
       search rules,
       default_argument_found (spec.parse_bare_name c.args.depth c.args.context)
           (shape c.args.reader.now.buffer.value c.args.encoding) (state c.args.reader.now) {number = c.in-Some.number}
@@ -253,7 +253,7 @@ encodings::read_entity-returns-in_ok-reader-in-DefaultArgumentEntity-clause-read
           (closed ∙ ap (λ (s : Shape). enclosed s (shape entity.buffer.value entity.found))
           {x = shape entity.buffer.value c.in_ok-opened-in-DefaultArgumentEntity.opened}
           {y = default_arg_opened (shape c.args.reader.now.buffer.value c.args.encoding) c.in-Some.number}
-          (cc (kept.shape_is, began.shape_is, c.deref_mut.ensures.value)))
+          (cc (kept.shape_is, began.shape_is, c.deref_mut-in-DefaultArgumentEntity.ensures.value)))
           (search rules),
     )
 
@@ -479,20 +479,6 @@ specials::read_thunk-returns-clause-run t c =
     let kept : SameFrame c.open_thunk.new.self.buffer.value c.close_found.new.self.buffer.value = search (rules, runs) in
     search (rules, runs, kept)
 
-pub names::read_ordinary_segment-returns-clause-run : goal.names::read_ordinary_segment-returns-clause-run
-names::read_ordinary_segment-returns-clause-run t c =
-    let parent = c.open_parent.new.buf in
-    let last = c.close_opened.new.buf in
-    let opens : Opens parent c.open-mark.new.self c.open-mark.result =
-    subst (λ (b : Buffer). Opens b c.open-mark.new.self c.open-mark.result) c.deref_mut-2.ensures.value c.open-mark.ensures.opens in
-    let since = IsSince-run _ _ _ _ (IsSince-opens _ _ _ opens) (c.in_ok-read_ordinary_name.ensures {u = tt}).run in
-    let kept : SameFrame parent c.close_found.new.self.buffer.value = SameFrame-closed _ _ _ _ since (c.in_ok-close_found.ensures {u = tt}).closed in
-    let before : IsEdit c.args.reader.now.buffer.value parent =
-    subst (λ (b : Buffer). IsEdit b parent) c.deref_mut.ensures.value (c.in_ok-opened.ensures {u = tt}).edit in
-    let after : IsEdit c.close_found.new.self.buffer.value last =
-    subst (λ (b : Buffer). IsEdit b last) c.deref_mut-3.ensures.value (c.in_ok-reader.ensures {u = tt}).edit in
-    IsRun-trans _ _ _ (IsRun-edit _ _ before) (IsRun-trans _ _ _ (IsRun-same _ _ kept) (IsRun-edit _ _ after))
-
 -- an operator, and what was read right after it
 pub expressions::read_pre-print_worded-requires-clause-after : goal.expressions::read_pre-print_worded-requires-clause-after
 expressions::read_pre-print_worded-requires-clause-after t c =
@@ -604,9 +590,6 @@ types::framed_type-returns-clause-kept t c = grind (arith, common_steps)
 pub types::read_cv-returns-in-CvFunction-clause-reads : goal.types::read_cv-returns-in-CvFunction-clause-reads
 types::read_cv-returns-in-CvFunction-clause-reads t c = grind (arith, buffers)
 
-pub types::read_cv-returns-in_ok-wrap_found-in-CvOther-clause-run : goal.types::read_cv-returns-in_ok-wrap_found-in-CvOther-clause-run
-types::read_cv-returns-in_ok-wrap_found-in-CvOther-clause-run t c = grind (arith, buffers)
-
 pub types::read_elaborated-print_worded-requires-clause-after : goal.types::read_elaborated-print_worded-requires-clause-after
 types::read_elaborated-print_worded-requires-clause-after t c = grind (arith, words)
 
@@ -700,11 +683,25 @@ names::read_nested_name-returns-in_ok-read_prefix-in-Some-clause-reads t c = gri
 pub names::read_prefix-loop-reader-init : goal.names::read_prefix-loop-reader-init
 names::read_prefix-loop-reader-init t c = grind (arith, common_steps)
 
-pub names::read_segment-returns-in_err-read_ordinary_segment-in-OrdinaryName-clause-reads : goal.names::read_segment-returns-in_err-read_ordinary_segment-in-OrdinaryName-clause-reads
-names::read_segment-returns-in_err-read_ordinary_segment-in-OrdinaryName-clause-reads t c = grind (arith, unqualified_names)
-
 pub names::read_segment-returns-clause-reads : goal.names::read_segment-returns-clause-reads
 names::read_segment-returns-clause-reads t c = grind (arith, unqualified_names)
+
+pub names::read_ordinary_segment-returns-clause-run : goal.names::read_ordinary_segment-returns-clause-run
+names::read_ordinary_segment-returns-clause-run t c =
+    let parent = c.open_parent.new.buf in
+    let last = c.close_opened.new.buf in
+    let opens : Opens parent c.open-mark.new.self c.open-mark.result =
+    subst (λ (b : Buffer). Opens b c.open-mark.new.self c.open-mark.result) c.deref_mut-2.ensures.value c.open-mark.ensures.opens in
+    let since = IsSince-run _ _ _ _ (IsSince-opens _ _ _ opens) (c.in_ok-read_ordinary_name.ensures {u = tt}).run in
+    let kept : SameFrame parent c.close_found.new.self.buffer.value = SameFrame-closed _ _ _ _ since (c.in_ok-close_found.ensures {u = tt}).closed in
+    let before : IsEdit c.args.reader.now.buffer.value parent =
+    subst (λ (b : Buffer). IsEdit b parent) c.deref_mut.ensures.value (c.in_ok-opened.ensures {u = tt}).edit in
+    let after : IsEdit c.close_found.new.self.buffer.value last =
+    subst (λ (b : Buffer). IsEdit b last) c.deref_mut-3.ensures.value (c.in_ok-reader.ensures {u = tt}).edit in
+    IsRun-trans _ _ _ (IsRun-edit _ _ before) (IsRun-trans _ _ _ (IsRun-same _ _ kept) (IsRun-edit _ _ after))
+
+pub names::read_segment-returns-in_err-read_ordinary_segment-in-OrdinaryName-clause-reads : goal.names::read_segment-returns-in_err-read_ordinary_segment-in-OrdinaryName-clause-reads
+names::read_segment-returns-in_err-read_ordinary_segment-in-OrdinaryName-clause-reads t c = grind (arith, unqualified_names)
 
 pub names::read_unqualified_name-returns-in_err-read_source_name-clause-reads : goal.names::read_unqualified_name-returns-in_err-read_source_name-clause-reads
 names::read_unqualified_name-returns-in_err-read_source_name-clause-reads t c = grind (arith, outer_names)
@@ -732,20 +729,14 @@ names::read_name-returns-in_ok-check_width-2-clause-reads t c = grind (arith, na
 pub names::read_name-returns-in_default-clause-reads : goal.names::read_name-returns-in_default-clause-reads
 names::read_name-returns-in_default-clause-reads t c = grind (arith, names)
 
-pub args::framed_template_arg-read_template_arg-requires : goal.args::framed_template_arg-read_template_arg-requires
-args::framed_template_arg-read_template_arg-requires t c = grind (arith, buffers)
-
-pub args::framed_template_arg-returns-clause-kept : goal.args::framed_template_arg-returns-clause-kept
-args::framed_template_arg-returns-clause-kept t c = grind (arith, common_steps)
+pub args::read_template_arg-returns-clause-kept : goal.args::read_template_arg-returns-clause-kept
+args::read_template_arg-returns-clause-kept t c = grind (arith, common_steps)
 
 pub args::read_argument_pack-returns-in_err-depth-clause-reads : goal.args::read_argument_pack-returns-in_err-depth-clause-reads
 args::read_argument_pack-returns-in_err-depth-clause-reads t c = grind (arith, packs)
 
 pub args::read_template_arg-returns-in_err-read_expression-in-ExpressionArgument-clause-reads : goal.args::read_template_arg-returns-in_err-read_expression-in-ExpressionArgument-clause-reads
 args::read_template_arg-returns-in_err-read_expression-in-ExpressionArgument-clause-reads t c = grind (arith, arguments)
-
-pub args::read_template_arg-returns-in_ok-read_expression-in-ExpressionArgument-clause-reads : goal.args::read_template_arg-returns-in_ok-read_expression-in-ExpressionArgument-clause-reads
-args::read_template_arg-returns-in_ok-read_expression-in-ExpressionArgument-clause-reads t c = grind (arith, arguments)
 
 pub args::read_template_args-returns-in_err-depth-clause-reads : goal.args::read_template_args-returns-in_err-depth-clause-reads
 args::read_template_args-returns-in_err-depth-clause-reads t c = grind (arith, argument_lists)
@@ -765,9 +756,6 @@ args::read_template_args-up_to_end-requires-clause-inner t c = grind (arith, arg
 pub encodings::read_encoding-returns-in_err-read_name-in-FullEncoding-clause-reads : goal.encodings::read_encoding-returns-in_err-read_name-in-FullEncoding-clause-reads
 encodings::read_encoding-returns-in_err-read_name-in-FullEncoding-clause-reads t c = grind (arith, encodings)
 
-pub encodings::read_entity-returns-in_ok-print_string_literal-in-StringLiteralEntity-clause-reads : goal.encodings::read_entity-returns-in_ok-print_string_literal-in-StringLiteralEntity-clause-reads
-encodings::read_entity-returns-in_ok-print_string_literal-in-StringLiteralEntity-clause-reads t c = grind (arith, common_steps)
-
 pub encodings::read_local_name-returns-in_err-read_encoding-clause-reads : goal.encodings::read_local_name-returns-in_err-read_encoding-clause-reads
 encodings::read_local_name-returns-in_err-read_encoding-clause-reads t c = grind (arith, local_names)
 
@@ -785,9 +773,6 @@ expressions::read_expr_primary-returns-in_err-read_encoding-in-ExternalName-clau
 
 pub expressions::read_expr_primary-returns-in_ok-read_encoding-in-ExternalName-clause-reads : goal.expressions::read_expr_primary-returns-in_ok-read_encoding-in-ExternalName-clause-reads
 expressions::read_expr_primary-returns-in_ok-read_encoding-in-ExternalName-clause-reads t c = grind (arith, primaries)
-
-pub expressions::read_expr_primary-returns-in-ValueLiteral-clause-reads : goal.expressions::read_expr_primary-returns-in-ValueLiteral-clause-reads
-expressions::read_expr_primary-returns-in-ValueLiteral-clause-reads t c = grind (arith, primaries)
 
 pub expressions::read_expression-returns-in_err-depth-clause-reads : goal.expressions::read_expression-returns-in_err-depth-clause-reads
 expressions::read_expression-returns-in_err-depth-clause-reads t c = grind (arith, expressions)

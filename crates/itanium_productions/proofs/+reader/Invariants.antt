@@ -62,11 +62,8 @@ nested d = 16 * d + 10
 abbrev pub decreases-names::read_name : goal.decreases-names::read_name
 decreases-names::read_name l = production l.depth
 
-abbrev pub decreases-encodings::drop_type : goal.decreases-encodings::drop_type
-decreases-encodings::drop_type l = framed l.depth
-
 abbrev pub decreases-encodings::read_return : goal.decreases-encodings::read_return
-decreases-encodings::read_return l = list l.depth
+decreases-encodings::read_return l = framed l.depth
 
 abbrev pub decreases-encodings::end_encoding : goal.decreases-encodings::end_encoding
 decreases-encodings::end_encoding l = ended l.depth
@@ -85,9 +82,6 @@ decreases-types::read_type l = production l.depth
 
 abbrev pub decreases-args::read_template_arg : goal.decreases-args::read_template_arg
 decreases-args::read_template_arg l = argument l.depth
-
-abbrev pub decreases-args::framed_template_arg : goal.decreases-args::framed_template_arg
-decreases-args::framed_template_arg l = prefix l.depth
 
 abbrev pub decreases-args::read_template_args : goal.decreases-args::read_template_args
 decreases-args::read_template_args l = list l.depth
@@ -263,12 +257,6 @@ decreases-expressions::read_conditional l = ended l.depth
 
 abbrev pub decreases-expressions::read_expr_primary : goal.decreases-expressions::read_expr_primary
 decreases-expressions::read_expr_primary l = segment l.depth
-
-abbrev pub decreases-expressions::read_literal : goal.decreases-expressions::read_literal
-decreases-expressions::read_literal l = listed l.depth
-
-abbrev pub decreases-expressions::read_alternatives : goal.decreases-expressions::read_alternatives
-decreases-expressions::read_alternatives l = listed l.depth
 
 abbrev pub decreases-specials::read_type_special : goal.decreases-specials::read_type_special
 decreases-specials::read_type_special l = list l.depth

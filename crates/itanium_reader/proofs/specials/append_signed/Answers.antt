@@ -1,4 +1,4 @@
-use Rattle.std.proofs.Common.{List, ℕ, decimal, ◌++◌, ap, ◌∙◌}
+use Rattle.std.proofs.Common.{rules, List, ℕ, decimal, ◌++◌, ap, ◌∙◌}
 use Rattle.demangle_text.specs.Shape.{appended}
 use Rattle.demangle_text.specs.State.{shape}
 use Rattle.itanium_reader.proofs.Texts.{signed_printed}
@@ -7,11 +7,11 @@ use Rattle.itanium_reader.proofs.specials.append_signed.Goals as goal
 pub returns-clause-shape : goal.returns-clause-shape
 returns-clause-shape c =
     let s = shape c.args.buf.now c.args.words in
-    let sign = c.offset_sign_bytes.result.now in
+    let sign = c.as_bytes.result.now in
     let digits = decimal c.args.number.magnitude in
     let signed = c.in_ok-signed.ensures.shape.shape_is ∙ ap (appended sign) c.in_ok-opened.ensures.shape.shape_is in
     record {
       living = c.in_ok-numbered.ensures.shape.living;
       shape_is = c.in_ok-numbered.ensures.shape.shape_is ∙ ap (appended digits) signed ∙ signed_printed c.args.bytes.now sign digits s
-          ∙ ap (λ (t : List ℕ). appended (c.args.bytes.now ++ (t ++ digits)) s) c.offset_sign_bytes.ensures.value;
+          ∙ ap (λ (t : List ℕ). appended (c.args.bytes.now ++ (t ++ digits)) s) (search rules);
     }

@@ -1,6 +1,0 @@
-use Rattle.std.proofs.Common.{arith}
-use Rattle.std.proofs.lemmas.Grind.{common_steps}
-use Rattle.itanium_reader.proofs.reader.Reader.print_greater.Goals as goal
-
-pub returns-clause-shape : goal.returns-clause-shape
-returns-clause-shape c = grind (arith, common_steps)
