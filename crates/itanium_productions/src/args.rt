@@ -1,4 +1,6 @@
 //! Template arguments (Itanium C++ ABI 5.1.5).
+#![tactic(auto, using(itanium_reader::proofs::Rules::buffers))]
+
 ghost use Rattle.std.specs.Prelude.{◌≡◌, ◌<◌, ◌++◌, OnOk, length};
 ghost use Rattle.demangle_text.specs.State.{IsLiving, shape, IsRun, SameFrame, main_bytes};
 ghost use Rattle.demangle_text.specs.Shape.{text};

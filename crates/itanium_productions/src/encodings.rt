@@ -1,4 +1,6 @@
 //! Encodings and local names (Itanium C++ ABI 5.1, "General Structure" and "Scope Encoding").
+#![tactic(auto, using(itanium_reader::proofs::Rules::buffers))]
+
 ghost use Rattle.std.specs.Prelude.{OnOk};
 ghost use Rattle.std.specs.Option.{unwrap_or};
 ghost use Rattle.demangle_quals.specs.Quals.{no_quals};

@@ -1,4 +1,6 @@
 //! Literals, external names and expressions (Itanium C++ ABI 5.1, "Expressions").
+#![tactic(auto, using(itanium_reader::proofs::Rules::buffers))]
+
 ghost use Rattle.std.specs.Prelude.{◌≡◌, ◌<◌, ◌++◌, OnOk, length};
 ghost use Rattle.demangle_text.specs.State.{shape, IsRun, SameFrame, main_bytes};
 ghost use Rattle.demangle_text.specs.Shape.{text};

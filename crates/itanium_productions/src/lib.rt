@@ -9,7 +9,7 @@
 //!
 //! The readers call the methods of `itanium_reader`. Begin with `read_name` in `names.rt`, and then read `read_type` in
 //! `types.rt`. `read_encoding` in `encodings.rt` is for signatures, thunks, local names and external names.
-#![tactic(auto, using(itanium_reader::proofs::Rules::buffers))]
+#![tactic(auto)]
 
 mod args;
 mod encodings;

@@ -1,4 +1,6 @@
 //! Names (Itanium C++ ABI 5.1.2).
+#![tactic(auto, using(itanium_reader::proofs::Rules::buffers))]
+
 ghost use Rattle.std.specs.Prelude.{◌≡◌, ◌++◌, None, Some, IfOk, OnOk, true, false};
 ghost use Rattle.demangle_text.specs.State.{IsLiving, shape, IsRun, SameFrame, main_bytes};
 ghost use Rattle.demangle_text.specs.Shape.{text};

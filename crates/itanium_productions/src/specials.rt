@@ -1,4 +1,6 @@
 //! Special names (Itanium C++ ABI 5.1.4, "Other Special Functions and Entities").
+#![tactic(auto, using(itanium_reader::proofs::Rules::buffers))]
+
 ghost use Rattle.std.specs.Prelude.{◌≡◌, ◌<◌, OnOk, length};
 ghost use Rattle.demangle_text.specs.State.{IsRun};
 ghost use Rattle.itanium_reader.specs.Parser as spec;
