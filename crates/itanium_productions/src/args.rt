@@ -110,8 +110,8 @@ pub(crate) fn read_argument_pack(reader: &mut Reader, depth: usize, context: Con
     }
 }
 
-/// Reads `<template-arg> ::= <type> | X <expression> E | <expr-primary> | J <template-arg>* E` in its own frame. Pieces
-/// that lived before keep their shapes. The output afterwards is the old output followed by the argument's text.
+/// Reads `<template-arg> ::= <type> | X <expression> E | <expr-primary> | J <template-arg>* E` in its own frame.
+/// Pieces that lived before keep their shapes. The output afterwards is the old one followed by the argument's text.
 #[tactic(auto, using(itanium_reader::proofs::Rules::arguments))]
 #[cycle(reader)]
 #[inline(always)]

@@ -175,7 +175,7 @@ pub(crate) fn read_greater(reader: &mut Reader, depth: usize, context: Context) 
     Ok(())
 }
 
-/// Reads `qu <expression> <expression> <expression>`, a conditional expression. Prints `?` and ` : ` between the three.
+/// Reads `qu <expression> <expression> <expression>`, a conditional expression. Prints `?` and ` : ` between them.
 #[cycle(reader)]
 pub(crate) fn read_conditional(reader: &mut Reader, depth: usize, context: Context) -> ReadResult
     requires room { HasRoom 0 (state reader.old) }
