@@ -29,13 +29,13 @@ use std::str;
 const OUTPUT_LEN: usize = 32768;
 
 /// The capacity that is reserved for the output, in bytes. The capacity is more than `OUTPUT_LEN`.
-const OUTPUT_CAPACITY: usize = 36864;
+const OUTPUT_CAPACITY: usize = 40960;
 
 /// The least length in bytes of ordinary lines that are written without a copy.
 const LONG_LEN: usize = 16384;
 
 /// The most bytes whose words are replaced at once, unless the first word is longer.
-const BLOCK_LEN: usize = 4096;
+const BLOCK_LEN: usize = 8192;
 
 /// The first byte of each symbol.
 const UNDERSCORE: u8 = b'_';
