@@ -4,7 +4,7 @@ ghost use Rattle.std.specs.Prelude.{OnOk, OnErr, slice_range, slice_index, is_so
 ghost use Rattle.demangle_text.specs.Shape.{gap_after};
 
 use crate::moves::KeptPieces;
-use crate::parts::{add_text, at_end, taken_back};
+use crate::parts::{add_text, at_end, truncated_on_err};
 use crate::piece_list::PieceList;
 use crate::shape::{Kind, Mark, Piece, Place};
 use growing_text::Text;
@@ -222,7 +222,7 @@ impl Buffer {
         let len = self.output.len();
         let from = at_end(&mut self.output, &self.kept.spill, self.marked_len, piece)?;
         let added = self.output.add(bytes);
-        taken_back(&mut self.output, len, added)?;
+        truncated_on_err(&mut self.output, len, added)?;
         let (at, n) = (piece.text_len(), bytes.len());
         Ok(piece.with_bytes(Place::End, at, n, from, self.output.len()))
     }

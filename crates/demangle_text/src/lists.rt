@@ -21,12 +21,12 @@ impl Buffer {
         ensures output { main_bytes self.new ≡ main_bytes self.old }
         ensures err { OnErr result (KeepsAll self.old self.new) }
     {
-        self.save_in_place(&piece)
+        self.save_ref(&piece)
     }
 
     /// Appends a piece to the substitution table as `save` does, and takes it by reference.
     #[inline(always)]
-    pub fn save_in_place(&mut self, piece: &Piece) -> Result<(), AllocError>
+    pub fn save_ref(&mut self, piece: &Piece) -> Result<(), AllocError>
         requires living { IsLiving self.old piece.now }
         ensures saved { OnOk result (saved self.new ≡ saved self.old ++ shape self.old piece.now ∷ []) }
         ensures scopes { scopes self.new ≡ scopes self.old }

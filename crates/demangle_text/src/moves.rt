@@ -18,7 +18,7 @@ pub(crate) struct KeptPieces {
 
 impl KeptPieces {
     // Spills the texts of all pieces of both lists that a move of the block would tear.
-    pub(crate) fn set_apart(&mut self, output: &[u8], block: Block) -> Result<(), AllocError>
+    pub(crate) fn spill_torn(&mut self, output: &[u8], block: Block) -> Result<(), AllocError>
         requires saved { All (IsPiece output.now self.old.spill) self.old.saved }
         requires args { All (IsPiece output.now self.old.spill) self.old.args }
         ensures spilled { IsSpilled output.now self.old.spill self.new.spill self.old.saved self.new.saved
@@ -26,8 +26,8 @@ impl KeptPieces {
         ensures saved_apart { OnOk result (All (IsApart block.low block.from block.end) self.new.saved) }
         ensures args_apart { OnOk result (All (IsApart block.low block.from block.end) self.new.args) }
     {
-        evict(output, &mut self.spill, &mut self.saved, block)?;
-        evict(output, &mut self.spill, &mut self.args, block)
+        spill_torn_of(output, &mut self.spill, &mut self.saved, block)?;
+        spill_torn_of(output, &mut self.spill, &mut self.args, block)
     }
 }
 
@@ -59,7 +59,7 @@ pub(crate) fn torn_len(pieces: &PieceList, block: Block) -> usize
 // Spills the texts of all pieces of a list that a move of the block would tear. The search begins at the first piece
 // that the move can reach.
 #[inline(always)]
-fn evict(
+fn spill_torn_of(
     output: &[u8],
     spill: &mut Text,
     pieces: &mut PieceList,

@@ -23,7 +23,7 @@ pub(crate) fn add_text(output: &mut Text, spill: &Text, piece: Piece) -> Result<
 
 // Cuts the output to its first `len` bytes if `added` is an error, and returns `added`.
 #[inline(always)]
-pub(crate) fn taken_back(
+pub(crate) fn truncated_on_err(
     output: &mut Text,
     len: usize,
     added: Result<(), AllocError>,

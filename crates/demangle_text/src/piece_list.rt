@@ -145,7 +145,7 @@ impl PieceList {
 
     // Moves the pieces that lie in a block along, when the block is moved to `dest`.
     #[inline(always)]
-    pub(crate) fn carry(&mut self, block: Block, dest: usize)
+    pub(crate) fn shift(&mut self, block: Block, dest: usize)
         requires ordered { All (λ p. p.from_byte ≤ p.to_byte) self.old }
         requires block { block.from ≤ block.end }
         requires apart { All (IsApart block.low block.from block.end) self.old }

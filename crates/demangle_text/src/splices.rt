@@ -4,7 +4,7 @@ ghost use Rattle.std.specs.Prelude.{◌≡◌, ◌+◌, ◌-◌, ◌^◌, ◌<�
 
 use crate::buffer::Buffer;
 use crate::moves::torn_len;
-use crate::parts::{add_text, at_end, taken_back};
+use crate::parts::{add_text, at_end, truncated_on_err};
 use crate::piece_list::Block;
 use crate::shape::Piece;
 use std::alloc::AllocError;
@@ -51,10 +51,10 @@ impl Buffer {
             from,
             end: to,
         };
-        self.kept.set_apart(self.output.as_slice(), block)?;
+        self.kept.spill_torn(self.output.as_slice(), block)?;
         self.output.keep(at, from, to);
-        self.kept.saved.carry(block, at);
-        self.kept.args.carry(block, at);
+        self.kept.saved.shift(block, at);
+        self.kept.args.shift(block, at);
         Ok(())
     }
 
@@ -98,11 +98,11 @@ impl Buffer {
         let torn = torn.saturating_add(torn_len(&self.kept.args, rest));
         self.output.reserve(n)?;
         self.kept.spill.reserve(torn)?;
-        self.kept.set_apart(self.output.as_slice(), rest)?;
+        self.kept.spill_torn(self.output.as_slice(), rest)?;
         self.output.open_room(at, n)?;
         let dest = at + (self.output.len() - len);
-        self.kept.saved.carry(rest, dest);
-        self.kept.args.carry(rest, dest);
+        self.kept.saved.shift(rest, dest);
+        self.kept.args.shift(rest, dest);
         Ok(())
     }
 
@@ -124,7 +124,7 @@ impl Buffer {
         let rest = piece.text_len() - at;
         add_text(&mut self.output, &self.kept.spill, piece)?;
         let opened = self.output.open_room(self.output.len() - rest, n);
-        taken_back(&mut self.output, from, opened)?;
+        truncated_on_err(&mut self.output, from, opened)?;
         Ok(from)
     }
 
@@ -148,9 +148,9 @@ impl Buffer {
         let len = self.output.len();
         let from = at_end(&mut self.output, &self.kept.spill, self.marked_len, piece)?;
         let added = self.output.add(bytes);
-        taken_back(&mut self.output, len, added)?;
+        truncated_on_err(&mut self.output, len, added)?;
         let added = add_text(&mut self.output, &self.kept.spill, other);
-        taken_back(&mut self.output, len, added)?;
+        truncated_on_err(&mut self.output, len, added)?;
         Ok(from)
     }
 

@@ -9,7 +9,7 @@ use Rattle.itanium_syntax.specs.Context.{opens_scope}
 use Rattle.itanium_syntax.specs.Args.{args_case}
 use Rattle.itanium_syntax.proofs.Fronts.{after_drop, after-le}
 use Rattle.itanium_grammar.specs.Tree.{Tree, shape_of, pack_of, trees}
-use Rattle.itanium_grammar.specs.Grammar.{Position, Cost, skip, within_list, ArgumentsAs, PackedAs, args, end_of_arguments, one_more_argument, pack, end_of_pack, one_more_packed}
+use Rattle.itanium_grammar.specs.Grammar.{Position, Cost, skip, within_list, ArgumentListAs, PackedAs, args, end_of_arguments, one_more_argument, pack, end_of_pack, one_more_packed}
 use Rattle.itanium_grammar.proofs.Progress.{argument_takes}
 use Rattle.itanium_grammar.proofs.Scopes.{argument_keeps}
 use Rattle.itanium_grammar.specs.Cases.{ArgsCase}
@@ -17,7 +17,7 @@ use Rattle.itanium_reader.specs.Parser.{after_turn, loop, add_argument, add_nowh
 use Rattle.itanium_reader.specs.Parser.{parse_primary, parse_encoding, parse_special, parse_name, next_item, list_as}
 use Rattle.itanium_reader.specs.Parser.{list_turn, parse_list, parse_packed, parse_args, parse_pack}
 use Rattle.itanium_demangle.specs.Meaning.{state_at}
-use Rattle.itanium_demangle.proofs.Shapes.{same_read, IsInside, add_argument-scopes, begin_list-scopes, begin_list-inside, inside_more, shape-pack_of}
+use Rattle.itanium_demangle.proofs.Shapes.{same_read, IsInside, add_argument-scopes, open_scope_if-scopes, open_scope_if-inside, inside_more, shape-pack_of}
 use Rattle.itanium_demangle.specs.Readers.{shape_of_args}
 use Rattle.itanium_demangle.proofs.Fitting.{Met, met, met_then, met_then_again, met_as, met_turn, met_fits}
 use Rattle.itanium_demangle.proofs.Grows.{listed_more_item, listed_longer, closed_longer}
@@ -26,7 +26,7 @@ use Rattle.itanium_demangle.proofs.Readings.{Small, reached, ArgsComplete, Packs
 -- arguments put onto a list, in n turns
 abbrev TurnsMet : ℕ → ℕ → Type 0
 TurnsMet d n = (x : Context) (o : Bool) (k : ℕ) (outer : List (List Tree)) (own : Option (List Tree)) (p q : Position) (list : List Tree) (c : Cost)
-    → ArgumentsAs (args_case p.rest) x outer own p list q c → IsInside o k outer own → Small d c
+    → ArgumentListAs (args_case p.rest) x outer own p list q c → IsInside o k outer own → Small d c
     → (e m : ℕ) (first : Bool) (front : Shape) → length p.rest < n
     → Met text_len (loop (list_turn (add_argument o k) (parse_argument d x)) n (first, front) (state_at (within_list outer own p) e m)) (reached (λ us. listed_each first front (map shape_of us)) list q c e m)
 
@@ -45,7 +45,7 @@ turn_longer first front item rest =
 
 module _ (d : ℕ) (each : ArgumentsComplete d) where
   arguments_as_met : (n : ℕ) → TurnsMet d n → {case : ArgsCase} {x : Context} {o : Bool} {k : ℕ} {outer : List (List Tree)} {own : Option (List Tree)} {p q : Position} {list : List Tree} {c : Cost}
-      → ArgumentsAs case x outer own p list q c → IsInside o k outer own → Small d c
+      → ArgumentListAs case x outer own p list q c → IsInside o k outer own → Small d c
       → (e m : ℕ) (first : Bool) (front : Shape) → length p.rest < suc n
       → Met text_len (list_as case (add_argument o k) (parse_argument d x) (first, front) (state_at (within_list outer own p) e m)
       >>= λ r. after_turn r.0 (loop (list_turn (add_argument o k) (parse_argument d x)) n) r.1)
@@ -87,7 +87,7 @@ module _ (d : ℕ) (each : ArgumentsComplete d) where
 
   -- a list from its I to its E
   pub list_met : {x : Context} (o : Bool) (p : Position) {q : Position} {list : List Tree} {c : Cost}
-      → ArgumentsAs (args_case (drop 1 p.rest)) x p.scopes (if o then Some [] else None) (skip 1 p) list q c → Small d c
+      → ArgumentListAs (args_case (drop 1 p.rest)) x p.scopes (if o then Some [] else None) (skip 1 p) list q c → Small d c
       → (e m : ℕ)
       → Met text_len (parse_list (parse_argument d x) o (state_at p e m)) (reached shape_of_args list q c e m)
   list_met o p {list = list} a deep e m =
@@ -96,8 +96,8 @@ module _ (d : ℕ) (each : ArgumentsComplete d) where
       let built = arguments_alone (map shape_of list) in
       let closed = closed_longer (listed_each true begun (map shape_of list)) in
       let same_len = ap text_len built in
-      rw (begin_list-scopes o p.scopes)
-      (met_then _ (arguments_met (length (drop 1 p.rest) + 1) _ _ _ _ _ _ _ _ _ a (begin_list-inside o p.scopes) deep e m true begun (omega arith)) (omega arith)
+      rw (open_scope_if-scopes o p.scopes)
+      (met_then _ (arguments_met (length (drop 1 p.rest) + 1) _ _ _ _ _ _ _ _ _ a (open_scope_if-inside o p.scopes) deep e m true begun (omega arith)) (omega arith)
       (met (same_read built refl refl refl refl)))
 
   -- a pack from its J to its E

@@ -3,14 +3,14 @@ use Rattle.std.proofs.Common.{◌≡◌, ℕ, suc, ◌+◌, max, refl, ◌∙◌
 use Rattle.demangle_text.specs.Shape.{text_len}
 use Rattle.itanium_syntax.specs.declared.context.Context.{Context}
 use Rattle.itanium_syntax.specs.Context.{inside_encoding}
-use Rattle.itanium_syntax.specs.Expressions.{is_external, literal_case, expression_text}
+use Rattle.itanium_syntax.specs.Expressions.{is_external, primary_case, expression_text}
 use Rattle.itanium_grammar.specs.Tree.{Tree, Operand, shape_of, shape_of_operand}
-use Rattle.itanium_grammar.specs.Grammar.{Position, Cost, ArgumentAs, ExpressionAs, OperandOf, LiteralAs, external_name}
+use Rattle.itanium_grammar.specs.Grammar.{Position, Cost, ArgumentAs, ExpressionAs, OperandOf, PrimaryAs, external_name}
 use Rattle.itanium_grammar.specs.Grammar.{value_literal, expression, operand_of, pre_expression, address_expression}
 use Rattle.itanium_grammar.specs.Grammar.{unary_expression, post_expression, binary_expression, greater_expression}
 use Rattle.itanium_grammar.specs.Grammar.{conditional_expression, parameter_expression, literal_expression}
 use Rattle.itanium_grammar.specs.Grammar.{expression_argument, pack_argument, literal_argument, type_argument}
-use Rattle.itanium_grammar.specs.Cases.{AtE, LiteralCase, ExpressionCase, ArgumentCase}
+use Rattle.itanium_grammar.specs.Cases.{AtE, PrimaryCase, ExpressionCase, ArgumentCase}
 use Rattle.itanium_reader.specs.Parser.{parse_type, parse_name, parse_special, parse_pack, parse_encoding, literal_as}
 use Rattle.itanium_reader.specs.Parser.{parse_primary, operand_by, expression_as, parse_expression, argument_as}
 use Rattle.itanium_reader.specs.Parser.{parse_argument}
@@ -23,13 +23,13 @@ use Rattle.itanium_demangle.proofs.Readings.{Small, reached, given, TypesComplet
 use Rattle.itanium_demangle.proofs.CompleteNames.{parameter_complete, encoding_met}
 
 module _ (d : ℕ) (kinds : TypesComplete d) (bares : BareNamesComplete d) (thunks : ThunksComplete d) where
-  literal_met : {case : LiteralCase} {x : Context} {p q : Position} {t : Tree} {c : Cost} → LiteralAs case x p t q c → Small d c → (e m : ℕ)
+  literal_met : {case : PrimaryCase} {x : Context} {p q : Position} {t : Tree} {c : Cost} → PrimaryAs case x p t q c → Small d c → (e m : ℕ)
       → Met text_len (literal_as case (parse_type d x) (parse_encoding d AtE (inside_encoding x)) (state_at p e m)) (reached shape_of t q c e m)
   literal_met (external_name a end) deep e m = met_then _ (encoding_met d kinds bares thunks a deep e m) (omega arith) (met (rw end refl))
   literal_met (value_literal {t = t} {value = v} a found has) deep e m =
       met (rw (kinds _ _ _ _ _ a deep e m, found, has) (same_read (sym (shape-literal_of t v)) refl refl refl refl))
 
-  pub primary_met : {x : Context} {p q : Position} {t : Tree} {c : Cost} → LiteralAs (literal_case p.rest) x p t q c → Small d c → (e m : ℕ)
+  pub primary_met : {x : Context} {p q : Position} {t : Tree} {c : Cost} → PrimaryAs (primary_case p.rest) x p t q c → Small d c → (e m : ℕ)
       → Met text_len (parse_primary d x (state_at p e m)) (reached shape_of t q c e m)
   unfolding parse_primary
   primary_met a deep e m = literal_met a deep e m

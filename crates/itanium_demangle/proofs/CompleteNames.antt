@@ -20,7 +20,7 @@ use Rattle.itanium_syntax.proofs.Fronts.{alone_after_name, initializer_after, af
 use Rattle.itanium_grammar.specs.Tree.{Tree, bare_shape, own_quals, thunk_of, with_args, trees, unnamed_text, literal_operator_text, shape_of, name_printing}
 use Rattle.itanium_grammar.specs.Grammar.{Position, Cost, with_rest, SpecialAs, special_encoding}
 use Rattle.itanium_grammar.specs.Grammar.{type_special, name_special, temporary_special, construction_special}
-use Rattle.itanium_grammar.specs.Grammar.{thunk_special, thunk, name_alone, past_initializer, last_of}
+use Rattle.itanium_grammar.specs.Grammar.{thunk_special, thunk, name_encoding, past_initializer, last_of}
 use Rattle.itanium_grammar.specs.Grammar.{SubstitutionAs, Substitution, ArgumentNamed, Parameter, TaggedAs, UnqualifiedAs}
 use Rattle.itanium_grammar.specs.Grammar.{Unqualified, FirstAs, Name, NameAs, Local, EntityAs, EncodingAs}
 use Rattle.itanium_grammar.specs.Grammar.{ReturnAs, EncodingParamsAs, UnscopedAs, AttachedAs, Nested, SegmentsAs}
@@ -31,8 +31,8 @@ use Rattle.itanium_grammar.specs.Grammar.{ordinary_literal_operator, ordinary_op
 use Rattle.itanium_grammar.specs.Grammar.{destructor_unqualified, ordinary_unqualified, unqualified, parameter_first}
 use Rattle.itanium_grammar.specs.Grammar.{std_first, substitution_first, name_first, name, nested_name, local_name}
 use Rattle.itanium_grammar.specs.Grammar.{local, string_literal_entity, default_argument_entity, name_entity}
-use Rattle.itanium_grammar.specs.Grammar.{name_encoding, no_return_type, some_return_type, no_encoding_params, some_encoding_params}
-use Rattle.itanium_grammar.specs.Grammar.{unscoped_name, std_name, substitution_name, global_name, none_attached}
+use Rattle.itanium_grammar.specs.Grammar.{full_encoding, no_return_type, some_return_type, no_encoding_params, some_encoding_params}
+use Rattle.itanium_grammar.specs.Grammar.{unscoped_name, std_name, substitution_name, plain_name, none_attached}
 use Rattle.itanium_grammar.specs.Grammar.{args_attached, nested, end_of_segments, args_segment, name_segment}
 use Rattle.itanium_grammar.proofs.Progress.{unqualified_takes, args_takes}
 use Rattle.itanium_grammar.specs.Cases.{EncodingEnd, AfterName, AtE, AtSymbolEnd, EncodingCase, SpecialCase, ReturnCase, EncodingParamsCase, EntityCase}
@@ -158,7 +158,7 @@ module _ (d : ℕ) (lists : ArgsComplete d) (kinds : TypesComplete d) where
       (met (attached_complete b (omega arith) (e + c.count) (max m c.peak) ∙ same_read refl refl refl (omega arith) (omega arith))))
   unscoped_met (substitution_name {p = p} {t = t} {ts = ts} a case b) deep e m =
       met (rw (substitution_complete p a e m, case, lists _ _ _ _ _ _ b deep e m, ← shape-with_args t ts) refl)
-  unscoped_met (global_name {c = c} a b) deep e m =
+  unscoped_met (plain_name {c = c} a b) deep e m =
       met_then _ (unqualified_met a (omega arith) e m) (attached_as_longer b)
       (met (attached_complete b (omega arith) (e + c.count) (max m c.peak) ∙ same_read refl refl refl (omega arith) (omega arith)))
 
@@ -262,8 +262,8 @@ module _ (d : ℕ) (kinds : TypesComplete d) (bares : BareNamesComplete d) (thun
   encoding_as_met : {case : EncodingCase} {end : EncodingEnd} {x : Context} {p q : Position} {t : Tree} {c : Cost} → EncodingAs case end x p t q c → Small d c → (e m : ℕ)
       → Met text_len (encoding_as case end (parse_special d end x) (parse_name d x) (parse_bare_name d x) (parse_type d x) (parse_type d (inside_params end x)) (state_at p e m)) (reached shape_of t q c e m)
   encoding_as_met (special_encoding a) deep e m = met (special_complete a deep e m)
-  encoding_as_met (name_alone a) deep e m = met (names_complete d bares _ _ _ _ _ a deep e m)
-  encoding_as_met (name_encoding {end = end} {q = q} {r = r} {c = c} {d = f} a b g) deep e m =
+  encoding_as_met (name_encoding a) deep e m = met (names_complete d bares _ _ _ _ _ a deep e m)
+  encoding_as_met (full_encoding {end = end} {q = q} {r = r} {c = c} {d = f} a b g) deep e m =
       rw (
         bares _ _ _ _ _ a (omega arith) e m,
         same_return end a q.rest,
@@ -280,8 +280,8 @@ module _ (d : ℕ) (kinds : TypesComplete d) (bares : BareNamesComplete d) (thun
   alone_as_complete : {case : EncodingCase} {x : Context} {p q : Position} {t : Tree} {c : Cost} → encoding_case AfterName p.rest ≡ case → EncodingAs case AfterName x p t q c → Small d c → (e m : ℕ)
       → encoding_as case AfterName (parse_special d AfterName x) (parse_name d x) (parse_bare_name d x) (parse_type d x) (parse_type d x) (state_at p e m) ≡ given shape_of t q c e m
   alone_as_complete is (special_encoding a) deep e m = special_complete a deep e m
-  alone_as_complete is (name_alone a) deep e m = names_complete d bares _ _ _ _ _ a deep e m
-  alone_as_complete {p = p} is (name_encoding a b g) deep e m = absurd (alone_after_name p.rest is)
+  alone_as_complete is (name_encoding a) deep e m = names_complete d bares _ _ _ _ _ a deep e m
+  alone_as_complete {p = p} is (full_encoding a b g) deep e m = absurd (alone_after_name p.rest is)
 
   pub alone_complete : {x : Context} {p q : Position} {t : Tree} {c : Cost} → EncodingAs (encoding_case AfterName p.rest) AfterName x p t q c → Small d c → (e m : ℕ)
       → parse_encoding d AfterName x (state_at p e m) ≡ given shape_of t q c e m

@@ -3,7 +3,7 @@ use Rattle.std.proofs.Common.{◌≡◌, ℕ, zero, suc, ◌+◌, refl, arith}
 use Rattle.itanium_syntax.specs.declared.context.Context.{Context}
 use Rattle.itanium_grammar.specs.Tree.{Tree, shape_of}
 use Rattle.itanium_grammar.specs.Cases.{AfterName}
-use Rattle.itanium_grammar.specs.Grammar.{Position, Cost, Symbol, Signature, signature, name, args, pack, type, expression, thunk}
+use Rattle.itanium_grammar.specs.Grammar.{Position, Cost, SymbolName, Signature, signature, name, args, pack, type, expression, thunk}
 use Rattle.itanium_reader.specs.Parser.{parse_encoding, parse_signature}
 use Rattle.itanium_demangle.proofs.Shapes.{same_read}
 use Rattle.itanium_demangle.proofs.Fitting.{met_as, met_fits}
@@ -46,7 +46,7 @@ all_complete (suc d) =
       thunks_complete d kinds bares thunks,
     )
 
-pub symbol_complete : {x : Context} {p q : Position} {t : Tree} {c : Cost} → Symbol x p t q c → (d : ℕ) → Small d c → (e m : ℕ)
+pub symbol_complete : {x : Context} {p q : Position} {t : Tree} {c : Cost} → SymbolName x p t q c → (d : ℕ) → Small d c → (e m : ℕ)
     → parse_encoding d AfterName x (state_at p e m) ≡ given shape_of t q c e m
 symbol_complete a d deep e m =
     let (bares, lists, packs, kinds, values, thunks) = all_complete d in alone_complete d kinds bares thunks a deep e m

@@ -131,7 +131,7 @@ worked_symbols = record {
       (codes "typeinfo for std::optional<llvm::StringRef> (llvm::json::Object::*)(llvm::StringRef) const") refl refl;
   parameters = answer_by true (codes "_Z3fooi.cold") (codes "3fooi.cold") (codes "foo(int).cold") refl refl;
   no_parameters = answer_by true (codes "_Z3foov@plt") (codes "3foov@plt") (codes "foo()") refl refl;
-  name_alone = answer_by true (codes "_ZN1AIiE1xE") (codes "N1AIiE1xE") (codes "A<int>::x") refl refl;
+  name_encoding = answer_by true (codes "_ZN1AIiE1xE") (codes "N1AIiE1xE") (codes "A<int>::x") refl refl;
   own_qualifiers = answer_by true (codes "_ZNK3Foo3barEv") (codes "NK3Foo3barEv") (codes "Foo::bar() const") refl refl;
   words_of_a_name = answer_by true (codes "_ZNK3Foo3barE") (codes "NK3Foo3barE") (codes "Foo::bar const") refl refl;
   return_type = answer_by true (codes "_Z1fIiEvT_") (codes "1fIiEvT_") (codes "f<int>(int)") refl refl;

@@ -4,7 +4,7 @@ use Rattle.std.proofs.lemmas.Option.{same_Some}
 use Rattle.demangle_text.specs.Shape.{Shape, text_len}
 use Rattle.itanium_syntax.specs.declared.context.Context.{Context}
 use Rattle.itanium_grammar.specs.Tree.{Tree, shape_of}
-use Rattle.itanium_grammar.specs.Grammar.{Position, Cost, Name, Thunk, Symbol, Signature, Args, Pack, Expression, TypeOf}
+use Rattle.itanium_grammar.specs.Grammar.{Position, Cost, Name, Thunk, SymbolName, Signature, Args, Pack, Expression, TypeOf}
 use Rattle.itanium_syntax.specs.Context.{showing_words}
 use Rattle.itanium_grammar.specs.Cases.{EncodingEnd, AfterName}
 use Rattle.itanium_grammar.specs.Answer.{Mangled, initial}
@@ -107,9 +107,9 @@ special_names d end x =
 thunks : (d : ℕ) (end : EncodingEnd) (x : Context) → IsParserOf (Thunk end x) (Thunk end x) shape_of d (parse_thunk d end x)
 thunks d end x = parser_of (Thunk end x) shape_of d (parse_thunk d end x) ((all_complete d).5 end x) ((all_sound d).5 end x) (λ p q r t u c f a b. one_thunk a b)
 
-symbols : (d : ℕ) (x : Context) → IsParserOf (Symbol x) (Symbol x) shape_of d (parse_encoding d AfterName x)
+symbols : (d : ℕ) (x : Context) → IsParserOf (SymbolName x) (SymbolName x) shape_of d (parse_encoding d AfterName x)
 symbols d x =
-    parser_of (Symbol x) shape_of d (parse_encoding d AfterName x)
+    parser_of (SymbolName x) shape_of d (parse_encoding d AfterName x)
     (λ p q t c a deep e m. symbol_complete a d deep e m) (symbol_sound d x) (λ p q r t u c f a b. one_encoding_as a b)
 
 signatures : (d : ℕ) (x : Context) → IsParserOf (Signature x) (Signature x) shape_of d (parse_signature d x)

@@ -238,12 +238,12 @@ add_argument-scopes {k = k} {outer = outer} (Some own) t {later = later} inside 
     ∙ sym (map-append (map shape_of) outer ((own ++ t ∷ []) ∷ [])))
 
 -- a list begins
-pub begin_list-scopes : (o : Bool) (outer : List (List Tree))
+pub open_scope_if-scopes : (o : Bool) (outer : List (List Tree))
     → (if o then map (map shape_of) outer ++ [] ∷ [] else map (map shape_of) outer) ≡ map (map shape_of) (scopes_inside outer (if o then Some [] else None))
-begin_list-scopes true outer = sym (map-append (map shape_of) outer ([] ∷ []))
-begin_list-scopes false outer = refl
+open_scope_if-scopes true outer = sym (map-append (map shape_of) outer ([] ∷ []))
+open_scope_if-scopes false outer = refl
 
-pub begin_list-inside : (o : Bool) (outer : List (List Tree))
+pub open_scope_if-inside : (o : Bool) (outer : List (List Tree))
     → IsInside o (length (map (map shape_of) (scopes_inside outer (if o then Some [] else None)))) outer (if o then Some [] else None)
-begin_list-inside true outer = record { opened = refl; count_is = length-map (outer ++ [] ∷ []) (map shape_of) }
-begin_list-inside false outer = record { opened = refl; count_is = length-map outer (map shape_of) }
+open_scope_if-inside true outer = record { opened = refl; count_is = length-map (outer ++ [] ∷ []) (map shape_of) }
+open_scope_if-inside false outer = record { opened = refl; count_is = length-map outer (map shape_of) }

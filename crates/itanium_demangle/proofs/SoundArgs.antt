@@ -8,7 +8,7 @@ use Rattle.itanium_syntax.specs.Context.{opens_scope, hiding_dots}
 use Rattle.itanium_syntax.specs.Args.{args_case}
 use Rattle.itanium_syntax.proofs.Fronts.{after_drop, after-le}
 use Rattle.itanium_grammar.specs.Tree.{Tree, shape_of}
-use Rattle.itanium_grammar.specs.Grammar.{Position, within_list, skip, both, Args, ArgumentsAs, Pack}
+use Rattle.itanium_grammar.specs.Grammar.{Position, within_list, skip, both, Args, ArgumentListAs, Pack}
 use Rattle.itanium_grammar.specs.Grammar.{PackedAs, args, end_of_arguments, one_more_argument, pack, end_of_pack}
 use Rattle.itanium_grammar.specs.Grammar.{one_more_packed}
 use Rattle.itanium_grammar.proofs.Progress.{argument_takes}
@@ -19,7 +19,7 @@ use Rattle.itanium_reader.specs.Parser.{ParserState, Turn, after_turn, loop, par
 use Rattle.itanium_reader.specs.Parser.{parse_argument, parse_primary, parse_encoding, parse_special, parse_name}
 use Rattle.itanium_reader.specs.Parser.{next_item, list_as, list_turn, parse_list, parse_packed, parse_args, parse_pack}
 use Rattle.itanium_demangle.specs.Meaning.{state_at}
-use Rattle.itanium_demangle.proofs.Shapes.{IsInside, add_argument-scopes, begin_list-scopes, begin_list-inside, inside_more}
+use Rattle.itanium_demangle.proofs.Shapes.{IsInside, add_argument-scopes, open_scope_if-scopes, open_scope_if-inside, inside_more}
 use Rattle.itanium_demangle.proofs.Fitting.{met_passed, past_fitting}
 use Rattle.itanium_demangle.proofs.Readings.{Within, PacksSound, ArgsSound, ArgumentsComplete, ArgumentsSound}
 use Rattle.itanium_demangle.proofs.CompleteArgs.{list_met, pack_met, args_complete, packs_complete}
@@ -30,7 +30,7 @@ abbrev TurnsSound : ℕ → ℕ → Type 0
 TurnsSound d n = (x : Context) (o : Bool) (k : ℕ) (outer : List (List Tree)) (own : Option (List Tree)) (first : Bool) (front : Shape) (p : Position) (e m : ℕ) (y : Shape × ParserState)
     → IsInside o k outer own → length p.rest < n
     → loop (list_turn (parser.add_argument o k) (parse_argument d x)) n (first, front) (state_at (within_list outer own p) e m) ≡ Some y
-    → Within (ArgumentsAs (args_case p.rest) x outer own p) d
+    → Within (ArgumentListAs (args_case p.rest) x outer own p) d
 
 -- a pack's arguments after what stands of its list, in n turns
 abbrev PackedSound : ℕ → ℕ → Type 0
@@ -42,7 +42,7 @@ module _ (d : ℕ) (each : ArgumentsSound d) where
       → IsInside o k outer own → length p.rest < suc n
       → (list_as case (parser.add_argument o k) (parse_argument d x) (first, front) (state_at (within_list outer own p) e m)
       >>= λ r. after_turn r.0 (loop (list_turn (parser.add_argument o k) (parse_argument d x)) n) r.1) ≡ Some y
-      → Within (ArgumentsAs case x outer own p) d
+      → Within (ArgumentListAs case x outer own p) d
   arguments_as_sound n again EndOfArguments x o k outer own first front p e m y inside room is = record { tree = _; next = _; cost = _; reading = end_of_arguments; deep = omega arith }
   arguments_as_sound n again NextArgument x o k outer own first front p e m y inside room is =
       let here = within_list outer own p in
@@ -105,10 +105,10 @@ args_sound d each_is each x of_name p e m y is =
     let count = length (map (map shape_of) begun.scopes) in
     let within = after-le (after_drop 1 p.rest) in
     option_and_then_some _ (parse_list (parse_argument d x) opens (state_at p (e + 1) m)) y is (λ u read through.
-    let there = rw (begin_list-scopes opens p.scopes) at read in
+    let there = rw (open_scope_if-scopes opens p.scopes) at read in
     option_and_then_some _ (parse_loop (list_turn (parser.add_argument opens count) (parse_argument d x)) (true, plain_shape (codes "<")) (state_at begun (e + 1) m)) u there
     (λ z list _.
-    let r = arguments_sound d each _ x opens count p.scopes own true (plain_shape (codes "<")) (skip 1 p) (e + 1) m z (begin_list-inside opens p.scopes) (omega arith) list in
+    let r = arguments_sound d each _ x opens count p.scopes own true (plain_shape (codes "<")) (skip 1 p) (e + 1) m z (open_scope_if-inside opens p.scopes) (omega arith) list in
     let narrow = met_passed (list_met d each_is opens p r.reading r.deep (e + 1) m) read through in
     let w : Within (Args of_name x p) (suc d) = record { tree = _; next = _; cost = _; reading = args r.reading; deep = omega (arith, r.deep, narrow) } in
     record { within = w; is = same_Some _ _ (sym is ∙ args_complete d each_is x of_name _ _ _ _ w.reading w.deep e m) }))

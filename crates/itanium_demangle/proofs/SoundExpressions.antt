@@ -8,19 +8,19 @@ use Rattle.itanium_syntax.specs.declared.context.Context.{Context}
 use Rattle.itanium_syntax.specs.Context.{inside_encoding}
 use Rattle.itanium_syntax.specs.Bytes.{begins}
 use Rattle.itanium_syntax.specs.Args.{argument_case}
-use Rattle.itanium_syntax.specs.Expressions.{literal_case, literal_value, expression_case}
+use Rattle.itanium_syntax.specs.Expressions.{primary_case, literal_value, expression_case}
 use Rattle.itanium_grammar.specs.Tree.{shape_of, shape_of_operand}
-use Rattle.itanium_grammar.specs.Grammar.{Position, skip, ArgumentAs, Expression, ExpressionAs, OperandOf, LiteralAs}
+use Rattle.itanium_grammar.specs.Grammar.{Position, skip, ArgumentAs, Expression, ExpressionAs, OperandOf, PrimaryAs}
 use Rattle.itanium_grammar.specs.Grammar.{external_name, value_literal, expression, operand_of, pre_expression}
 use Rattle.itanium_grammar.specs.Grammar.{address_expression, unary_expression, post_expression, binary_expression}
 use Rattle.itanium_grammar.specs.Grammar.{greater_expression, conditional_expression, parameter_expression}
 use Rattle.itanium_grammar.specs.Grammar.{literal_expression, expression_argument, pack_argument, literal_argument}
 use Rattle.itanium_grammar.specs.Grammar.{type_argument}
-use Rattle.itanium_grammar.specs.Cases.{AtE, LiteralCase, ExternalName, ValueLiteral, UnreadLiteral, ExpressionCase}
+use Rattle.itanium_grammar.specs.Cases.{AtE, PrimaryCase, ExternalName, ValueLiteral, UnreadPrimary, ExpressionCase}
 use Rattle.itanium_grammar.specs.Cases.{PreExpression, AddressExpression, UnaryExpression, PostExpression}
 use Rattle.itanium_grammar.specs.Cases.{BinaryExpression, GreaterExpression, ConditionalExpression}
-use Rattle.itanium_grammar.specs.Cases.{ParameterExpression, LiteralExpression, UnreadExpression, ArgumentCase}
-use Rattle.itanium_grammar.specs.Cases.{ExpressionArgument, PackArgument, LiteralArgument, ConstraintArgument}
+use Rattle.itanium_grammar.specs.Cases.{ParameterExpression, PrimaryExpression, UnreadExpression, ArgumentCase}
+use Rattle.itanium_grammar.specs.Cases.{ExpressionArgument, PackArgument, PrimaryArgument, ConstraintArgument}
 use Rattle.itanium_grammar.specs.Cases.{TypeArgument}
 use Rattle.itanium_reader.specs.Parser.{ParserState, parse_type, parse_name, parse_special, parse_pack, parse_encoding}
 use Rattle.itanium_reader.specs.Parser.{past_end, literal_as, parse_primary, operand_by, expression_as}
@@ -42,8 +42,8 @@ value_sound : (kind : Shape) (value : List ℕ) (v : Shape) → literal_step kin
 value_sound kind value v is = (cond_some (has_literal (text kind) value) _ v is).0
 
 module _ (d : ℕ) (complete : TypesComplete d) (bares_are : BareNamesComplete d) (thunks_are : ThunksComplete d) (kinds : TypesSound d) (bares : BareNamesSound d) (thunks : ThunksSound d) where
-  literal_sound : (case : LiteralCase) (x : Context) (p : Position) (e m : ℕ) (y : Shape × ParserState)
-      → literal_as case (parse_type d x) (parse_encoding d AtE (inside_encoding x)) (state_at p e m) ≡ Some y → Within (LiteralAs case x p) d
+  literal_sound : (case : PrimaryCase) (x : Context) (p : Position) (e m : ℕ) (y : Shape × ParserState)
+      → literal_as case (parse_type d x) (parse_encoding d AtE (inside_encoding x)) (state_at p e m) ≡ Some y → Within (PrimaryAs case x p) d
   literal_sound ExternalName x p e m y is =
       option_and_then_some _ (parse_encoding d AtE (inside_encoding x) (state_at (skip 3 p) e m)) y is (λ z read more.
       let found = encoding_sound d complete bares_are thunks_are kinds bares thunks AtE (inside_encoding x) (skip 3 p) e m z read in
@@ -59,11 +59,11 @@ module _ (d : ℕ) (complete : TypesComplete d) (bares_are : BareNamesComplete d
       option_and_then_some _ (literal_value i.next.rest) y there (λ v value made.
       option_and_then_some _ (literal_step (shape_of i.tree) v.0) y made (λ w literal _.
       record { tree = _; next = _; cost = _; reading = value_literal i.reading value (value_sound (shape_of i.tree) v.0 w literal); deep = i.deep })))
-  literal_sound UnreadLiteral x p e m y is = cc
+  literal_sound UnreadPrimary x p e m y is = cc
 
-  pub primary_sound : (x : Context) (p : Position) (e m : ℕ) (y : Shape × ParserState) → parse_primary d x (state_at p e m) ≡ Some y → Within (LiteralAs (literal_case p.rest) x p) d
+  pub primary_sound : (x : Context) (p : Position) (e m : ℕ) (y : Shape × ParserState) → parse_primary d x (state_at p e m) ≡ Some y → Within (PrimaryAs (primary_case p.rest) x p) d
   unfolding parse_primary
-  primary_sound x p e m y is = literal_sound (literal_case p.rest) x p e m y is
+  primary_sound x p e m y is = literal_sound (primary_case p.rest) x p e m y is
 
 module _ (d : ℕ) (complete : TypesComplete d) (bares_are : BareNamesComplete d) (thunks_are : ThunksComplete d)
     (values_are : ExpressionsComplete d) (kinds : TypesSound d) (bares : BareNamesSound d) (thunks : ThunksSound d)
@@ -123,7 +123,7 @@ module _ (d : ℕ) (complete : TypesComplete d) (bares_are : BareNamesComplete d
       record { tree = _; next = _; cost = _; reading = conditional_expression i.reading o.reading l.reading; deep = omega (arith, i.deep, o.deep, l.deep) })))
   expression_as_sound ParameterExpression x p e m y is =
       let i = parameter_sound x p e m y is in record { tree = _; next = _; cost = _; reading = parameter_expression i.reading; deep = omega arith }
-  expression_as_sound LiteralExpression x p e m y is =
+  expression_as_sound PrimaryExpression x p e m y is =
       let i = primary_sound d complete bares_are thunks_are kinds bares thunks x p e m y is in record { tree = _; next = _; cost = _; reading = literal_expression i.reading; deep = i.deep }
   expression_as_sound UnreadExpression x p e m y is = cc
 
@@ -149,7 +149,7 @@ module _ (d : ℕ) (packs_are : PacksComplete d) (complete : TypesComplete d) (b
       record { tree = _; next = _; cost = _; reading = expression_argument i.reading (end_sound i.next (e + i.cost.count) (max m i.cost.peak) after end); deep = i.deep }))
   argument_as_sound PackArgument x p e m y is =
       let i = (packs x p e m y is).within in record { tree = _; next = _; cost = _; reading = pack_argument i.reading; deep = i.deep }
-  argument_as_sound LiteralArgument x p e m y is =
+  argument_as_sound PrimaryArgument x p e m y is =
       let i = primary_sound d complete bares_are thunks_are kinds bares thunks x p e m y is in record { tree = _; next = _; cost = _; reading = literal_argument i.reading; deep = i.deep }
   argument_as_sound ConstraintArgument x p e m y is = cc
   argument_as_sound TypeArgument x p e m y is =

@@ -6,7 +6,7 @@ use Rattle.demangle_edit.specs.Built.{listed_each, listed_more}
 use Rattle.itanium_syntax.specs.declared.context.Context.{Context}
 use Rattle.itanium_syntax.specs.Types.{types_case}
 use Rattle.itanium_grammar.specs.Tree.{shape_of}
-use Rattle.itanium_grammar.specs.Grammar.{Position, ParamsAs, TypesAs, no_params, some_params, end_of_types, one_more_type}
+use Rattle.itanium_grammar.specs.Grammar.{Position, ParamsAs, TypeListAs, no_params, some_params, end_of_types, one_more_type}
 use Rattle.itanium_grammar.proofs.Progress.{type_takes}
 use Rattle.itanium_grammar.specs.Cases.{EncodingEnd, ParamsCase, NoParams, SomeParams, TypesCase, EndOfTypes, NextType}
 use Rattle.itanium_reader.specs.Parser.{ParserState, after_turn, loop, ◌>>=◌, next_item, typed_as, typed_turn, typed_params_as, parse_type}
@@ -18,12 +18,12 @@ use Rattle.itanium_demangle.proofs.CompleteLists.{typed_params_met}
 -- types put onto a list, in n turns
 abbrev TypedSound : ℕ → EncodingEnd → Bool → ℕ → Type 0
 TypedSound d end of_function n = (x : Context) (first : Bool) (front : Shape) (p : Position) (e m : ℕ) (y : Shape × ParserState) → length p.rest < n
-    → loop (typed_turn end of_function (parse_type d x)) n (first, front) (state_at p e m) ≡ Some y → Within (TypesAs (types_case end of_function p.rest) end of_function x p) d
+    → loop (typed_turn end of_function (parse_type d x)) n (first, front) (state_at p e m) ≡ Some y → Within (TypeListAs (types_case end of_function p.rest) end of_function x p) d
 
 module _ (end : EncodingEnd) (of_function : Bool) (d : ℕ) (complete : TypesComplete d) (kinds : TypesSound d) where
   typed_as_sound : (n : ℕ) → TypedSound d end of_function n → (case : TypesCase) (x : Context) (first : Bool) (front : Shape) (p : Position) (e m : ℕ) (y : Shape × ParserState) → length p.rest < suc n
       → (typed_as case (parse_type d x) (first, front) (state_at p e m) >>= λ r. after_turn r.0
-      (loop (typed_turn end of_function (parse_type d x)) n) r.1) ≡ Some y → Within (TypesAs case end of_function x p) d
+      (loop (typed_turn end of_function (parse_type d x)) n) r.1) ≡ Some y → Within (TypeListAs case end of_function x p) d
   typed_as_sound n again EndOfTypes x first front p e m y room is = record { tree = _; next = _; cost = _; reading = end_of_types; deep = omega arith }
   typed_as_sound n again NextType x first front p e m y room is =
       option_and_then_some _ (typed_as NextType (parse_type d x) (first, front) (state_at p e m)) y is (λ v turned rest.

@@ -19,7 +19,7 @@ use Rattle.itanium_grammar.specs.Grammar.{Position, Cost, with_rest, skip, save,
 use Rattle.itanium_grammar.specs.Grammar.{saving, SubstitutionAs, Substitution, ArgumentNamed, Parameter, TaggedAs}
 use Rattle.itanium_grammar.specs.Grammar.{OrdinaryAs, UnqualifiedAs, Unqualified, FirstAs, NameAs, Name, nothing, SpecialAs}
 use Rattle.itanium_grammar.specs.Grammar.{Signature, signature, Thunk, special_encoding, type_special, name_special}
-use Rattle.itanium_grammar.specs.Grammar.{temporary_special, construction_special, thunk_special, thunk, name_alone}
+use Rattle.itanium_grammar.specs.Grammar.{temporary_special, construction_special, thunk_special, thunk, name_encoding}
 use Rattle.itanium_grammar.specs.Grammar.{Local, EntityAs, EncodingAs, ReturnAs, EncodingParamsAs}
 use Rattle.itanium_grammar.specs.Grammar.{UnscopedAs, AttachedAs, Nested, SegmentsAs, Args}
 use Rattle.itanium_grammar.specs.Grammar.{abbreviation_substitution, component_substitution}
@@ -28,9 +28,9 @@ use Rattle.itanium_grammar.specs.Grammar.{ordinary_unnamed_type, ordinary_lambda
 use Rattle.itanium_grammar.specs.Grammar.{ordinary_operator, constructor_unqualified, destructor_unqualified}
 use Rattle.itanium_grammar.specs.Grammar.{ordinary_unqualified, unqualified, parameter_first, std_first, substitution_first}
 use Rattle.itanium_grammar.specs.Grammar.{name_first, name, nested_name, local_name, local, string_literal_entity}
-use Rattle.itanium_grammar.specs.Grammar.{default_argument_entity, name_entity, name_encoding, no_return_type}
+use Rattle.itanium_grammar.specs.Grammar.{default_argument_entity, name_entity, full_encoding, no_return_type}
 use Rattle.itanium_grammar.specs.Grammar.{some_return_type, no_encoding_params, some_encoding_params, unscoped_name, std_name}
-use Rattle.itanium_grammar.specs.Grammar.{substitution_name, global_name, none_attached, args_attached, nested}
+use Rattle.itanium_grammar.specs.Grammar.{substitution_name, plain_name, none_attached, args_attached, nested}
 use Rattle.itanium_grammar.specs.Grammar.{end_of_segments, args_segment, name_segment}
 use Rattle.itanium_grammar.proofs.Progress.{unqualified_takes, args_takes}
 use Rattle.itanium_grammar.specs.Cases.{EncodingEnd, AtE, AtSymbolEnd, EncodingCase, SpecialEncoding, NameEncoding, FullEncoding, SpecialCase, TypeSpecial, NameSpecial}
@@ -299,7 +299,7 @@ module _ (d : ℕ) (complete : TypesComplete d) (lists_are : ArgsComplete d) (ki
       let found = unqualified_sound d complete lists_are kinds x None p e m z first in
       let i = found.within in
       let l = attached_as_sound (attached_case i.next.rest) x i.tree i.next (e + i.cost.count) (max m i.cost.peak) y (rw found.is at more) in
-      record { tree = _; next = _; cost = _; reading = global_name i.reading l.reading; deep = omega (arith, i.deep, l.deep) })
+      record { tree = _; next = _; cost = _; reading = plain_name i.reading l.reading; deep = omega (arith, i.deep, l.deep) })
 
 -- the segments after what stands, in n turns
 abbrev SegmentsSound : ℕ → ℕ → Type 0
@@ -459,7 +459,7 @@ module _ (d : ℕ) (complete : TypesComplete d) (bares_are : BareNamesComplete d
   encoding_as_sound SpecialEncoding end x p e m y is =
       let i = special_sound end x p e m y is in record { tree = _; next = _; cost = _; reading = special_encoding i.reading; deep = i.deep }
   encoding_as_sound NameEncoding end x p e m y is =
-      let i = (names_sound d bares_are bares x p e m y is).within in record { tree = _; next = _; cost = _; reading = name_alone i.reading; deep = i.deep }
+      let i = (names_sound d bares_are bares x p e m y is).within in record { tree = _; next = _; cost = _; reading = name_encoding i.reading; deep = i.deep }
   encoding_as_sound FullEncoding end x p e m y is =
       option_and_then_some _ (parse_bare_name d x (state_at p e m)) y is (λ z named ends.
       let found = bares x p e m z named in
@@ -469,7 +469,7 @@ module _ (d : ℕ) (complete : TypesComplete d) (bares_are : BareNamesComplete d
       option_and_then_some _ (return_as case (parse_type d x) (state_at i.next (e + i.cost.count) (max m i.cost.peak))) y there (λ after left signed.
       let r = return_sound d kinds case x i.next (e + i.cost.count) (max m i.cost.peak) after left in
       let s = signature_sound d complete kinds (encoding_params_case end r.next.rest) end x i.tree r.next (e + i.cost.count + r.cost.count) (max (max m i.cost.peak) r.cost.peak) y (rw r.is at signed) in
-      record { tree = _; next = _; cost = _; reading = name_encoding i.reading r.reading s.reading; deep = omega (arith, i.deep, r.deep, s.deep) }))
+      record { tree = _; next = _; cost = _; reading = full_encoding i.reading r.reading s.reading; deep = omega (arith, i.deep, r.deep, s.deep) }))
 
   pub encoding_sound : (end : EncodingEnd) (x : Context) (p : Position) (e m : ℕ) (y : Shape × ParserState) → parse_encoding d end x (state_at p e m) ≡ Some y → Found (EncodingAs (encoding_case end p.rest) end x p) shape_of d e m y
   unfolding parse_encoding

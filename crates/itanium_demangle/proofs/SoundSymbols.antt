@@ -5,7 +5,7 @@ use Rattle.demangle_text.specs.Shape.{Shape}
 use Rattle.itanium_syntax.specs.declared.context.Context.{Context}
 use Rattle.itanium_grammar.specs.Tree.{shape_of}
 use Rattle.itanium_grammar.specs.Cases.{AfterName}
-use Rattle.itanium_grammar.specs.Grammar.{Position, Symbol, Signature}
+use Rattle.itanium_grammar.specs.Grammar.{Position, SymbolName, Signature}
 use Rattle.itanium_reader.specs.Parser.{ParserState, parse_bare_name, parse_encoding, parse_signature}
 use Rattle.itanium_demangle.specs.Meaning.{state_at}
 use Rattle.itanium_demangle.proofs.Readings.{Found, BareNamesSound, ArgsSound, PacksSound, TypesSound, ExpressionsSound, ThunksSound}
@@ -34,7 +34,7 @@ all_sound (suc d) =
       thunks_sound d kinds_are bares_are thunks_are kinds bares thunks,
     )
 
-pub symbol_sound : (d : ℕ) (x : Context) (p : Position) (e m : ℕ) (y : Shape × ParserState) → parse_encoding d AfterName x (state_at p e m) ≡ Some y → Found (Symbol x p) shape_of d e m y
+pub symbol_sound : (d : ℕ) (x : Context) (p : Position) (e m : ℕ) (y : Shape × ParserState) → parse_encoding d AfterName x (state_at p e m) ≡ Some y → Found (SymbolName x p) shape_of d e m y
 symbol_sound d x p e m y is =
     let (bares_are, lists_are, packs_are, kinds_are, values_are, thunks_are) = all_complete d in
     let (bares, lists, packs, kinds, values, thunks) = all_sound d in

@@ -17,7 +17,7 @@ use Rattle.itanium_grammar.specs.Grammar.{Position, Cost, TaggedAs, OrdinaryAs, 
 use Rattle.itanium_grammar.specs.Grammar.{AttachedAs, Name, NameAs, EntityAs, no_tag, next_tag, ordinary_source}
 use Rattle.itanium_grammar.specs.Grammar.{ordinary_unnamed_type, ordinary_lambda, ordinary_conversion, ordinary_literal_operator}
 use Rattle.itanium_grammar.specs.Grammar.{ordinary_operator, constructor_unqualified, destructor_unqualified}
-use Rattle.itanium_grammar.specs.Grammar.{ordinary_unqualified, unqualified, std_name, substitution_name, global_name}
+use Rattle.itanium_grammar.specs.Grammar.{ordinary_unqualified, unqualified, std_name, substitution_name, plain_name}
 use Rattle.itanium_grammar.specs.Grammar.{none_attached, args_attached, name, nested_name, local_name, unscoped_name}
 use Rattle.itanium_grammar.specs.Grammar.{nested, local, string_literal_entity, default_argument_entity, name_entity}
 use Rattle.itanium_grammar.specs.Cases.{EncodingEnd, NameCase, NestedName, LocalName, UnscopedName, TagCase, OrdinaryCase, UnqualifiedCase, UnscopedCase, AttachedCase, EntityCase}
@@ -60,7 +60,7 @@ pub unscoped_none : {case : UnscopedCase} {x : Context} {p q : Position} {t : Tr
 unfolding shape_of
 unscoped_none (std_name a b) = attached_none b (unqualified_none a)
 unscoped_none (substitution_name a case b) = record { quals = refl; bare = refl }
-unscoped_none (global_name a b) = attached_none b (unqualified_none a)
+unscoped_none (plain_name a b) = attached_none b (unqualified_none a)
 
 pub bare-nested_of : (t : Tree) (quals : Quals) (shown : Bool) → bare_shape (nested_of t quals shown) ≡ shape_of t
 unfolding shape_of

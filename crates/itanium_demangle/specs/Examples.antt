@@ -90,7 +90,7 @@ pub record WorkedSymbols : Type 0 where
       (Some (codes "typeinfo for std::optional<llvm::StringRef> (llvm::json::Object::*)(llvm::StringRef) const"))
   pub parameters : IsSignature (codes "_Z3fooi.cold") (Some (codes "foo(int).cold"))
   pub no_parameters : IsSignature (codes "_Z3foov@plt") (Some (codes "foo()"))
-  pub name_alone : IsSignature (codes "_ZN1AIiE1xE") (Some (codes "A<int>::x"))
+  pub name_encoding : IsSignature (codes "_ZN1AIiE1xE") (Some (codes "A<int>::x"))
   pub own_qualifiers : IsSignature (codes "_ZNK3Foo3barEv") (Some (codes "Foo::bar() const"))
   pub words_of_a_name : IsSignature (codes "_ZNK3Foo3barE") (Some (codes "Foo::bar const"))
   pub return_type : IsSignature (codes "_Z1fIiEvT_") (Some (codes "f<int>(int)"))

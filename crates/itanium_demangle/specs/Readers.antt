@@ -6,13 +6,13 @@ use Rattle.demangle_edit.specs.Lists.{arguments_shape}
 use Rattle.demangle_quals.specs.declared.quals.Quals.{Quals}
 use Rattle.itanium_syntax.specs.declared.context.Context.{Context}
 use Rattle.itanium_syntax.specs.Args.{argument_case}
-use Rattle.itanium_syntax.specs.Expressions.{literal_case}
+use Rattle.itanium_syntax.specs.Expressions.{primary_case}
 use Rattle.itanium_syntax.specs.Names.{encoding_case}
 use Rattle.itanium_syntax.specs.Specials.{special_case}
 use Rattle.itanium_grammar.specs.Tree.{Tree, shape_of, bare_shape, own_quals, printing}
-use Rattle.itanium_grammar.specs.Grammar.{Position, Cost, Name, EncodingAs, SpecialAs, Thunk, Symbol, Signature, Args, ArgumentAs}
+use Rattle.itanium_grammar.specs.Grammar.{Position, Cost, Name, EncodingAs, SpecialAs, Thunk, SymbolName, Signature, Args, ArgumentAs}
 use Rattle.itanium_grammar.specs.Cases.{EncodingEnd, AfterName}
-use Rattle.itanium_grammar.specs.Grammar.{Pack, LiteralAs, Expression, TypeOf}
+use Rattle.itanium_grammar.specs.Grammar.{Pack, PrimaryAs, Expression, TypeOf}
 use Rattle.itanium_grammar.specs.Answer.{max_text}
 use Rattle.itanium_reader.specs.Parser.{ParserState, Parses, parse_bare_name, parse_name, parse_encoding, parse_special}
 use Rattle.itanium_reader.specs.Parser.{parse_thunk, parse_signature, parse_args, parse_argument, parse_pack}
@@ -61,7 +61,7 @@ Argument x p = ArgumentAs (argument_case p.rest) x p
 
 -- <expr-primary>, by what it begins with
 abbrev pub Primary : Context → Position → Tree → Position → Cost → Type 0
-Primary x p = LiteralAs (literal_case p.rest) x p
+Primary x p = PrimaryAs (primary_case p.rest) x p
 
 -- the parsers read what the grammar reads: in each context, within each depth
 pub record LawsOfReaders : Type 0 where
@@ -88,7 +88,7 @@ pub record LawsOfReaders : Type 0 where
   -- what follows the prefix of a symbol, as a name
   pub symbols :
       (depth : ℕ) (x : Context)
-      → IsParserOf (Symbol x) (Symbol x) shape_of depth (parse_encoding depth AfterName x)
+      → IsParserOf (SymbolName x) (SymbolName x) shape_of depth (parse_encoding depth AfterName x)
   -- and as a signature
   pub signatures :
       (depth : ℕ) (x : Context)

@@ -3,7 +3,7 @@ use Rattle.std.proofs.Common.{◌≡◌, Bool, List, Option, drop, refl, arith, 
 use Rattle.demangle_quals.specs.declared.quals.Quals.{Quals}
 use Rattle.itanium_syntax.specs.declared.context.Context.{Context}
 use Rattle.itanium_syntax.specs.declared.numerals.Radix.TheVariants.{Decimal, Base36}
-use Rattle.itanium_grammar.specs.Cases.{EncodingEnd, EncodingCase, SpecialCase, LiteralCase, ExpressionCase, NameCase, ReturnCase}
+use Rattle.itanium_grammar.specs.Cases.{EncodingEnd, EncodingCase, SpecialCase, PrimaryCase, ExpressionCase, NameCase, ReturnCase}
 use Rattle.itanium_grammar.specs.Cases.{EncodingParamsCase, EntityCase, UnscopedCase, AttachedCase, FirstCase, SegmentCase}
 use Rattle.itanium_grammar.specs.Cases.{UnqualifiedCase, OrdinaryCase, TagCase, SubstitutionCase, ArgsCase, ArgumentCase}
 use Rattle.itanium_grammar.specs.Cases.{TypeCase, CvCase, ParamsCase, TypesCase}
@@ -20,7 +20,7 @@ use Rattle.itanium_syntax.proofs.Fronts.{thunk_offsets_after, base_offset_takes}
 use Rattle.itanium_grammar.specs.Tree.{Tree, Operand}
 use Rattle.itanium_grammar.specs.Grammar.{Position, Cost, SpecialAs, Thunk, special_encoding, type_special}
 use Rattle.itanium_grammar.specs.Grammar.{name_special, temporary_special, construction_special, thunk_special, thunk}
-use Rattle.itanium_grammar.specs.Grammar.{Expression, ExpressionAs, OperandOf, LiteralAs}
+use Rattle.itanium_grammar.specs.Grammar.{Expression, ExpressionAs, OperandOf, PrimaryAs}
 use Rattle.itanium_grammar.specs.Grammar.{expression_argument, literal_argument, external_name, value_literal}
 use Rattle.itanium_grammar.specs.Grammar.{expression, operand_of, pre_expression, address_expression, unary_expression}
 use Rattle.itanium_grammar.specs.Grammar.{post_expression, binary_expression, greater_expression}
@@ -28,7 +28,7 @@ use Rattle.itanium_grammar.specs.Grammar.{conditional_expression, parameter_expr
 use Rattle.itanium_grammar.specs.Grammar.{SubstitutionAs, Substitution, Parameter, TaggedAs, UnqualifiedAs, Unqualified}
 use Rattle.itanium_grammar.specs.Grammar.{FirstAs, Name, NameAs, Local, EntityAs, EncodingAs, ReturnAs}
 use Rattle.itanium_grammar.specs.Grammar.{EncodingParamsAs, UnscopedAs, AttachedAs, Nested, SegmentsAs, Args}
-use Rattle.itanium_grammar.specs.Grammar.{ArgumentsAs, ArgumentAs, TypeOf, TypeAs, CvAs, Function, ParamsAs, TypesAs}
+use Rattle.itanium_grammar.specs.Grammar.{ArgumentListAs, ArgumentAs, TypeOf, TypeAs, CvAs, Function, ParamsAs, TypeListAs}
 use Rattle.itanium_grammar.specs.Grammar.{TypeAttachedAs, abbreviation_substitution}
 use Rattle.itanium_grammar.specs.Grammar.{component_substitution, parameter, no_tag, next_tag}
 use Rattle.itanium_grammar.specs.Grammar.{ordinary_source, ordinary_unnamed_type, ordinary_lambda, ordinary_conversion}
@@ -36,8 +36,8 @@ use Rattle.itanium_grammar.specs.Grammar.{ordinary_literal_operator, ordinary_op
 use Rattle.itanium_grammar.specs.Grammar.{constructor_unqualified, destructor_unqualified, unqualified, parameter_first}
 use Rattle.itanium_grammar.specs.Grammar.{std_first, substitution_first, name_first, name, nested_name, local_name}
 use Rattle.itanium_grammar.specs.Grammar.{local, string_literal_entity, default_argument_entity, name_entity}
-use Rattle.itanium_grammar.specs.Grammar.{name_encoding, no_return_type, some_return_type, no_encoding_params, some_encoding_params}
-use Rattle.itanium_grammar.specs.Grammar.{unscoped_name, std_name, substitution_name, global_name, none_attached}
+use Rattle.itanium_grammar.specs.Grammar.{full_encoding, no_return_type, some_return_type, no_encoding_params, some_encoding_params}
+use Rattle.itanium_grammar.specs.Grammar.{unscoped_name, std_name, substitution_name, plain_name, none_attached}
 use Rattle.itanium_grammar.specs.Grammar.{args_attached, nested, end_of_segments, args_segment, name_segment}
 use Rattle.itanium_grammar.specs.Grammar.{args, end_of_arguments, one_more_argument, pack_argument, type_argument, Pack}
 use Rattle.itanium_grammar.specs.Grammar.{PackedAs, pack, end_of_pack, one_more_packed, expansion_type, type}
@@ -45,7 +45,7 @@ use Rattle.itanium_grammar.specs.Grammar.{builtin_type, vendor_type, array_type,
 use Rattle.itanium_grammar.specs.Grammar.{pointer_type, cv_type, elaborated_type, parameter_type, substitution_type}
 use Rattle.itanium_grammar.specs.Grammar.{name_type, cv_function, cv_other, function, no_params, some_params}
 use Rattle.itanium_grammar.specs.Grammar.{end_of_types, one_more_type, none_attached_to_type, args_attached_to_type}
-use Rattle.itanium_grammar.specs.Grammar.{name_alone}
+use Rattle.itanium_grammar.specs.Grammar.{name_encoding}
 
 substitution_as_takes : {case : SubstitutionCase} {p q : Position} {t : Tree} → SubstitutionAs case p t q → Takes q.rest p.rest
 substitution_as_takes (abbreviation_substitution {p = p} known) = abbreviation_takes p.rest _ known
@@ -82,8 +82,8 @@ mutual
 
   pub encoding_as_takes : {case : EncodingCase} {end : EncodingEnd} {x : Context} {p q : Position} {t : Tree} {c : Cost} → EncodingAs case end x p t q c → Takes q.rest p.rest
   encoding_as_takes (special_encoding a) = special_takes a
-  encoding_as_takes (name_alone a) = name_takes a
-  encoding_as_takes (name_encoding a b d) = takes_then (name_takes a) (after_then (return_after b) (signature_after d))
+  encoding_as_takes (name_encoding a) = name_takes a
+  encoding_as_takes (full_encoding a b d) = takes_then (name_takes a) (after_then (return_after b) (signature_after d))
 
   special_takes : {case : SpecialCase} {end : EncodingEnd} {x : Context} {p q : Position} {t : Tree} {c : Cost} → SpecialAs case end x p t q c → Takes q.rest p.rest
   special_takes (type_special {p = p} a) = after_takes (after_drop 2 p.rest) (type_takes a)
@@ -109,7 +109,7 @@ mutual
   unscoped_takes : {case : UnscopedCase} {x : Context} {p q : Position} {t : Tree} {c : Cost} → UnscopedAs case x p t q c → Takes q.rest p.rest
   unscoped_takes (std_name {p = p} a b) = takes_then (after_takes (after_drop 2 p.rest) (unqualified_takes a)) (attached_after b)
   unscoped_takes (substitution_name {p = p} a form b) = takes_then (substitution_takes p a) (args_after b)
-  unscoped_takes (global_name a b) = takes_then (unqualified_takes a) (attached_after b)
+  unscoped_takes (plain_name a b) = takes_then (unqualified_takes a) (attached_after b)
 
   attached_after : {case : AttachedCase} {x : Context} {t u : Tree} {p q : Position} {c : Cost} → AttachedAs case x t p u q c → IsAfter q.rest p.rest
   attached_after (none_attached {p = p}) = after_none p.rest
@@ -156,7 +156,7 @@ mutual
   args_after (args {p = p} a) = (after_takes (after_drop 1 p.rest) (arguments_takes refl a)).after
 
   pub arguments_takes : {case : ArgsCase} {x : Context} {outer : List (List Tree)} {own : Option (List Tree)} {p q : Position} {list : List Tree}
-      {c : Cost} → args_case p.rest ≡ case → ArgumentsAs case x outer own p list q c → Takes q.rest p.rest
+      {c : Cost} → args_case p.rest ≡ case → ArgumentListAs case x outer own p list q c → Takes q.rest p.rest
   arguments_takes form (end_of_arguments {p = p}) = record { after = after_drop 1 p.rest; shorter = arguments_end_shorter p.rest form }
   arguments_takes form (one_more_argument a b) = takes_takes (argument_takes a) (arguments_takes refl b)
 
@@ -166,7 +166,7 @@ mutual
   argument_takes (literal_argument a) = literal_takes a
   argument_takes (type_argument a) = type_takes a
 
-  pub literal_takes : {case : LiteralCase} {x : Context} {p q : Position} {t : Tree} {c : Cost} → LiteralAs case x p t q c → Takes q.rest p.rest
+  pub literal_takes : {case : PrimaryCase} {x : Context} {p q : Position} {t : Tree} {c : Cost} → PrimaryAs case x p t q c → Takes q.rest p.rest
   literal_takes (external_name {p = p} {q = q} a end) = takes_then (after_takes (after_drop 3 p.rest) (encoding_as_takes a)) (after_drop 1 q.rest)
   literal_takes (value_literal {p = p} {q = q} {value = v} {rest = r} a found has) =
       takes_takes (after_takes (after_drop 1 p.rest) (type_takes a)) (literal_value_takes q.rest (v, r) found)
@@ -226,7 +226,7 @@ mutual
   params_after (no_params {p = p}) = after_drop 1 p.rest
   params_after (some_params a) = types_after a
 
-  pub types_after : {case : TypesCase} {end : EncodingEnd} {of_function : Bool} {x : Context} {p q : Position} {ts : List Tree} {c : Cost} → TypesAs case end of_function x p ts q c → IsAfter q.rest p.rest
+  pub types_after : {case : TypesCase} {end : EncodingEnd} {of_function : Bool} {x : Context} {p q : Position} {ts : List Tree} {c : Cost} → TypeListAs case end of_function x p ts q c → IsAfter q.rest p.rest
   types_after (end_of_types {p = p}) = after_none p.rest
   types_after (one_more_type a b) = after_then (type_takes a).after (types_after b)
 

@@ -5,23 +5,23 @@ use Rattle.std.proofs.Math.Seq.{take-append_seam}
 use Rattle.demangle_quals.specs.declared.quals.Quals.{Quals}
 use Rattle.itanium_syntax.specs.declared.context.Context.{Context}
 use Rattle.itanium_grammar.specs.Cases.{EncodingEnd, ArgsCase, ArgumentCase, AttachedCase, CvCase, EntityCase, ExpressionCase}
-use Rattle.itanium_grammar.specs.Cases.{FirstCase, OrdinaryCase, LiteralCase, NameCase, ParamsCase, ReturnCase}
+use Rattle.itanium_grammar.specs.Cases.{FirstCase, OrdinaryCase, PrimaryCase, NameCase, ParamsCase, ReturnCase}
 use Rattle.itanium_grammar.specs.Cases.{SegmentCase, EncodingParamsCase, SpecialCase, SubstitutionCase, EncodingCase}
 use Rattle.itanium_grammar.specs.Cases.{TagCase, TypeCase, TypesCase, UnqualifiedCase, UnscopedCase}
 use Rattle.itanium_grammar.specs.Tree.{Tree, Operand}
 use Rattle.itanium_grammar.specs.Grammar.{Position, Cost, scopes_inside, SubstitutionAs, Parameter, TaggedAs, Name}
 use Rattle.itanium_grammar.specs.Grammar.{NameAs, Local, EntityAs, EncodingAs, SpecialAs, Thunk, ReturnAs}
 use Rattle.itanium_grammar.specs.Grammar.{EncodingParamsAs, UnscopedAs, AttachedAs, OrdinaryAs, UnqualifiedAs, Unqualified}
-use Rattle.itanium_grammar.specs.Grammar.{FirstAs, Nested, SegmentsAs, Args, ArgumentsAs, Pack, PackedAs, ArgumentAs}
-use Rattle.itanium_grammar.specs.Grammar.{LiteralAs, Expression, OperandOf, ExpressionAs, TypeOf, TypeAs, CvAs}
-use Rattle.itanium_grammar.specs.Grammar.{Function, ParamsAs, TypesAs, TypeAttachedAs, abbreviation_substitution}
+use Rattle.itanium_grammar.specs.Grammar.{FirstAs, Nested, SegmentsAs, Args, ArgumentListAs, Pack, PackedAs, ArgumentAs}
+use Rattle.itanium_grammar.specs.Grammar.{PrimaryAs, Expression, OperandOf, ExpressionAs, TypeOf, TypeAs, CvAs}
+use Rattle.itanium_grammar.specs.Grammar.{Function, ParamsAs, TypeListAs, TypeAttachedAs, abbreviation_substitution}
 use Rattle.itanium_grammar.specs.Grammar.{component_substitution, parameter, no_tag, next_tag, name, nested_name}
 use Rattle.itanium_grammar.specs.Grammar.{local_name, unscoped_name, local, string_literal_entity}
-use Rattle.itanium_grammar.specs.Grammar.{default_argument_entity, name_entity, special_encoding, name_encoding}
+use Rattle.itanium_grammar.specs.Grammar.{default_argument_entity, name_entity, special_encoding, full_encoding}
 use Rattle.itanium_grammar.specs.Grammar.{type_special, name_special, temporary_special, construction_special}
-use Rattle.itanium_grammar.specs.Grammar.{thunk_special, thunk, name_alone, no_return_type}
+use Rattle.itanium_grammar.specs.Grammar.{thunk_special, thunk, name_encoding, no_return_type}
 use Rattle.itanium_grammar.specs.Grammar.{some_return_type, no_encoding_params, some_encoding_params, std_name, substitution_name}
-use Rattle.itanium_grammar.specs.Grammar.{global_name, none_attached, args_attached, ordinary_source, ordinary_unnamed_type}
+use Rattle.itanium_grammar.specs.Grammar.{plain_name, none_attached, args_attached, ordinary_source, ordinary_unnamed_type}
 use Rattle.itanium_grammar.specs.Grammar.{ordinary_lambda, ordinary_conversion, ordinary_literal_operator, ordinary_operator}
 use Rattle.itanium_grammar.specs.Grammar.{constructor_unqualified, destructor_unqualified, ordinary_unqualified}
 use Rattle.itanium_grammar.specs.Grammar.{unqualified, parameter_first, std_first, substitution_first, name_first}
@@ -89,8 +89,8 @@ mutual
 
   encoding_keeps : {case : EncodingCase} {end : EncodingEnd} {x : Context} {p : Position} {t : Tree} {q : Position} {c : Cost} → EncodingAs case end x p t q c → Keeps p.scopes q.scopes
   encoding_keeps (special_encoding a) = special_keeps a
-  encoding_keeps (name_alone a) = name_keeps a
-  encoding_keeps (name_encoding a b d) = keeps_then (name_keeps a) (keeps_then (return_keeps b) (signature_keeps d))
+  encoding_keeps (name_encoding a) = name_keeps a
+  encoding_keeps (full_encoding a b d) = keeps_then (name_keeps a) (keeps_then (return_keeps b) (signature_keeps d))
 
   special_keeps : {case : SpecialCase} {end : EncodingEnd} {x : Context} {p : Position} {t : Tree} {q : Position} {c : Cost} → SpecialAs case end x p t q c → Keeps p.scopes q.scopes
   special_keeps (type_special a) = type_keeps a
@@ -113,7 +113,7 @@ mutual
   unscoped_keeps : {case : UnscopedCase} {x : Context} {p : Position} {t : Tree} {q : Position} {c : Cost} → UnscopedAs case x p t q c → Keeps p.scopes q.scopes
   unscoped_keeps (std_name a b) = keeps_then (unqualified_keeps a) (attached_keeps b)
   unscoped_keeps (substitution_name a b d) = keeps_then (substitution_keeps a) (args_keeps d)
-  unscoped_keeps (global_name a b) = keeps_then (unqualified_keeps a) (attached_keeps b)
+  unscoped_keeps (plain_name a b) = keeps_then (unqualified_keeps a) (attached_keeps b)
 
   attached_keeps : {case : AttachedCase} {x : Context} {t : Tree} {p : Position} {u : Tree} {q : Position} {c : Cost} → AttachedAs case x t p u q c → Keeps p.scopes q.scopes
   attached_keeps none_attached = keeps_all _
@@ -152,7 +152,7 @@ mutual
   args_keeps : {b : Bool} {x : Context} {p : Position} {ts : List Tree} {q : Position} {c : Cost} → Args b x p ts q c → Keeps p.scopes q.scopes
   args_keeps (args a) = arguments_keeps a
 
-  arguments_keeps : {case : ArgsCase} {x : Context} {outer : List (List Tree)} {own : Option (List Tree)} {p : Position} {ts : List Tree} {q : Position} {c : Cost} → ArgumentsAs case x outer own p ts q c → Keeps outer q.scopes
+  arguments_keeps : {case : ArgsCase} {x : Context} {outer : List (List Tree)} {own : Option (List Tree)} {p : Position} {ts : List Tree} {q : Position} {c : Cost} → ArgumentListAs case x outer own p ts q c → Keeps outer q.scopes
   arguments_keeps (end_of_arguments {outer = outer} {own = own}) = own_keeps outer own
   arguments_keeps (one_more_argument a b) = arguments_keeps b
 
@@ -169,7 +169,7 @@ mutual
   argument_keeps (literal_argument a) = literal_keeps a
   argument_keeps (type_argument a) = type_keeps a
 
-  literal_keeps : {case : LiteralCase} {x : Context} {p : Position} {t : Tree} {q : Position} {c : Cost} → LiteralAs case x p t q c → Keeps p.scopes q.scopes
+  literal_keeps : {case : PrimaryCase} {x : Context} {p : Position} {t : Tree} {q : Position} {c : Cost} → PrimaryAs case x p t q c → Keeps p.scopes q.scopes
   literal_keeps (external_name a b) = encoding_keeps a
   literal_keeps (value_literal a b d) = type_keeps a
 
@@ -218,7 +218,7 @@ mutual
   params_keeps no_params = keeps_all _
   params_keeps (some_params a) = types_keeps a
 
-  types_keeps : {case : TypesCase} {end : EncodingEnd} {b : Bool} {x : Context} {p : Position} {ts : List Tree} {q : Position} {c : Cost} → TypesAs case end b x p ts q c → Keeps p.scopes q.scopes
+  types_keeps : {case : TypesCase} {end : EncodingEnd} {b : Bool} {x : Context} {p : Position} {ts : List Tree} {q : Position} {c : Cost} → TypeListAs case end b x p ts q c → Keeps p.scopes q.scopes
   types_keeps end_of_types = keeps_all _
   types_keeps (one_more_type a b) = keeps_then (type_keeps a) (types_keeps b)
 

@@ -4,7 +4,7 @@ use Rattle.std.specs.Prelude.{option_map}
 use Rattle.std.proofs.lemmas.Option.{some_pair_parts, same_Some}
 use Rattle.demangle_quals.specs.declared.quals.Quals.{Quals}
 use Rattle.itanium_syntax.specs.declared.context.Context.{Context}
-use Rattle.itanium_grammar.specs.Cases.{EncodingEnd, AtE, EncodingCase, SpecialCase, LiteralCase, ExpressionCase, NameCase, ReturnCase}
+use Rattle.itanium_grammar.specs.Cases.{EncodingEnd, AtE, EncodingCase, SpecialCase, PrimaryCase, ExpressionCase, NameCase, ReturnCase}
 use Rattle.itanium_grammar.specs.Cases.{EncodingParamsCase, EntityCase, UnscopedCase, AttachedCase, FirstCase, SegmentCase}
 use Rattle.itanium_grammar.specs.Cases.{UnqualifiedCase, OrdinaryCase, TagCase, SubstitutionCase, ArgsCase, ArgumentCase}
 use Rattle.itanium_grammar.specs.Cases.{TypeCase, CvCase, ParamsCase, TypesCase}
@@ -27,7 +27,7 @@ use Rattle.itanium_grammar.specs.Tree.{pointer_to, cv_of, array_of, member_of, f
 use Rattle.itanium_grammar.specs.Tree.{in_parent, printing, list_printing}
 use Rattle.itanium_grammar.specs.Grammar.{Position, Cost, SpecialAs, Thunk, special_encoding, type_special}
 use Rattle.itanium_grammar.specs.Grammar.{name_special, temporary_special, construction_special, thunk_special, thunk}
-use Rattle.itanium_grammar.specs.Grammar.{Expression, ExpressionAs, OperandOf, LiteralAs}
+use Rattle.itanium_grammar.specs.Grammar.{Expression, ExpressionAs, OperandOf, PrimaryAs}
 use Rattle.itanium_grammar.specs.Grammar.{expression_argument, literal_argument, external_name, value_literal}
 use Rattle.itanium_grammar.specs.Grammar.{expression, operand_of, pre_expression, address_expression, unary_expression}
 use Rattle.itanium_grammar.specs.Grammar.{post_expression, binary_expression, greater_expression}
@@ -36,24 +36,24 @@ use Rattle.itanium_grammar.specs.Grammar.{skip, counted, saving, save, past_init
 use Rattle.itanium_grammar.specs.Grammar.{SubstitutionAs, ArgumentNamed, Parameter, TaggedAs, UnqualifiedAs}
 use Rattle.itanium_grammar.specs.Grammar.{Unqualified, FirstAs, Name, NameAs, Local, EntityAs, EncodingAs}
 use Rattle.itanium_grammar.specs.Grammar.{ReturnAs, EncodingParamsAs, UnscopedAs, AttachedAs, Nested, SegmentsAs}
-use Rattle.itanium_grammar.specs.Grammar.{Args, ArgumentsAs, ArgumentAs, TypeOf, TypeAs, CvAs, Function, ParamsAs}
-use Rattle.itanium_grammar.specs.Grammar.{TypesAs, TypeAttachedAs, abbreviation_substitution}
+use Rattle.itanium_grammar.specs.Grammar.{Args, ArgumentListAs, ArgumentAs, TypeOf, TypeAs, CvAs, Function, ParamsAs}
+use Rattle.itanium_grammar.specs.Grammar.{TypeListAs, TypeAttachedAs, abbreviation_substitution}
 use Rattle.itanium_grammar.specs.Grammar.{component_substitution, auto_parameter, scope_parameter}
 use Rattle.itanium_grammar.specs.Grammar.{parameter, no_tag, next_tag, ordinary_source, ordinary_unnamed_type, ordinary_lambda}
 use Rattle.itanium_grammar.specs.Grammar.{ordinary_conversion, ordinary_literal_operator, ordinary_operator, OrdinaryAs}
 use Rattle.itanium_grammar.specs.Grammar.{ordinary_unqualified, nothing, constructor_unqualified, destructor_unqualified}
 use Rattle.itanium_grammar.specs.Grammar.{unqualified, parameter_first, std_first, substitution_first, name_first, name}
 use Rattle.itanium_grammar.specs.Grammar.{nested_name, local_name, local, string_literal_entity}
-use Rattle.itanium_grammar.specs.Grammar.{default_argument_entity, name_entity, name_encoding, no_return_type}
+use Rattle.itanium_grammar.specs.Grammar.{default_argument_entity, name_entity, full_encoding, no_return_type}
 use Rattle.itanium_grammar.specs.Grammar.{some_return_type, no_encoding_params, some_encoding_params, unscoped_name, std_name}
-use Rattle.itanium_grammar.specs.Grammar.{substitution_name, global_name, none_attached, args_attached, nested}
+use Rattle.itanium_grammar.specs.Grammar.{substitution_name, plain_name, none_attached, args_attached, nested}
 use Rattle.itanium_grammar.specs.Grammar.{end_of_segments, args_segment, name_segment, args, end_of_arguments}
 use Rattle.itanium_grammar.specs.Grammar.{one_more_argument, pack_argument, type_argument, Pack, PackedAs, pack}
 use Rattle.itanium_grammar.specs.Grammar.{end_of_pack, one_more_packed, expansion_type, type, builtin_type, vendor_type}
 use Rattle.itanium_grammar.specs.Grammar.{array_type, function_type, member_type, pointer_type, cv_type}
 use Rattle.itanium_grammar.specs.Grammar.{elaborated_type, parameter_type, substitution_type, name_type, cv_function}
 use Rattle.itanium_grammar.specs.Grammar.{cv_other, function, no_params, some_params, end_of_types, one_more_type}
-use Rattle.itanium_grammar.specs.Grammar.{none_attached_to_type, args_attached_to_type, name_alone}
+use Rattle.itanium_grammar.specs.Grammar.{none_attached_to_type, args_attached_to_type, name_encoding}
 
 -- two readings have the same tree, the same position after them and the same cost
 pub record Same {T : Type 0} (t u : T) (q r : Position) (c d : Cost) : Type 0 where
@@ -145,8 +145,8 @@ mutual
   pub one_encoding_as : {case : EncodingCase} {end : EncodingEnd} {x : Context} {p q r : Position} {t u : Tree} {c d : Cost} → EncodingAs case end x p t q c → EncodingAs case end x p u r d
       → Same t u q r c d
   one_encoding_as (special_encoding a) (special_encoding b) = one_special a b
-  one_encoding_as (name_alone a) (name_alone b) = one_name a b
-  one_encoding_as (name_encoding {end = end} {x = x} a b g) (name_encoding {r = r} {s = s} {u = u} {d = d} {e = e} f h k) =
+  one_encoding_as (name_encoding a) (name_encoding b) = one_name a b
+  one_encoding_as (full_encoding {end = end} {x = x} a b g) (full_encoding {r = r} {s = s} {u = u} {d = d} {e = e} f h k) =
       let first = one_name a f in
       let mid = one_return b (along (λ t o. ReturnAs (return_case end (shape_of t).templ (shape_of t).ctor o.rest) x o r d) (sym first.tree) (sym first.next) h) in
       let same = one_signature g (along (λ t o. EncodingParamsAs (encoding_params_case end o.rest) end x t o u s e) (sym first.tree) (sym mid.0) k) in
@@ -193,7 +193,7 @@ mutual
       let first = one_substitution_as a f in
       let same = one_args b (subst (λ o. Args true x o us r d) (sym first.1) h) in
       record { tree = ap₂ (λ n ts. with_args n (trees ts)) first.0 same.tree; next = same.next; cost = same.cost }
-  one_unscoped (global_name {x = x} a b) (global_name {r = r} {u = v} {d = d} f h) =
+  one_unscoped (plain_name {x = x} a b) (plain_name {r = r} {u = v} {d = d} f h) =
       let first = one_unqualified a f in
       let same = one_attached b (along (λ s o. AttachedAs (attached_case o.rest) x s o v r d) (sym first.tree) (sym first.next) h) in
       record { tree = same.tree; next = same.next; cost = ap₂ both first.cost same.cost }
@@ -273,11 +273,11 @@ mutual
       record { tree = same.tree; next = same.next; cost = ap₂ counted (ap (λ ts. length (list_printing ts)) same.tree) same.cost }
 
   one_arguments : {case : ArgsCase} {x : Context} {outer : List (List Tree)} {own : Option (List Tree)} {p q r : Position} {ts us : List Tree} {c d : Cost}
-      → ArgumentsAs case x outer own p ts q c → ArgumentsAs case x outer own p us r d → Same ts us q r c d
+      → ArgumentListAs case x outer own p ts q c → ArgumentListAs case x outer own p us r d → Same ts us q r c d
   one_arguments end_of_arguments end_of_arguments = record { tree = refl; next = refl; cost = refl }
   one_arguments (one_more_argument {x = x} {outer = outer} {own = own} a b) (one_more_argument {r = r} {ts = us} {d = d} g h) =
       let first = one_argument a g in
-      let same = one_arguments b (along (λ t o. ArgumentsAs (args_case o.rest) x outer (option_map (λ args. args ++ t ∷ []) own) o us r d) (sym first.tree) (sym first.next) h) in
+      let same = one_arguments b (along (λ t o. ArgumentListAs (args_case o.rest) x outer (option_map (λ args. args ++ t ∷ []) own) o us r d) (sym first.tree) (sym first.next) h) in
       record { tree = ap₂ (λ t ts. t ∷ ts) first.tree same.tree; next = same.next; cost = ap₂ both first.cost same.cost }
 
   pub one_argument : {case : ArgumentCase} {x : Context} {p q r : Position} {t u : Tree} {c d : Cost}
@@ -287,8 +287,8 @@ mutual
   one_argument (literal_argument a) (literal_argument b) = one_literal a b
   one_argument (type_argument a) (type_argument b) = one_type a b
 
-  pub one_literal : {case : LiteralCase} {x : Context} {p q r : Position} {t u : Tree} {c d : Cost}
-      → LiteralAs case x p t q c → LiteralAs case x p u r d → Same t u q r c d
+  pub one_literal : {case : PrimaryCase} {x : Context} {p q r : Position} {t u : Tree} {c d : Cost}
+      → PrimaryAs case x p t q c → PrimaryAs case x p u r d → Same t u q r c d
   one_literal (external_name a end) (external_name b other) = same_skipped (one_encoding_as a b)
   one_literal (value_literal a e has) (value_literal b g also) =
       let same = one_type a b in
@@ -400,11 +400,11 @@ mutual
   one_params (some_params a) (some_params b) = one_types a b
 
   one_types : {case : TypesCase} {end : EncodingEnd} {of_function : Bool} {x : Context} {p q r : Position} {ts us : List Tree} {c d : Cost}
-      → TypesAs case end of_function x p ts q c → TypesAs case end of_function x p us r d → Same ts us q r c d
+      → TypeListAs case end of_function x p ts q c → TypeListAs case end of_function x p us r d → Same ts us q r c d
   one_types end_of_types end_of_types = record { tree = refl; next = refl; cost = refl }
   one_types (one_more_type {end = end} {of_function = f} {x = x} a b) (one_more_type {r = r} {ts = us} {d = d} e g) =
       let first = one_type a e in
-      let others = one_types b (subst (λ o. TypesAs (types_case end f o.rest) end f x o us r d) (sym first.next) g) in
+      let others = one_types b (subst (λ o. TypeListAs (types_case end f o.rest) end f x o us r d) (sym first.next) g) in
       record { tree = ap₂ (λ t ts. t ∷ ts) first.tree others.tree; next = others.next; cost = ap₂ both first.cost others.cost }
 
   one_type_attached : {case : AttachedCase} {x : Context} {t u v : Tree} {p q r : Position} {c d : Cost}

@@ -14,9 +14,9 @@ use Rattle.itanium_grammar.specs.Answer.{max_text, longest_printing, after_prefi
 use Rattle.itanium_syntax.specs.Names.{encoding_case}
 use Rattle.itanium_syntax.proofs.Fronts.{alone_after_name}
 use Rattle.itanium_grammar.specs.Tree.{Tree, shape_of, printing, worded, temporary_of, construction_of}
-use Rattle.itanium_grammar.specs.Grammar.{Position, Cost, Name, TypeOf, Thunk, SpecialAs, EncodingAs, Signature, signature, special_encoding, name_encoding, name, type}
+use Rattle.itanium_grammar.specs.Grammar.{Position, Cost, Name, TypeOf, Thunk, SpecialAs, EncodingAs, Signature, signature, special_encoding, full_encoding, name, type}
 use Rattle.itanium_grammar.specs.Grammar.{thunk, type_special, name_special, temporary_special, construction_special}
-use Rattle.itanium_grammar.specs.Grammar.{thunk_special, name_alone}
+use Rattle.itanium_grammar.specs.Grammar.{thunk_special, name_encoding}
 use Rattle.itanium_grammar.specs.Cases.{EncodingEnd, AfterName, SpecialCase, EncodingCase}
 use Rattle.itanium_grammar.proofs.Agreement.{one_reading, inside_takes}
 
@@ -126,8 +126,8 @@ special_wide (thunk_special a) narrow = omega (arith, thunk_narrow a)
 
 symbol_as_wide : {case : EncodingCase} {x : Context} {p q : Position} {t : Tree} {c : Cost} → encoding_case AfterName p.rest ≡ case → EncodingAs case AfterName x p t q c → c.width ≤ max_text → length (printing t) ≤ 2 * max_text + 28
 symbol_as_wide is (special_encoding a) narrow = special_wide a narrow
-symbol_as_wide is (name_alone a) narrow = omega (arith, name_narrow a)
-symbol_as_wide {p = p} is (name_encoding a b d) narrow = absurd (alone_after_name p.rest is)
+symbol_as_wide is (name_encoding a) narrow = omega (arith, name_narrow a)
+symbol_as_wide {p = p} is (full_encoding a b d) narrow = absurd (alone_after_name p.rest is)
 
 signature_narrow : {x : Context} {p q : Position} {t : Tree} {c : Cost} → Signature x p t q c → length (printing t) ≤ c.width
 signature_narrow (signature a end) = omega arith

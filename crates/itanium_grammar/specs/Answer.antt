@@ -6,7 +6,7 @@ use Rattle.itanium_syntax.specs.declared.context.Context.{Context}
 use Rattle.itanium_grammar.specs.Tree.{Tree, shape_of, printing}
 use Rattle.itanium_syntax.specs.Bytes.{begins}
 use Rattle.itanium_syntax.specs.Context.{showing_words}
-use Rattle.itanium_grammar.specs.Grammar.{Position, Cost, Symbol, Signature}
+use Rattle.itanium_grammar.specs.Grammar.{Position, Cost, SymbolName, Signature}
 
 -- most counted productions that may nest
 abbrev pub max_depth : ℕ
@@ -47,7 +47,7 @@ suffix rest = if begins (codes ".") rest then rest else []
 -- signature the words of qualifiers are shown, as `showing_words` has it of a local name.
 abbrev pub Mangled : Bool → Position → Tree → Position → Cost → Type 0
 Mangled true p = Signature (showing_words initial) p
-Mangled false p = Symbol initial p
+Mangled false p = SymbolName initial p
 
 -- Below, a first argument `signature` selects what is meant: the symbol's signature if it is true, its name if not.
 

@@ -29,11 +29,11 @@ use Rattle.itanium_grammar.specs.Cases.{NameSegment, UnqualifiedCase, Constructo
 use Rattle.itanium_grammar.specs.Cases.{OrdinaryCase, SourceName, UnnamedTypeName, LambdaName, ConversionName}
 use Rattle.itanium_grammar.specs.Cases.{LiteralOperatorName, OperatorName, TagCase, NoTag, NextTag, SubstitutionCase}
 use Rattle.itanium_grammar.specs.Cases.{AbbreviationSubstitution, ComponentSubstitution, ArgsCase, EndOfArguments}
-use Rattle.itanium_grammar.specs.Cases.{NextArgument, ArgumentCase, ExpressionArgument, PackArgument, LiteralArgument}
-use Rattle.itanium_grammar.specs.Cases.{TypeArgument, LiteralCase, ExternalName, ValueLiteral, ExpressionCase}
+use Rattle.itanium_grammar.specs.Cases.{NextArgument, ArgumentCase, ExpressionArgument, PackArgument, PrimaryArgument}
+use Rattle.itanium_grammar.specs.Cases.{TypeArgument, PrimaryCase, ExternalName, ValueLiteral, ExpressionCase}
 use Rattle.itanium_grammar.specs.Cases.{PreExpression, AddressExpression, UnaryExpression, PostExpression}
 use Rattle.itanium_grammar.specs.Cases.{BinaryExpression, GreaterExpression, ConditionalExpression, ParameterExpression}
-use Rattle.itanium_grammar.specs.Cases.{LiteralExpression, TypeCase, BuiltinType, ExpansionType, VendorType, ArrayType}
+use Rattle.itanium_grammar.specs.Cases.{PrimaryExpression, TypeCase, BuiltinType, ExpansionType, VendorType, ArrayType}
 use Rattle.itanium_grammar.specs.Cases.{FunctionType, MemberType, PointerType, CvType, ElaboratedType, ParameterType}
 use Rattle.itanium_grammar.specs.Cases.{SubstitutionType, NameType, CvCase, CvFunction, CvOther, PlainFunction}
 use Rattle.itanium_grammar.specs.Cases.{ParamsCase, NoParams, SomeParams, TypesCase, EndOfTypes, NextType}
@@ -46,7 +46,7 @@ use Rattle.itanium_syntax.specs.Names.{encoding_case, name_case, unscoped_case, 
 use Rattle.itanium_syntax.specs.Names.{unqualified_case, ordinary_case, tag_case, past_internal, past_initializer_letter}
 use Rattle.itanium_syntax.specs.Names.{source_text, name_quals, past_name_quals, saves_first, substitution_case}
 use Rattle.itanium_syntax.specs.Bytes.{begins}
-use Rattle.itanium_syntax.specs.Expressions.{is_external, literal_case, literal_value, expression_text, expression_case}
+use Rattle.itanium_syntax.specs.Expressions.{is_external, primary_case, literal_value, expression_text, expression_case}
 use Rattle.itanium_syntax.specs.declared.offsets.ThunkOffsets.{ThunkOffsets}
 use Rattle.itanium_syntax.specs.Offsets.{thunk_offsets, past_base_offset}
 use Rattle.itanium_syntax.specs.Specials.{special_case, special_text, special_close}
@@ -228,11 +228,11 @@ mutual
         → SpecialAs (special_case p.rest) end x p t q c
         → EncodingAs SpecialEncoding end x p t q c
     -- a <name> that is all of it
-    name_alone : {end : EncodingEnd} {x : Context} {p q : Position} {t : Tree} {c : Cost}
+    name_encoding : {end : EncodingEnd} {x : Context} {p q : Position} {t : Tree} {c : Cost}
         → Name false x p t q c
         → EncodingAs NameEncoding end x p t q c
     -- a <name>, whose own qualifiers wait, then its return type and its parameters
-    name_encoding : {end : EncodingEnd} {x : Context} {p q r s : Position} {t u : Tree} {c d e : Cost}
+    full_encoding : {end : EncodingEnd} {x : Context} {p q r s : Position} {t u : Tree} {c d e : Cost}
         → Name true x p t q c
         → ReturnAs (return_case end (shape_of t).templ (shape_of t).ctor q.rest) x q r d
         → EncodingParamsAs (encoding_params_case end r.rest) end x t r u s e
@@ -310,7 +310,7 @@ mutual
         → Args true x q ts r c
         → UnscopedAs SubstitutionName x p (with_args t (trees ts)) r c
     -- <unqualified-name> [<template-args>]
-    global_name : {x : Context} {p q r : Position} {t u : Tree} {c d : Cost}
+    plain_name : {x : Context} {p q r : Position} {t u : Tree} {c d : Cost}
         → Unqualified x None p t q c
         → AttachedAs (attached_case q.rest) x t q u r d
         → UnscopedAs PlainName x p u r (both c d)
@@ -423,24 +423,24 @@ mutual
   -- <template-args> ::= I <template-arg>* E, of a name or of a type: counted
   pub data Args : Bool → Context → Position → List Tree → Position → Cost → Type 0 where
     args : {of_name : Bool} {x : Context} {p q : Position} {ts : List Tree} {c : Cost}
-        → ArgumentsAs (args_case (drop 1 p.rest)) x p.scopes (if opens_scope of_name x then Some [] else None)
+        → ArgumentListAs (args_case (drop 1 p.rest)) x p.scopes (if opens_scope of_name x then Some [] else None)
         (skip 1 p) ts q c
         → Args of_name x p ts q (counted (length (list_printing ts)) c)
 
   -- one more <template-arg>, or the E after them. It is read inside the scopes outside the list and the list's own, if
   -- it opened one. Then the scopes that it opened are dropped, and it goes into the list's own
-  pub data ArgumentsAs : ArgsCase → Context → List (List Tree) → Option (List Tree) → Position → List Tree → Position
+  pub data ArgumentListAs : ArgsCase → Context → List (List Tree) → Option (List Tree) → Position → List Tree → Position
       → Cost → Type 0 where
     -- E
     end_of_arguments : {x : Context} {p : Position} {outer : List (List Tree)} {own : Option (List Tree)}
-        → ArgumentsAs EndOfArguments x outer own p [] (within_list outer own (skip 1 p)) nothing
+        → ArgumentListAs EndOfArguments x outer own p [] (within_list outer own (skip 1 p)) nothing
     -- <template-arg>
     one_more_argument :
         {x : Context} {p q r : Position} {t : Tree} {ts : List Tree} {c d : Cost} {outer : List (List Tree)}
         {own : Option (List Tree)}
         → ArgumentAs (argument_case p.rest) x (within_list outer own p) t q c
-        → ArgumentsAs (args_case q.rest) x outer (option_map (λ list. list ++ t ∷ []) own) q ts r d
-        → ArgumentsAs NextArgument x outer own p (t ∷ ts) r (both c d)
+        → ArgumentListAs (args_case q.rest) x outer (option_map (λ list. list ++ t ∷ []) own) q ts r d
+        → ArgumentListAs NextArgument x outer own p (t ∷ ts) r (both c d)
 
   -- <template-arg> ::= J <template-arg>* E: counted, with the context of a pack inside
   pub data Pack : Context → Position → Tree → Position → Cost → Type 0 where
@@ -472,26 +472,26 @@ mutual
         → ArgumentAs PackArgument x p t q c
     -- <expr-primary>
     literal_argument : {x : Context} {p q : Position} {t : Tree} {c : Cost}
-        → LiteralAs (literal_case p.rest) x p t q c
-        → ArgumentAs LiteralArgument x p t q c
+        → PrimaryAs (primary_case p.rest) x p t q c
+        → ArgumentAs PrimaryArgument x p t q c
     -- <type>
     type_argument : {x : Context} {p q : Position} {t : Tree} {c : Cost}
         → TypeOf x p t q c
         → ArgumentAs TypeArgument x p t q c
 
   -- <expr-primary>: a literal, or an external name
-  pub data LiteralAs : LiteralCase → Context → Position → Tree → Position → Cost → Type 0 where
+  pub data PrimaryAs : PrimaryCase → Context → Position → Tree → Position → Cost → Type 0 where
     -- L _Z <encoding> E: an external name
     external_name : {x : Context} {p q : Position} {t : Tree} {c : Cost}
         → EncodingAs (encoding_case AtE (drop 3 p.rest)) AtE (inside_encoding x) (skip 3 p) t q c
         → begins (codes "E") q.rest ≡ true
-        → LiteralAs ExternalName x p t (skip 1 q) c
+        → PrimaryAs ExternalName x p t (skip 1 q) c
     -- L <type> <value> E, where the type as it is printed has such a value
     value_literal : {x : Context} {p q : Position} {t : Tree} {c : Cost} {value rest : List ℕ}
         → TypeOf x (skip 1 p) t q c
         → literal_value q.rest ≡ Some (value, rest)
         → has_literal (printing t) value ≡ true
-        → LiteralAs ValueLiteral x p (literal_of t value) (with_rest rest q) c
+        → PrimaryAs ValueLiteral x p (literal_of t value) (with_rest rest q) c
 
   -- <expression>: counted
   pub data Expression : Context → Position → Tree → Position → Cost → Type 0 where
@@ -545,8 +545,8 @@ mutual
         → ExpressionAs ParameterExpression x p t q nothing
     -- <expr-primary>
     literal_expression : {x : Context} {p q : Position} {t : Tree} {c : Cost}
-        → LiteralAs (literal_case p.rest) x p t q c
-        → ExpressionAs LiteralExpression x p t q c
+        → PrimaryAs (primary_case p.rest) x p t q c
+        → ExpressionAs PrimaryExpression x p t q c
 
   -- <type>: counted
   pub data TypeOf : Context → Position → Tree → Position → Cost → Type 0 where
@@ -642,22 +642,22 @@ mutual
         → ParamsAs NoParams end of_function x p [] (skip 1 p) nothing
     -- <type>*
     some_params : {end : EncodingEnd} {of_function : Bool} {x : Context} {p q : Position} {ts : List Tree} {c : Cost}
-        → TypesAs (types_case end of_function p.rest) end of_function x p ts q c
+        → TypeListAs (types_case end of_function p.rest) end of_function x p ts q c
         → ParamsAs SomeParams end of_function x p ts q c
 
   -- one more type of a list of parameters, or their end
-  pub data TypesAs : TypesCase → EncodingEnd → Bool → Context → Position → List Tree → Position → Cost
+  pub data TypeListAs : TypesCase → EncodingEnd → Bool → Context → Position → List Tree → Position → Cost
       → Type 0 where
     -- the end, which isn't taken
     end_of_types : {end : EncodingEnd} {of_function : Bool} {x : Context} {p : Position}
-        → TypesAs EndOfTypes end of_function x p [] p nothing
+        → TypeListAs EndOfTypes end of_function x p [] p nothing
     -- <type>
     one_more_type :
         {end : EncodingEnd} {of_function : Bool} {x : Context} {p q r : Position} {t : Tree} {ts : List Tree}
         {c d : Cost}
         → TypeOf x p t q c
-        → TypesAs (types_case end of_function q.rest) end of_function x q ts r d
-        → TypesAs NextType end of_function x p (t ∷ ts) r (both c d)
+        → TypeListAs (types_case end of_function q.rest) end of_function x q ts r d
+        → TypeListAs NextType end of_function x p (t ∷ ts) r (both c d)
 
   -- <template-args> after a type, or none
   pub data TypeAttachedAs : AttachedCase → Context → Tree → Position → Tree → Position → Cost → Type 0 where
@@ -671,8 +671,8 @@ mutual
         (save (with_args t (trees ts)) q) (both c (saving q))
 
 -- what follows the prefix of a symbol, as a name: an encoding that ends right after its name
-abbrev pub Symbol : Context → Position → Tree → Position → Cost → Type 0
-Symbol x p = EncodingAs (encoding_case AfterName p.rest) AfterName x p
+abbrev pub SymbolName : Context → Position → Tree → Position → Cost → Type 0
+SymbolName x p = EncodingAs (encoding_case AfterName p.rest) AfterName x p
 
 -- what follows the prefix of a symbol, as a signature, which has its parameters too: an encoding up to where no ASCII
 -- letter, digit or underscore is next, counted

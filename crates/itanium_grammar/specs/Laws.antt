@@ -3,7 +3,7 @@ use Rattle.std.specs.Prelude.{◌≡◌, ◌<◌, ℕ, List, ◌++◌, length, O
 use Rattle.std.specs.Str.{IsUtf8}
 use Rattle.itanium_syntax.specs.Bytes.{begins}
 use Rattle.itanium_grammar.specs.Tree.{Tree, printing}
-use Rattle.itanium_grammar.specs.Grammar.{Position, Cost, Symbol, Signature}
+use Rattle.itanium_grammar.specs.Grammar.{Position, Cost, SymbolName, Signature}
 use Rattle.itanium_syntax.specs.declared.context.Context.{Context}
 use Rattle.itanium_grammar.specs.Answer.{IsWithin, IsReading, HasOneReadingOf, IsAnswerOf}
 
@@ -14,7 +14,7 @@ pub record LawsOfReadings : Type 0 where
   -- a reading takes one byte at least
   pub takes :
       (x : Context) (p q : Position) (t : Tree) (c : Cost)
-      → Symbol x p t q c
+      → SymbolName x p t q c
       → length q.rest < length p.rest
   -- and so does one of a signature
   pub signature_takes :

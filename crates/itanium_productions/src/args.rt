@@ -40,7 +40,7 @@ pub(crate) fn read_template_args(
     reader.skip(1);
     // The arguments of a name outside of a type become a scope, to which later template parameters refer.
     let opens = context.opens_scope(of_name);
-    reader.begin_list(opens)?;
+    reader.open_scope_if(opens)?;
     let scopes = reader.buffer.scopes();
     let list = open_arguments(&mut reader.buffer, reader.found)?;
     // The text limit applies to the list from its `<` on, without the name in front.
@@ -132,7 +132,7 @@ pub(crate) fn read_template_arg(reader: &mut Reader, depth: usize, context: Cont
             read_expression(reader, depth, context)?;
             reader.read_end()?;
         }
-        ArgumentCase::LiteralArgument => read_expr_primary(reader, depth, context)?,
+        ArgumentCase::PrimaryArgument => read_expr_primary(reader, depth, context)?,
         ArgumentCase::ConstraintArgument => return Err(Stop::Unread),
         ArgumentCase::TypeArgument => read_type(reader, depth, context)?,
     }

@@ -15,8 +15,8 @@ use itanium_reader::{ReadResult, Reader, Stop};
 use itanium_syntax::context::Context;
 use itanium_syntax::encodings::EncodingEnd;
 use itanium_syntax::expressions::{
-    ExpressionCase, LiteralCase, expression_case, expression_text, is_external, literal_case,
-    literal_value,
+    ExpressionCase, PrimaryCase, expression_case, expression_text, is_external, literal_value,
+    primary_case,
 };
 
 /// Reads `<expr-primary> ::= L <type> <value> E | L _Z <encoding> E`.
@@ -30,13 +30,13 @@ pub(crate) fn read_expr_primary(reader: &mut Reader, depth: usize, context: Cont
     ensures bounds { TakesSome 0 result (state reader.old) (state reader.new) }
     ensures saved { SavedBounds 1 result (state reader.old) (state reader.new) }
 {
-    match literal_case(reader.rest) {
-        LiteralCase::ExternalName => {
+    match primary_case(reader.rest) {
+        PrimaryCase::ExternalName => {
             reader.skip(3);
             read_encoding(reader, depth, context.inside_encoding(), EncodingEnd::AtE)?;
             reader.read_end()
         }
-        LiteralCase::ValueLiteral => {
+        PrimaryCase::ValueLiteral => {
             reader.skip(1);
             // Most literals print their type in parentheses. The `(` is printed before the type is read, so the type
             // need not move.
@@ -53,7 +53,7 @@ pub(crate) fn read_expr_primary(reader: &mut Reader, depth: usize, context: Cont
             reader.found = literal;
             Ok(())
         }
-        LiteralCase::UnreadLiteral => Err(Stop::Unread),
+        PrimaryCase::UnreadPrimary => Err(Stop::Unread),
     }
 }
 
@@ -218,7 +218,7 @@ pub(crate) fn read_expression(reader: &mut Reader, depth: usize, context: Contex
         ExpressionCase::GreaterExpression => read_greater(reader, depth, context),
         ExpressionCase::ConditionalExpression => read_conditional(reader, depth, context),
         ExpressionCase::ParameterExpression => reader.read_template_param(context),
-        ExpressionCase::LiteralExpression => read_expr_primary(reader, depth, context),
+        ExpressionCase::PrimaryExpression => read_expr_primary(reader, depth, context),
         ExpressionCase::UnreadExpression => Err(Stop::Unread),
     };
     read?;

@@ -270,11 +270,11 @@ pub(crate) fn read_prefix(reader: &mut Reader, depth: usize, context: Context) -
                 return Ok(());
             }
             SegmentCase::ArgsSegment => {
-                reader.save_unsaved(unsaved)?;
+                reader.save_if(unsaved)?;
                 read_template_args(reader, depth, context, true)?;
             }
             SegmentCase::NameSegment => {
-                reader.save_unsaved(unsaved)?;
+                reader.save_if(unsaved)?;
                 read_segment(reader, depth, context)?;
             }
         }

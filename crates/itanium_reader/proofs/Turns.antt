@@ -22,7 +22,7 @@ use Rattle.itanium_grammar.specs.Cases.{SegmentCase, EndOfSegments, ArgsSegment,
 use Rattle.itanium_grammar.specs.Cases.{EndOfTypes, NextType}
 use Rattle.itanium_grammar.specs.Answer.{max_text}
 use Rattle.itanium_reader.specs.Parser.{ParserState, Parses, ParsesName, ◌>>=◌, is_too_wide, fitting}
-use Rattle.itanium_reader.specs.Parser.{enter, with_rest, save, skip, begin_list, add_argument}
+use Rattle.itanium_reader.specs.Parser.{enter, with_rest, save, skip, open_scope_if, add_argument}
 use Rattle.itanium_reader.specs.Parser.{add_nowhere, taken_back, past_initializer}
 use Rattle.itanium_reader.specs.Parser.{tag_turn, parse_unqualified}
 use Rattle.itanium_reader.specs.Parser.{parse_tags, parse_source_in}
@@ -201,7 +201,7 @@ pub record AttachedSoFar (whole : Option (Shape × ParserState)) (add_argument :
 
 -- a list begins after a name
 pub attached_start : (d : ℕ) (x : Context) (of_name : Bool) (s : ParserState) (name : Shape) {below : ℕ} {opens : Bool} {n : ℕ} {list : List ℕ} {after : ParserState} → 0 < d → below ≡ d - 1
-    → opens ≡ opens_scope of_name x → list ≡ [] → after ≡ begin_list opens (skip 1 (enter s)) → n ≡ length after.scopes
+    → opens ≡ opens_scope of_name x → list ≡ [] → after ≡ open_scope_if opens (skip 1 (enter s)) → n ≡ length after.scopes
     → AttachedSoFar (attached_by (parse_args d x of_name) name s) (add_argument opens n) (parse_argument below x) name true list after
 attached_start d x of_name s name {below} {opens} {n} {list} {after} deep less opened none left scopes = record {
   own = (0, 1);

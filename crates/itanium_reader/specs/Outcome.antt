@@ -7,7 +7,7 @@ use Rattle.std.specs.Option.{unwrap_or}
 use Rattle.demangle_quals.specs.declared.quals.Quals.{Quals}
 use Rattle.demangle_quals.specs.Quals.{no_quals}
 use Rattle.itanium_syntax.specs.declared.context.Context.{Context}
-use Rattle.itanium_reader.specs.Parser.{ParserState, Parses, Turn, loop, enter, save_unsaved, is_too_wide}
+use Rattle.itanium_reader.specs.Parser.{ParserState, Parses, Turn, loop, enter, save_if, is_too_wide}
 use Rattle.itanium_reader.specs.Parser.{parse_bare_name, parse_name}
 use Rattle.itanium_reader.specs.declared.reader.Reader.{Reader}
 use Rattle.itanium_reader.specs.declared.stop.Stop.{Stop}
@@ -52,7 +52,7 @@ GivesUnsaved (Ok unsaved) after parsed =
     IsLiving after.buffer.value after.found
     × (parsed ≡ Some (
       shape after.buffer.value after.found,
-      save_unsaved unsaved (shape after.buffer.value after.found) (state after),
+      save_if unsaved (shape after.buffer.value after.found) (state after),
     ))
 GivesUnsaved (Err Unread) after parsed = parsed ≡ None
 GivesUnsaved (Err Memory) after parsed = Unit {0}

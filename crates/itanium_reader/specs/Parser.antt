@@ -27,7 +27,7 @@ use Rattle.itanium_syntax.specs.Names.{encoding_case, name_case, unscoped_case, 
 use Rattle.itanium_syntax.specs.Names.{unqualified_case, ordinary_case, tag_case, past_internal, past_initializer_letter}
 use Rattle.itanium_syntax.specs.Names.{source_text, name_quals, past_name_quals, saves_first, substitution_case}
 use Rattle.itanium_syntax.specs.Bytes.{begins}
-use Rattle.itanium_syntax.specs.Expressions.{is_external, literal_case, literal_value, expression_text, expression_case}
+use Rattle.itanium_syntax.specs.Expressions.{is_external, primary_case, literal_value, expression_text, expression_case}
 use Rattle.itanium_syntax.specs.Offsets.{thunk_offsets, past_base_offset}
 use Rattle.itanium_syntax.specs.Specials.{special_case, special_text, special_close}
 use Rattle.itanium_syntax.specs.Encodings.{ends_here, for_thunk, return_case, encoding_params_case, entity_case}
@@ -49,11 +49,11 @@ use Rattle.itanium_grammar.specs.Cases.{EndOfSegments, ArgsSegment, NameSegment,
 use Rattle.itanium_grammar.specs.Cases.{DestructorName, OrdinaryName, OrdinaryCase, SourceName, UnnamedTypeName, LambdaName}
 use Rattle.itanium_grammar.specs.Cases.{ConversionName, LiteralOperatorName, OperatorName, UnreadName, TagCase, NoTag}
 use Rattle.itanium_grammar.specs.Cases.{NextTag, SubstitutionCase, AbbreviationSubstitution, ComponentSubstitution}
-use Rattle.itanium_grammar.specs.Cases.{ArgsCase, EndOfArguments, NextArgument, LiteralCase, ExternalName, ValueLiteral}
-use Rattle.itanium_grammar.specs.Cases.{UnreadLiteral, ExpressionCase, PreExpression, AddressExpression, UnaryExpression}
+use Rattle.itanium_grammar.specs.Cases.{ArgsCase, EndOfArguments, NextArgument, PrimaryCase, ExternalName, ValueLiteral}
+use Rattle.itanium_grammar.specs.Cases.{UnreadPrimary, ExpressionCase, PreExpression, AddressExpression, UnaryExpression}
 use Rattle.itanium_grammar.specs.Cases.{PostExpression, BinaryExpression, GreaterExpression, ConditionalExpression}
-use Rattle.itanium_grammar.specs.Cases.{ParameterExpression, LiteralExpression, UnreadExpression, ArgumentCase}
-use Rattle.itanium_grammar.specs.Cases.{ExpressionArgument, PackArgument, LiteralArgument, ConstraintArgument}
+use Rattle.itanium_grammar.specs.Cases.{ParameterExpression, PrimaryExpression, UnreadExpression, ArgumentCase}
+use Rattle.itanium_grammar.specs.Cases.{ExpressionArgument, PackArgument, PrimaryArgument, ConstraintArgument}
 use Rattle.itanium_grammar.specs.Cases.{TypeArgument, TypeCase, BuiltinType, ExpansionType, VendorType, ArrayType}
 use Rattle.itanium_grammar.specs.Cases.{FunctionType, MemberType, PointerType, CvType, ElaboratedType, ParameterType}
 use Rattle.itanium_grammar.specs.Cases.{SubstitutionType, UnreadType, NameType, CvCase, CvFunction, CvOther}
@@ -102,8 +102,8 @@ abbrev pub taken_back : Bool → ParserState → ParserState
 taken_back takes s = record s { saved = if takes then take (length s.saved - 1) s.saved else s.saved }
 
 -- the state once a shape is saved, where it isn't saved yet
-abbrev pub save_unsaved : Bool → Shape → ParserState → ParserState
-save_unsaved unsaved t s = record s {
+abbrev pub save_if : Bool → Shape → ParserState → ParserState
+save_if unsaved t s = record s {
   saved = if unsaved then s.saved ++ t ∷ [] else s.saved;
   most_saved = if unsaved then max s.most_saved (length s.saved + 1) else s.most_saved;
 }
@@ -155,8 +155,8 @@ abbrev pub parse_source : Parses Shape
 parse_source s = source_name s.rest >>= λ found. Some (plain_shape (source_text found.0), with_rest found.1 s)
 
 -- a list begins: it may open a scope
-abbrev pub begin_list : Bool → ParserState → ParserState
-begin_list opens s = record s { scopes = if opens then s.scopes ++ [] ∷ [] else s.scopes }
+abbrev pub open_scope_if : Bool → ParserState → ParserState
+open_scope_if opens s = record s { scopes = if opens then s.scopes ++ [] ∷ [] else s.scopes }
 
 -- the scopes past the first n are dropped, and the argument goes into the scope that its list opened
 abbrev pub add_argument : Bool → ℕ → Shape → ParserState → ParserState
@@ -556,14 +556,14 @@ literal_end type s =
     literal_value s.rest >>= λ found. literal_step type found.0 >>= λ literal. Some (literal, with_rest found.1 s)
 
 -- <expr-primary>, by what it begins with
-abbrev pub literal_as : LiteralCase → Parses Shape → Parses Shape → Parses Shape
+abbrev pub literal_as : PrimaryCase → Parses Shape → Parses Shape → Parses Shape
 literal_as ExternalName type encoding s = ended (encoding (skip 3 s))
 literal_as ValueLiteral type encoding s = type (skip 1 s) >>= λ t. literal_end t.0 t.1
-literal_as UnreadLiteral type encoding s = None
+literal_as UnreadPrimary type encoding s = None
 
 -- <expr-primary>, by what it is made of
 abbrev pub primary_by : Parses Shape → Parses Shape → Parses Shape
-primary_by type encoding s = literal_as (literal_case s.rest) type encoding s
+primary_by type encoding s = literal_as (primary_case s.rest) type encoding s
 
 -- an operand of an expression
 abbrev pub operand_by : Parses Shape → Parses Shape
@@ -619,14 +619,14 @@ expression_as BinaryExpression expression primary x s = parse_binary expression 
 expression_as GreaterExpression expression primary x s = parse_greater expression s
 expression_as ConditionalExpression expression primary x s = parse_conditional expression s
 expression_as ParameterExpression expression primary x s = parse_parameter x s
-expression_as LiteralExpression expression primary x s = primary s
+expression_as PrimaryExpression expression primary x s = primary s
 expression_as UnreadExpression expression primary x s = None
 
 -- <template-arg>, by what it begins with
 abbrev pub argument_as : ArgumentCase → Parses Shape → Parses Shape → Parses Shape → Parses Shape → Parses Shape
 argument_as ExpressionArgument pack type expression primary s = ended (expression (skip 1 s))
 argument_as PackArgument pack type expression primary s = pack s
-argument_as LiteralArgument pack type expression primary s = primary s
+argument_as PrimaryArgument pack type expression primary s = primary s
 argument_as ConstraintArgument pack type expression primary s = None
 argument_as TypeArgument pack type expression primary s = type s
 
@@ -642,13 +642,13 @@ parse_packed argument s =
 
 -- how many scopes there are once a list has begun
 abbrev pub scopes_in : Bool → ParserState → ℕ
-scopes_in opens s = length (begin_list opens s).scopes
+scopes_in opens s = length (open_scope_if opens s).scopes
 
 -- a list from its I to its E
 abbrev pub parse_list : Parses Shape → Bool → Parses Shape
 parse_list argument opens s =
     parse_loop (list_turn (add_argument opens (scopes_in opens s)) argument) (true, plain_shape (codes "<"))
-    (begin_list opens (skip 1 s)) >>= λ list.
+    (open_scope_if opens (skip 1 s)) >>= λ list.
     Some (whole_shape (arguments_closed list.0), list.1)
 
 -- <template-args> after a type, which is saved with them

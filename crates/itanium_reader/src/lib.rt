@@ -9,12 +9,12 @@
 //! `itanium_grammar` for the limits. Begin with `reader.rt`, and then read `names.rt`.
 #![tactic(auto)]
 
-mod declarators;
 mod expressions;
 mod names;
 mod reader;
 mod specials;
 mod stop;
+mod types;
 
 pub use crate::reader::{MAX_TEXT, Reader, text_limit};
 pub use crate::stop::{ReadResult, Stop};

@@ -25,20 +25,20 @@ impl<'a> Reader<'a> {
         requires living { IsLiving self.old.buffer.value self.old.found }
         requires last { IsLast self.old.buffer.value self.old.found }
         ensures reads { Gives result self.new (spec.parse_source_in (Some (shape self.old.buffer.value self.old.found))
-            (spec.save_unsaved unsaved (shape self.old.buffer.value self.old.found) (state self.old))) }
+            (spec.save_if unsaved (shape self.old.buffer.value self.old.found) (state self.old))) }
         ensures run { OnOk result (IsRun self.old.buffer.value self.new.buffer.value) }
         ensures last { OnOk result (IsLast self.new.buffer.value self.new.found) }
         ensures bounds { TakesSome 0 result (state self.old) (state self.new) }
         ensures saved { SavedBounds 1 result
-            (spec.save_unsaved unsaved (shape self.old.buffer.value self.old.found) (state self.old)) (state self.new) }
+            (spec.save_if unsaved (shape self.old.buffer.value self.old.found) (state self.old)) (state self.new) }
     {
         let bytes = self.rest;
         let Some((from, to)) = source_name(bytes, 0) else {
             // The parser saves the parent before it reads the name, also if no name follows.
-            self.save_unsaved(unsaved)?;
+            self.save_if(unsaved)?;
             return Err(Stop::Unread);
         };
-        self.save_unsaved(unsaved)?;
+        self.save_if(unsaved)?;
         let text = source_text(&bytes[from..to]);
         self.buffer.append_name(&mut self.found, b"::", text)?;
         self.rest = &bytes[to..];

@@ -117,7 +117,7 @@ impl<'a> Reader<'a> {
         ensures found { self.new.found ≡ self.old.found }
         ensures kept { OnOk result (SameFrame self.old.buffer.value self.new.buffer.value) }
     {
-        self.buffer.save_in_place(&self.found)?;
+        self.buffer.save_ref(&self.found)?;
         Ok(())
     }
 
@@ -157,11 +157,11 @@ impl<'a> Reader<'a> {
 
     /// Appends `found` to the substitution table if `unsaved` is true.
     #[inline(always)]
-    pub fn save_unsaved(&mut self, unsaved: bool) -> Result<(), AllocError>
+    pub fn save_if(&mut self, unsaved: bool) -> Result<(), AllocError>
         requires living { IsLiving self.old.buffer.value self.old.found }
         ensures shape { OnOk result (Lives self.new.buffer.value self.new.found
             (shape self.old.buffer.value self.old.found)) }
-        ensures state { OnOk result (state self.new ≡ spec.save_unsaved unsaved
+        ensures state { OnOk result (state self.new ≡ spec.save_if unsaved
             (shape self.old.buffer.value self.old.found) (state self.old)) }
         ensures found { OnOk result (self.new.found ≡ self.old.found) }
         ensures output { main_bytes self.new.buffer.value ≡ main_bytes self.old.buffer.value }
@@ -178,7 +178,7 @@ impl<'a> Reader<'a> {
     #[inline(always)]
     pub fn end_nested_name(&mut self, unsaved: bool)
         requires living { IsLiving self.old.buffer.value self.old.found }
-        ensures state { state self.new ≡ spec.taken_back unsaved (spec.skip 1 (spec.save_unsaved unsaved
+        ensures state { state self.new ≡ spec.taken_back unsaved (spec.skip 1 (spec.save_if unsaved
             (shape self.old.buffer.value self.old.found) (state self.old))) }
         ensures found { self.new.found ≡ self.old.found }
         ensures buffer { self.new.buffer.value ≡ self.old.buffer.value }
@@ -361,8 +361,8 @@ impl<'a> Reader<'a> {
     }
 
     /// Begins a list of template arguments, and opens a scope if `opens` is true.
-    pub fn begin_list(&mut self, opens: bool) -> Result<(), AllocError>
-        ensures state { OnOk result (state self.new ≡ spec.begin_list opens (state self.old)) }
+    pub fn open_scope_if(&mut self, opens: bool) -> Result<(), AllocError>
+        ensures state { OnOk result (state self.new ≡ spec.open_scope_if opens (state self.old)) }
         ensures more { OnOk result (length (scopes self.old.buffer.value) ≤ length (scopes self.new.buffer.value)) }
         ensures opened { OnOk result (opens ≡ true → 0 < length (scopes self.new.buffer.value)) }
         ensures found { OnOk result (self.new.found ≡ self.old.found) }

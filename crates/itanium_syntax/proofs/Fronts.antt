@@ -17,8 +17,8 @@ use Rattle.itanium_syntax.specs.Bytes.{begins, begins_one_of, past_letter}
 use Rattle.itanium_syntax.specs.Cases.{EncodingEnd, AfterName, AtE, SpecialEncoding, NameEncoding, FullEncoding}
 use Rattle.itanium_syntax.specs.Cases.{TypeSpecial, NameSpecial, TemporarySpecial, ConstructionSpecial, ThunkSpecial}
 use Rattle.itanium_syntax.specs.Cases.{PreExpression, AddressExpression, UnaryExpression, PostExpression}
-use Rattle.itanium_syntax.specs.Cases.{BinaryExpression, GreaterExpression, ConditionalExpression, LiteralExpression}
-use Rattle.itanium_syntax.specs.Cases.{ExpressionArgument, LiteralArgument, StringLiteralEntity, DefaultArgumentEntity}
+use Rattle.itanium_syntax.specs.Cases.{BinaryExpression, GreaterExpression, ConditionalExpression, PrimaryExpression}
+use Rattle.itanium_syntax.specs.Cases.{ExpressionArgument, PrimaryArgument, StringLiteralEntity, DefaultArgumentEntity}
 use Rattle.itanium_syntax.specs.Cases.{NameEntity, ExpansionType, LambdaName, ConversionName, UnnamedTypeName}
 use Rattle.itanium_syntax.specs.Cases.{LiteralOperatorName, OperatorName, PackArgument, StdFirst, EndOfSegments}
 use Rattle.itanium_syntax.specs.Cases.{ArgsSegment, ConstructorName, DestructorName, ArgsAttached, EndOfArguments}
@@ -310,7 +310,7 @@ pub conditional_some : (bytes : List ℕ) → expression_case bytes ≡ Conditio
 conditional_some [] e = cc
 conditional_some (b ∷ bytes) e = omega arith
 
-pub primary_some : (bytes : List ℕ) → expression_case bytes ≡ LiteralExpression → 0 < length bytes
+pub primary_some : (bytes : List ℕ) → expression_case bytes ≡ PrimaryExpression → 0 < length bytes
 primary_some [] e = cc
 primary_some (b ∷ bytes) e = omega arith
 
@@ -320,7 +320,7 @@ pub expression_argument_some : (bytes : List ℕ) → argument_case bytes ≡ Ex
 expression_argument_some [] e = cc
 expression_argument_some (b ∷ bytes) e = omega arith
 
-pub literal_argument_some : (bytes : List ℕ) → argument_case bytes ≡ LiteralArgument → 0 < length bytes
+pub literal_argument_some : (bytes : List ℕ) → argument_case bytes ≡ PrimaryArgument → 0 < length bytes
 literal_argument_some [] e = cc
 literal_argument_some (b ∷ bytes) e = omega arith
 

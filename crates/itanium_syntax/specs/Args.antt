@@ -2,7 +2,7 @@
 use Rattle.std.specs.Prelude.{ℕ, List, codes, if◌then◌else◌}
 use Rattle.itanium_syntax.specs.Bytes.{begins}
 use Rattle.itanium_syntax.specs.Cases.{AttachedCase, NoneAttached, ArgsAttached, ArgsCase, EndOfArguments, NextArgument}
-use Rattle.itanium_syntax.specs.Cases.{ArgumentCase, ExpressionArgument, PackArgument, LiteralArgument}
+use Rattle.itanium_syntax.specs.Cases.{ArgumentCase, ExpressionArgument, PackArgument, PrimaryArgument}
 use Rattle.itanium_syntax.specs.Cases.{ConstraintArgument, TypeArgument}
 
 -- <template-args> or none
@@ -18,5 +18,5 @@ abbrev pub argument_case : List ℕ → ArgumentCase
 argument_case bytes =
     if begins (codes "X") bytes then ExpressionArgument else
     if begins (codes "J") bytes then PackArgument else
-    if begins (codes "L") bytes then LiteralArgument else
+    if begins (codes "L") bytes then PrimaryArgument else
     if begins (codes "Q") bytes then ConstraintArgument else TypeArgument

@@ -30,9 +30,9 @@ pub use Rattle.itanium_syntax.specs.declared.args.AttachedCase.TheVariants.{None
 pub use Rattle.itanium_syntax.specs.declared.args.ArgsCase.{ArgsCase}
 pub use Rattle.itanium_syntax.specs.declared.args.ArgsCase.TheVariants.{EndOfArguments, NextArgument}
 pub use Rattle.itanium_syntax.specs.declared.args.ArgumentCase.{ArgumentCase}
-pub use Rattle.itanium_syntax.specs.declared.args.ArgumentCase.TheVariants.{ExpressionArgument, PackArgument, LiteralArgument, ConstraintArgument, TypeArgument}
-pub use Rattle.itanium_syntax.specs.declared.expressions.LiteralCase.{LiteralCase}
-pub use Rattle.itanium_syntax.specs.declared.expressions.LiteralCase.TheVariants.{ExternalName, ValueLiteral, UnreadLiteral}
+pub use Rattle.itanium_syntax.specs.declared.args.ArgumentCase.TheVariants.{ExpressionArgument, PackArgument, PrimaryArgument, ConstraintArgument, TypeArgument}
+pub use Rattle.itanium_syntax.specs.declared.expressions.PrimaryCase.{PrimaryCase}
+pub use Rattle.itanium_syntax.specs.declared.expressions.PrimaryCase.TheVariants.{ExternalName, ValueLiteral, UnreadPrimary}
 pub use Rattle.itanium_syntax.specs.declared.expressions.ExpressionCase.{ExpressionCase}
 pub use Rattle.itanium_syntax.specs.declared.expressions.ExpressionCase.TheVariants.{PreExpression, AddressExpression}
 pub use Rattle.itanium_syntax.specs.declared.expressions.ExpressionCase.TheVariants.{UnaryExpression, PostExpression}
@@ -40,7 +40,7 @@ pub use Rattle.itanium_syntax.specs.declared.expressions.ExpressionCase.TheVaria
 pub use Rattle.itanium_syntax.specs.declared.expressions.ExpressionCase.TheVariants.{GreaterExpression}
 pub use Rattle.itanium_syntax.specs.declared.expressions.ExpressionCase.TheVariants.{ConditionalExpression}
 pub use Rattle.itanium_syntax.specs.declared.expressions.ExpressionCase.TheVariants.{ParameterExpression}
-pub use Rattle.itanium_syntax.specs.declared.expressions.ExpressionCase.TheVariants.{LiteralExpression, UnreadExpression}
+pub use Rattle.itanium_syntax.specs.declared.expressions.ExpressionCase.TheVariants.{PrimaryExpression, UnreadExpression}
 pub use Rattle.itanium_syntax.specs.declared.specials.SpecialCase.{SpecialCase}
 pub use Rattle.itanium_syntax.specs.declared.specials.SpecialCase.TheVariants.{TypeSpecial, NameSpecial, TemporarySpecial, ConstructionSpecial, ThunkSpecial, UnreadSpecial}
 pub use Rattle.itanium_syntax.specs.declared.types.TypeCase.{TypeCase}

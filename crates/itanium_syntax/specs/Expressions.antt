@@ -4,10 +4,10 @@ use Rattle.std.specs.Prelude.{ℕ, ◌+◌, List, [], ◌∷◌, length, take, d
 use Rattle.std.specs.List.{prefix_len}
 use Rattle.std.specs.Str.{is_utf8}
 use Rattle.itanium_syntax.specs.Bytes.{is, begins, begins_one_of}
-use Rattle.itanium_syntax.specs.Cases.{LiteralCase, ExternalName, ValueLiteral, UnreadLiteral, ExpressionCase}
+use Rattle.itanium_syntax.specs.Cases.{PrimaryCase, ExternalName, ValueLiteral, UnreadPrimary, ExpressionCase}
 use Rattle.itanium_syntax.specs.Cases.{PreExpression, AddressExpression, UnaryExpression, PostExpression}
 use Rattle.itanium_syntax.specs.Cases.{BinaryExpression, GreaterExpression, ConditionalExpression, ParameterExpression}
-use Rattle.itanium_syntax.specs.Cases.{LiteralExpression, UnreadExpression}
+use Rattle.itanium_syntax.specs.Cases.{PrimaryExpression, UnreadExpression}
 use Rattle.itanium_syntax.specs.Operators.{is_code, operator_here, operator_arity}
 
 -- an external name is next
@@ -15,10 +15,10 @@ abbrev pub is_external : List ℕ → Bool
 is_external bytes = begins (codes "L_Z") bytes
 
 -- a literal, from its L on
-abbrev pub literal_case : List ℕ → LiteralCase
-literal_case bytes =
+abbrev pub primary_case : List ℕ → PrimaryCase
+primary_case bytes =
     if is_external bytes then ExternalName else
-    if begins (codes "L_") bytes || begins (codes "LZ") bytes then UnreadLiteral else ValueLiteral
+    if begins (codes "L_") bytes || begins (codes "LZ") bytes then UnreadPrimary else ValueLiteral
 
 -- how many bytes come before the first E: all where there is none
 abbrev pub value_len : List ℕ → ℕ
@@ -64,7 +64,7 @@ expression_text bytes = unwrap_or (operator_here bytes) []
 abbrev pub operand_case : List ℕ → ExpressionCase
 operand_case bytes =
     if begins (codes "T") bytes && not (begins_one_of (codes "sueL") (drop 1 bytes)) then ParameterExpression else
-    if begins (codes "L") bytes then LiteralExpression else UnreadExpression
+    if begins (codes "L") bytes then PrimaryExpression else UnreadExpression
 
 -- an expression, by its operator's number of operands; `None` where no operator is next
 abbrev pub operator_case : List ℕ → Option ℕ → ExpressionCase

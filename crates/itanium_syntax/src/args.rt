@@ -21,7 +21,7 @@ pub enum ArgsCase {
 pub enum ArgumentCase {
     ExpressionArgument,
     PackArgument,
-    LiteralArgument,
+    PrimaryArgument,
     ConstraintArgument,
     TypeArgument,
 }
@@ -53,7 +53,7 @@ pub fn argument_case(bytes: &[u8]) -> ArgumentCase
     match bytes {
         [b'X', ..] => ArgumentCase::ExpressionArgument,
         [b'J', ..] => ArgumentCase::PackArgument,
-        [b'L', ..] => ArgumentCase::LiteralArgument,
+        [b'L', ..] => ArgumentCase::PrimaryArgument,
         [b'Q', ..] => ArgumentCase::ConstraintArgument,
         _ => ArgumentCase::TypeArgument,
     }

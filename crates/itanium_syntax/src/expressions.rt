@@ -8,10 +8,10 @@ use std::str::from_utf8;
 
 /// The cases of what begins with an `L` among template arguments and expressions.
 #[derive(Clone, Copy)]
-pub enum LiteralCase {
+pub enum PrimaryCase {
     ExternalName,
     ValueLiteral,
-    UnreadLiteral,
+    UnreadPrimary,
 }
 
 /// The cases of `<expression>`, by how each is printed.
@@ -32,7 +32,7 @@ pub enum ExpressionCase {
     /// `?` and `:` between three operands.
     ConditionalExpression,
     ParameterExpression,
-    LiteralExpression,
+    PrimaryExpression,
     UnreadExpression,
 }
 
@@ -44,13 +44,13 @@ pub fn is_external(bytes: &[u8]) -> bool
 }
 
 /// Returns which literal is next, with its `L`.
-pub fn literal_case(bytes: &[u8]) -> LiteralCase
-    ensures case { result ≡ spec.literal_case bytes.now }
+pub fn primary_case(bytes: &[u8]) -> PrimaryCase
+    ensures case { result ≡ spec.primary_case bytes.now }
 {
     match bytes {
-        [b'L', b'_', b'Z', ..] => LiteralCase::ExternalName,
-        [b'L', b'_' | b'Z', ..] => LiteralCase::UnreadLiteral,
-        _ => LiteralCase::ValueLiteral,
+        [b'L', b'_', b'Z', ..] => PrimaryCase::ExternalName,
+        [b'L', b'_' | b'Z', ..] => PrimaryCase::UnreadPrimary,
+        _ => PrimaryCase::ValueLiteral,
     }
 }
 
@@ -116,7 +116,7 @@ pub fn expression_case(bytes: &[u8]) -> ExpressionCase
 {
     let (first, second, rest) = match bytes {
         [first, second, rest @ ..] => (*first, *second, rest),
-        [b'L'] => return ExpressionCase::LiteralExpression,
+        [b'L'] => return ExpressionCase::PrimaryExpression,
         [b'T'] => return ExpressionCase::ParameterExpression,
         _ => return ExpressionCase::UnreadExpression,
     };
@@ -127,7 +127,7 @@ pub fn expression_case(bytes: &[u8]) -> ExpressionCase
         },
         (b'a', b'd') if is_external(rest) => ExpressionCase::AddressExpression,
         (b'g', b't') => ExpressionCase::GreaterExpression,
-        (b'L', _) => ExpressionCase::LiteralExpression,
+        (b'L', _) => ExpressionCase::PrimaryExpression,
         (b'T', b's' | b'u' | b'e' | b'L') => ExpressionCase::UnreadExpression,
         (b'T', _) => ExpressionCase::ParameterExpression,
         _ if expression_refused(first, second) => ExpressionCase::UnreadExpression,

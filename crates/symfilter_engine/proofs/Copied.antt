@@ -8,8 +8,8 @@ use Rattle.symfilter_engine.specs.declared.fault.FilterFault.{FilterFault}
 use Rattle.symfilter_engine.specs.declared.fault.FilterFault.TheVariants.{Read, Write, Memory}
 use Rattle.symfilter_engine.specs.declared.symbols.Printing.{Printing}
 use Rattle.symfilter_engine.specs.declared.symbols.Replacement.{Replacement}
-use Rattle.symfilter_engine.specs.declared.symbols.Symbols.{Symbols}
-use Rattle.symfilter_engine.specs.declared.symbols.Symbols.TheVariants.{Lines, Words}
+use Rattle.symfilter_engine.specs.declared.symbols.Placement.{Placement}
+use Rattle.symfilter_engine.specs.declared.symbols.Placement.TheVariants.{Lines, Words}
 use Rattle.symfilter_engine.specs.Fault.{IsReadOutcome, IsWriteOutcome, IsRunOutcome}
 use Rattle.std.proofs.KnownBytes.{Consumes-nil, Consumes-trans, Consumes-kept, Keeps-refl}
 use Rattle.std.specs.Prelude.{All, IsErrAnd}
@@ -22,9 +22,9 @@ use Rattle.symfilter_engine.proofs.WordTurns.{none_held, none_replaced, replaced
 use Rattle.symfilter_engine.proofs.FilteredText.{none_filtered, filtered_begins, piece_filtered, piece_begins, next_unwritten, lines_before, WritesFiltered-append, WritesBeginning-append}
 
 -- the whole lines of these bytes were written, and what is left isn't one
-ended_filtered : (symbols : Symbols) (all lines rest : List ℕ) (n : ℕ) (t t' : Option (List ℕ))
-    → HasFiltered symbols lines [] t t' → lines ≡ take n all → rest ≡ drop n all → HasFiltered symbols all rest t t'
-ended_filtered symbols all lines rest n t t' so_far lines_are rest_is =
+ended_filtered : (placement : Placement) (all lines rest : List ℕ) (n : ℕ) (t t' : Option (List ℕ))
+    → HasFiltered placement lines [] t t' → lines ≡ take n all → rest ≡ drop n all → HasFiltered placement all rest t t'
+ended_filtered placement all lines rest n t t' so_far lines_are rest_is =
     record {
       lines = so_far.lines;
       text = so_far.text;
@@ -34,20 +34,20 @@ ended_filtered symbols all lines rest n t t' so_far lines_are rest_is =
     }
 
 -- nothing was written yet
-none_written : (symbols : Symbols) (given : List ℕ) (at : Option (List ℕ)) → HasWritten symbols false given given false at at
+none_written : (placement : Placement) (given : List ℕ) (at : Option (List ℕ)) → HasWritten placement false given given false at at
 none_written (Lines printing) given at = none_filtered (Lines printing) given at
 none_written (Words options) given at = none_replaced options given at
 
 -- the next piece was written
-piece_written : (symbols : Symbols) (inside after : Bool) (given piece left left' : List ℕ) (t t' t'' : Option (List ℕ)) → HasWritten symbols false given left inside t t'
-    → HasWritten symbols inside (left ++ piece) left' after t' t'' → HasWritten symbols false (given ++ piece) left' after t t''
+piece_written : (placement : Placement) (inside after : Bool) (given piece left left' : List ℕ) (t t' t'' : Option (List ℕ)) → HasWritten placement false given left inside t t'
+    → HasWritten placement inside (left ++ piece) left' after t' t'' → HasWritten placement false (given ++ piece) left' after t t''
 piece_written (Lines printing) inside after given piece left left' t t' t'' so_far more = piece_filtered (Lines printing) given piece left left' t t' t'' so_far more
 piece_written (Words options) inside after given piece left left' t t' t'' so_far more =
     replaced_on options false inside after (given ++ piece) (left ++ piece) left' t t' t'' (given_more options false inside given left piece t t' so_far) more
 
 -- a beginning of it was
-piece_begun : (symbols : Symbols) (inside : Bool) (given piece left : List ℕ) (t t' t'' : Option (List ℕ)) → HasWritten symbols false given left inside t t'
-    → WritesFrontIn symbols inside (left ++ piece) t' t'' → WritesBeginning symbols (given ++ piece) t t''
+piece_begun : (placement : Placement) (inside : Bool) (given piece left : List ℕ) (t t' t'' : Option (List ℕ)) → HasWritten placement false given left inside t t'
+    → WritesFrontIn placement inside (left ++ piece) t' t'' → WritesBeginning placement (given ++ piece) t t''
 piece_begun (Lines printing) inside given piece left t t' t'' so_far begins =
     piece_begins (Lines printing) given piece left t t' t'' so_far
     (subst (λ l. WritesBeginning (Lines printing) l t' t'') (append-nil (left ++ piece)) (begins []))
@@ -56,14 +56,14 @@ piece_begun (Words options) inside given piece left t t' t'' so_far begins =
     (front_after options false inside (given ++ piece) (left ++ piece) t t' t'' (given_more options false inside given left piece t t' so_far) begins [])
 
 -- nothing more was written
-written_kept : (symbols : Symbols) (inside after : Bool) (given left : List ℕ) (t t' t'' : Option (List ℕ)) → HasWritten symbols inside given left after t t' → Keeps t' t''
-    → HasWritten symbols inside given left after t t''
+written_kept : (placement : Placement) (inside after : Bool) (given left : List ℕ) (t t' t'' : Option (List ℕ)) → HasWritten placement inside given left after t t' → Keeps t' t''
+    → HasWritten placement inside given left after t t''
 written_kept (Lines printing) inside after given left t t' t'' so_far keeps = next_unwritten (Lines printing) given left t t' t'' so_far keeps
 written_kept (Words options) inside after given left t t' t'' so_far keeps = replaced_kept options inside after given left t t' t'' so_far keeps
 
 -- whole lines or words were written of what was read
-whole_written : (symbols : Symbols) (read left : List ℕ) (s s' t t' : Option (List ℕ)) → Consumes s s' read → HasWritten symbols false read left false t t'
-    → FiltersWhole symbols s s' t t'
+whole_written : (placement : Placement) (read left : List ℕ) (s s' t t' : Option (List ℕ)) → Consumes s s' read → HasWritten placement false read left false t t'
+    → FiltersWhole placement s s' t t'
 whole_written (Lines printing) read left s s' t t' consumed so_far =
     record {
       lines = so_far.lines;
@@ -76,8 +76,8 @@ whole_written (Lines printing) read left s s' t t' consumed so_far =
 whole_written (Words options) read left s s' t t' consumed so_far = whole_words options read left s s' t t' consumed so_far
 
 -- and all of it but what is kept
-written_but : (symbols : Symbols) (inside : Bool) (read left : List ℕ) (s s' t t' : Option (List ℕ)) → Consumes s s' read → HasWritten symbols false read left inside t t'
-    → (inside ≡ true → left ≡ []) → AreKept symbols left → WritesAllButKept symbols s s' t t'
+written_but : (placement : Placement) (inside : Bool) (read left : List ℕ) (s s' t t' : Option (List ℕ)) → Consumes s s' read → HasWritten placement false read left inside t t'
+    → (inside ≡ true → left ≡ []) → AreKept placement left → WritesAllButKept placement s s' t t'
 written_but (Lines printing) inside read left s s' t t' consumed so_far none kept =
     record {
       lines = so_far.lines;
@@ -91,92 +91,92 @@ written_but (Lines printing) inside read left s s' t t' consumed so_far none kep
 written_but (Words options) inside read left s s' t t' consumed so_far none kept = all_but_held options inside read left s s' t t' consumed so_far none kept
 
 -- what is written stays a beginning
-written_begun : (symbols : Symbols) (inside : Bool) (read left : List ℕ) (t t' : Option (List ℕ)) → HasWritten symbols false read left inside t t' → WritesBeginning symbols read t t'
+written_begun : (placement : Placement) (inside : Bool) (read left : List ℕ) (t t' : Option (List ℕ)) → HasWritten placement false read left inside t t' → WritesBeginning placement read t t'
 written_begun (Lines printing) inside read left t t' so_far = filtered_begins (Lines printing) read left t t' so_far
 written_begun (Words options) inside read left t t' so_far = replaced_begun options inside read left t t' so_far
 
 -- what was left was written too
-last_written : (symbols : Symbols) (inside : Bool) (read left : List ℕ) (t t' t'' : Option (List ℕ)) → HasWritten symbols false read left inside t t' → (inside ≡ true → left ≡ [])
-    → WritesFiltered symbols left t' t'' → WritesFiltered symbols read t t''
+last_written : (placement : Placement) (inside : Bool) (read left : List ℕ) (t t' t'' : Option (List ℕ)) → HasWritten placement false read left inside t t' → (inside ≡ true → left ≡ [])
+    → WritesFiltered placement left t' t'' → WritesFiltered placement read t t''
 last_written (Lines printing) inside read left t t' t'' so_far none writes = WritesFiltered-append (Lines printing) read left t t' t'' so_far writes
 last_written (Words options) inside read left t t' t'' so_far none writes = last_on options inside read left t t' t'' so_far none writes
 
 -- a beginning of it was
-last_begins : (symbols : Symbols) (inside : Bool) (read left : List ℕ) (t t' t'' : Option (List ℕ)) → HasWritten symbols false read left inside t t' → (inside ≡ true → left ≡ [])
-    → WritesBeginning symbols left t' t'' → WritesBeginning symbols read t t''
+last_begins : (placement : Placement) (inside : Bool) (read left : List ℕ) (t t' t'' : Option (List ℕ)) → HasWritten placement false read left inside t t' → (inside ≡ true → left ≡ [])
+    → WritesBeginning placement left t' t'' → WritesBeginning placement read t t''
 last_begins (Lines printing) inside read left t t' t'' so_far none begins = WritesBeginning-append (Lines printing) read left t t' t'' so_far begins
 last_begins (Words options) inside read left t t' t'' so_far none begins = last_begun options inside read left t t' t'' so_far none begins
 
 -- nothing was read yet
-pub none_copied : (symbols : Symbols) (left : List ℕ) (source sink : Option (List ℕ)) → left ≡ [] → HasCopied symbols false left source source sink sink
-none_copied symbols left source sink left_is =
+pub none_copied : (placement : Placement) (left : List ℕ) (source sink : Option (List ℕ)) → left ≡ [] → HasCopied placement false left source source sink sink
+none_copied placement left source sink left_is =
     record {
       read = [];
       consumed = Consumes-nil source;
       none = λ _. left_is;
-      written = subst (λ l. HasWritten symbols false [] l false sink sink) (sym left_is) (none_written symbols [] sink);
+      written = subst (λ l. HasWritten placement false [] l false sink sink) (sym left_is) (none_written placement [] sink);
     }
 
 -- and nothing is kept
-pub none_kept : (symbols : Symbols) (left : List ℕ) → left ≡ [] → AreKept symbols left
+pub none_kept : (placement : Placement) (left : List ℕ) → left ≡ [] → AreKept placement left
 none_kept (Lines printing) left left_is = subst HasNoLineFeed (sym left_is) (All-nil (λ byte. byte ≢ line_feed))
 none_kept (Words options) left left_is = none_held options left left_is
 
 -- what was kept stands in front
-pub still_kept : (symbols : Symbols) (kept end : ℕ) (old new : List ℕ) (s s' : Option (List ℕ)) → AreKept symbols (take kept old) → ReadsMore kept end old new s s' → kept ≤ length old
-    → AreKept symbols (take kept (take end new))
-still_kept symbols kept end old new s s' are more within =
-    subst (AreKept symbols)
+pub still_kept : (placement : Placement) (kept end : ℕ) (old new : List ℕ) (s s' : Option (List ℕ)) → AreKept placement (take kept old) → ReadsMore kept end old new s s' → kept ≤ length old
+    → AreKept placement (take kept (take end new))
+still_kept placement kept end old new s s' are more within =
+    subst (AreKept placement)
     (sym (ap (take kept) more.held ∙ take-append-le kept (take kept old) more.piece (omega (arith, length-take-le kept old within)) ∙ take-take kept kept old (omega arith))) are
 
 -- no byte was kept where a word goes on
-pub none_seen : (symbols : Symbols) (inside : Bool) (kept : ℕ) (old : List ℕ) (s s' t t' : Option (List ℕ)) → HasCopied symbols inside (take kept old) s s' t t' → kept ≤ length old
+pub none_seen : (placement : Placement) (inside : Bool) (kept : ℕ) (old : List ℕ) (s s' t t' : Option (List ℕ)) → HasCopied placement inside (take kept old) s s' t t' → kept ≤ length old
     → inside ≡ true → kept ≡ 0
-none_seen symbols inside kept old s s' t t' so_far within is = omega (arith, length-take-le kept old within, ap length (so_far.none is))
+none_seen placement inside kept old s s' t t' so_far within is = omega (arith, length-take-le kept old within, ap length (so_far.none is))
 
 -- one turn more
-pub turn_copied : (symbols : Symbols) (inside after : Bool) (kept end : ℕ) (old new rest left : List ℕ) (s s' s'' t t' t'' : Option (List ℕ))
-    → HasCopied symbols inside (take kept old) s s' t t' → ReadsMore kept end old new s' s'' → HasWritten symbols inside (take end new) left after t' t'' → rest ≡ left
-    → (after ≡ true → left ≡ []) → HasCopied symbols after rest s s'' t t''
-turn_copied symbols inside after kept end old new rest left s s' s'' t t' t'' so_far more written rest_is none =
-    subst (λ l. HasCopied symbols after l s s'' t t'') (sym rest_is)
+pub turn_copied : (placement : Placement) (inside after : Bool) (kept end : ℕ) (old new rest left : List ℕ) (s s' s'' t t' t'' : Option (List ℕ))
+    → HasCopied placement inside (take kept old) s s' t t' → ReadsMore kept end old new s' s'' → HasWritten placement inside (take end new) left after t' t'' → rest ≡ left
+    → (after ≡ true → left ≡ []) → HasCopied placement after rest s s'' t t''
+turn_copied placement inside after kept end old new rest left s s' s'' t t' t'' so_far more written rest_is none =
+    subst (λ l. HasCopied placement after l s s'' t t'') (sym rest_is)
     (record {
       read = so_far.read ++ more.piece;
       consumed = Consumes-trans s s' s'' so_far.read more.piece so_far.consumed more.consumed;
       none = none;
-      written = piece_written symbols inside after so_far.read more.piece (take kept old) left t t' t'' so_far.written
-          (subst (λ l. HasWritten symbols inside l left after t' t'') more.held written);
+      written = piece_written placement inside after so_far.read more.piece (take kept old) left t t' t'' so_far.written
+          (subst (λ l. HasWritten placement inside l left after t' t'') more.held written);
     })
 
 -- a fault came in it
-pub turn_fault : (symbols : Symbols) (inside : Bool) (kept end : ℕ) (old new : List ℕ) (s s' s'' t t' t'' : Option (List ℕ))
-    → HasCopied symbols inside (take kept old) s s' t t' → ReadsMore kept end old new s' s'' → WritesFrontIn symbols inside (take end new) t' t''
-    → FiltersFront symbols s s'' t t''
-turn_fault symbols inside kept end old new s s' s'' t t' t'' so_far more begins =
+pub turn_fault : (placement : Placement) (inside : Bool) (kept end : ℕ) (old new : List ℕ) (s s' s'' t t' t'' : Option (List ℕ))
+    → HasCopied placement inside (take kept old) s s' t t' → ReadsMore kept end old new s' s'' → WritesFrontIn placement inside (take end new) t' t''
+    → FiltersFront placement s s'' t t''
+turn_fault placement inside kept end old new s s' s'' t t' t'' so_far more begins =
     record {
       read = so_far.read ++ more.piece;
       consumed = Consumes-trans s s' s'' so_far.read more.piece so_far.consumed more.consumed;
-      begins = piece_begun symbols inside so_far.read more.piece (take kept old) t t' t'' so_far.written
-          (subst (λ l. WritesFrontIn symbols inside l t' t'') more.held begins);
+      begins = piece_begun placement inside so_far.read more.piece (take kept old) t t' t'' so_far.written
+          (subst (λ l. WritesFrontIn placement inside l t' t'') more.held begins);
     }
 
 -- memory was refused in it
-pub turn_refused : (symbols : Symbols) (inside : Bool) (kept end : ℕ) (old new : List ℕ) (s s' s'' t t' t'' : Option (List ℕ))
-    → HasCopied symbols inside (take kept old) s s' t t' → ReadsMore kept end old new s' s'' → WritesSomeIn symbols inside (take end new) t' t''
-    → FiltersWhole symbols s s'' t t''
-turn_refused symbols inside kept end old new s s' s'' t t' t'' so_far more (left, written) =
-    whole_written symbols (so_far.read ++ more.piece) left s s'' t t'' (Consumes-trans s s' s'' so_far.read more.piece so_far.consumed more.consumed)
-    (piece_written symbols inside false so_far.read more.piece (take kept old) left t t' t'' so_far.written
-    (subst (λ l. HasWritten symbols inside l left false t' t'') more.held written))
+pub turn_refused : (placement : Placement) (inside : Bool) (kept end : ℕ) (old new : List ℕ) (s s' s'' t t' t'' : Option (List ℕ))
+    → HasCopied placement inside (take kept old) s s' t t' → ReadsMore kept end old new s' s'' → WritesSomeIn placement inside (take end new) t' t''
+    → FiltersWhole placement s s'' t t''
+turn_refused placement inside kept end old new s s' s'' t t' t'' so_far more (left, written) =
+    whole_written placement (so_far.read ++ more.piece) left s s'' t t'' (Consumes-trans s s' s'' so_far.read more.piece so_far.consumed more.consumed)
+    (piece_written placement inside false so_far.read more.piece (take kept old) left t t' t'' so_far.written
+    (subst (λ l. HasWritten placement inside l left false t' t'') more.held written))
 
 -- nothing more was read
-pub end_copied : (symbols : Symbols) (inside : Bool) (kept end : ℕ) (old new : List ℕ) (s s' s'' t t' : Option (List ℕ))
-    → HasCopied symbols inside (take kept old) s s' t t' → ReadsMore kept end old new s' s'' → kept ≤ length old → end ≡ kept
-    → HasCopied symbols inside (take kept new) s s'' t t'
-end_copied symbols inside kept end old new s s' s'' t t' so_far more within same =
+pub end_copied : (placement : Placement) (inside : Bool) (kept end : ℕ) (old new : List ℕ) (s s' s'' t t' : Option (List ℕ))
+    → HasCopied placement inside (take kept old) s s' t t' → ReadsMore kept end old new s' s'' → kept ≤ length old → end ≡ kept
+    → HasCopied placement inside (take kept new) s s'' t t'
+end_copied placement inside kept end old new s s' s'' t t' so_far more within same =
     let none = nothing_read kept end old new s' s'' more within same in
     let held : take kept new ≡ take kept old = ap (λ n. take n new) (sym same) ∙ more.held ∙ ap (λ l. take kept old ++ l) none ∙ append-nil (take kept old) in
-    subst (λ l. HasCopied symbols inside l s s'' t t') (sym held)
+    subst (λ l. HasCopied placement inside l s s'' t t') (sym held)
     (record {
       read = so_far.read;
       consumed = subst (Consumes s s'') (ap (λ l. so_far.read ++ l) none ∙ append-nil so_far.read)
@@ -186,31 +186,31 @@ end_copied symbols inside kept end old new s s' s'' t t' so_far more within same
     })
 
 -- the source failed, and gave nothing
-pub read_fault : (symbols : Symbols) (inside : Bool) (left : List ℕ) (s s' s'' t t' : Option (List ℕ)) → HasCopied symbols inside left s s' t t' → Keeps s' s''
-    → FiltersFront symbols s s'' t t'
-read_fault symbols inside left s s' s'' t t' so_far keeps =
+pub read_fault : (placement : Placement) (inside : Bool) (left : List ℕ) (s s' s'' t t' : Option (List ℕ)) → HasCopied placement inside left s s' t t' → Keeps s' s''
+    → FiltersFront placement s s'' t t'
+read_fault placement inside left s s' s'' t t' so_far keeps =
     record {
       read = so_far.read;
       consumed = Consumes-kept s s' s'' so_far.read so_far.consumed keeps;
-      begins = written_begun symbols inside so_far.read left t t' so_far.written;
+      begins = written_begun placement inside so_far.read left t t' so_far.written;
     }
 
 -- all but what is kept was written then
-pub read_put : (symbols : Symbols) (inside : Bool) (left : List ℕ) (s s' s'' t t' : Option (List ℕ)) → HasCopied symbols inside left s s' t t' → AreKept symbols left → Keeps s' s''
-    → WritesAllButKept symbols s s'' t t'
-read_put symbols inside left s s' s'' t t' so_far kept keeps =
-    written_but symbols inside so_far.read left s s'' t t' (Consumes-kept s s' s'' so_far.read so_far.consumed keeps) so_far.written so_far.none kept
+pub read_put : (placement : Placement) (inside : Bool) (left : List ℕ) (s s' s'' t t' : Option (List ℕ)) → HasCopied placement inside left s s' t t' → AreKept placement left → Keeps s' s''
+    → WritesAllButKept placement s s'' t t'
+read_put placement inside left s s' s'' t t' so_far kept keeps =
+    written_but placement inside so_far.read left s s'' t t' (Consumes-kept s s' s'' so_far.read so_far.consumed keeps) so_far.written so_far.none kept
 
 -- whole lines or words, if any byte is kept
-whole_copied : (symbols : Symbols) (inside : Bool) (left : List ℕ) (s s' t t' : Option (List ℕ)) → HasCopied symbols inside left s s' t t' → 0 < length left → FiltersWhole symbols s s' t t'
-whole_copied symbols true left s s' t t' so_far some = absurd (omega (arith, some, ap length (so_far.none refl)))
-whole_copied symbols false left s s' t t' so_far some = whole_written symbols so_far.read left s s' t t' so_far.consumed so_far.written
+whole_copied : (placement : Placement) (inside : Bool) (left : List ℕ) (s s' t t' : Option (List ℕ)) → HasCopied placement inside left s s' t t' → 0 < length left → FiltersWhole placement s s' t t'
+whole_copied placement true left s s' t t' so_far some = absurd (omega (arith, some, ap length (so_far.none refl)))
+whole_copied placement false left s s' t t' so_far some = whole_written placement so_far.read left s s' t t' so_far.consumed so_far.written
 
 -- memory was refused for more room
-pub read_refused : (symbols : Symbols) (inside : Bool) (kept : ℕ) (old : List ℕ) (s s' s'' t t' : Option (List ℕ)) → HasCopied symbols inside (take kept old) s s' t t'
-    → Keeps s' s'' → kept ≡ length old → 0 < length old → FiltersWhole symbols s s'' t t'
-read_refused symbols inside kept old s s' s'' t t' so_far keeps full some =
-    whole_copied symbols inside (take kept old) s s'' t t'
+pub read_refused : (placement : Placement) (inside : Bool) (kept : ℕ) (old : List ℕ) (s s' s'' t t' : Option (List ℕ)) → HasCopied placement inside (take kept old) s s' t t'
+    → Keeps s' s'' → kept ≡ length old → 0 < length old → FiltersWhole placement s s'' t t'
+read_refused placement inside kept old s s' s'' t t' so_far keeps full some =
+    whole_copied placement inside (take kept old) s s'' t t'
     (record { read = so_far.read; consumed = Consumes-kept s s' s'' so_far.read so_far.consumed keeps; none = so_far.none; written = so_far.written })
     (omega (arith, some, full, length-take-le kept old (omega (arith, full))))
 
@@ -221,31 +221,31 @@ at_end (Some given) None read consumes ends = absurd consumes
 at_end (Some given) (Some rest) read consumes ends = ap (λ l. Some l) ends
 
 -- and all its bytes were read
-pub all_read : (symbols : Symbols) (s s' t t' : Option (List ℕ)) (read : List ℕ) → Consumes s s' read → IsAtEnd s' → WritesFiltered symbols read t t'
-    → IfSome s (λ given. WritesFiltered symbols given t t')
-all_read symbols None s' t t' read consumes ends writes = tt
-all_read symbols (Some given) None t t' read consumes ends writes = absurd consumes
-all_read symbols (Some given) (Some rest) t t' read consumes ends writes =
-    subst (λ l. WritesFiltered symbols l t t') (sym (consumes ∙ ap (λ l. read ++ l) ends ∙ append-nil read)) writes
+pub all_read : (placement : Placement) (s s' t t' : Option (List ℕ)) (read : List ℕ) → Consumes s s' read → IsAtEnd s' → WritesFiltered placement read t t'
+    → IfSome s (λ given. WritesFiltered placement given t t')
+all_read placement None s' t t' read consumes ends writes = tt
+all_read placement (Some given) None t t' read consumes ends writes = absurd consumes
+all_read placement (Some given) (Some rest) t t' read consumes ends writes =
+    subst (λ l. WritesFiltered placement l t t') (sym (consumes ∙ ap (λ l. read ++ l) ends ∙ append-nil read)) writes
 
 -- the last line or word was written too
-pub last_copied : (symbols : Symbols) (inside : Bool) (left : List ℕ) (s s' t t' t'' : Option (List ℕ)) → HasCopied symbols inside left s s' t t' → IsAtEnd s'
-    → WritesFiltered symbols left t' t'' → IfSome s (λ given. WritesFiltered symbols given t t'')
-last_copied symbols inside left s s' t t' t'' so_far ends writes =
-    all_read symbols s s' t t'' so_far.read so_far.consumed ends (last_written symbols inside so_far.read left t t' t'' so_far.written so_far.none writes)
+pub last_copied : (placement : Placement) (inside : Bool) (left : List ℕ) (s s' t t' t'' : Option (List ℕ)) → HasCopied placement inside left s s' t t' → IsAtEnd s'
+    → WritesFiltered placement left t' t'' → IfSome s (λ given. WritesFiltered placement given t t'')
+last_copied placement inside left s s' t t' t'' so_far ends writes =
+    all_read placement s s' t t'' so_far.read so_far.consumed ends (last_written placement inside so_far.read left t t' t'' so_far.written so_far.none writes)
 
 -- a fault came while it was written
-pub last_fault : (symbols : Symbols) (inside : Bool) (left : List ℕ) (s s' t t' t'' : Option (List ℕ)) → HasCopied symbols inside left s s' t t' → WritesBeginning symbols left t' t''
-    → FiltersFront symbols s s' t t''
-last_fault symbols inside left s s' t t' t'' so_far begins =
-    record { read = so_far.read; consumed = so_far.consumed; begins = last_begins symbols inside so_far.read left t t' t'' so_far.written so_far.none begins }
+pub last_fault : (placement : Placement) (inside : Bool) (left : List ℕ) (s s' t t' t'' : Option (List ℕ)) → HasCopied placement inside left s s' t t' → WritesBeginning placement left t' t''
+    → FiltersFront placement s s' t t''
+last_fault placement inside left s s' t t' t'' so_far begins =
+    record { read = so_far.read; consumed = so_far.consumed; begins = last_begins placement inside so_far.read left t t' t'' so_far.written so_far.none begins }
 
 -- memory was refused for it
-pub last_refused : (symbols : Symbols) (inside : Bool) (left : List ℕ) (s s' t t' t'' : Option (List ℕ)) → HasCopied symbols inside left s s' t t' → 0 < length left → Keeps t' t''
-    → FiltersWhole symbols s s' t t''
-last_refused symbols inside left s s' t t' t'' so_far some keeps =
-    whole_copied symbols inside left s s' t t''
-    (record { read = so_far.read; consumed = so_far.consumed; none = so_far.none; written = written_kept symbols false inside so_far.read left t t' t'' so_far.written keeps }) some
+pub last_refused : (placement : Placement) (inside : Bool) (left : List ℕ) (s s' t t' t'' : Option (List ℕ)) → HasCopied placement inside left s s' t t' → 0 < length left → Keeps t' t''
+    → FiltersWhole placement s s' t t''
+last_refused placement inside left s s' t t' t'' so_far some keeps =
+    whole_copied placement inside left s s' t t''
+    (record { read = so_far.read; consumed = so_far.consumed; none = so_far.none; written = written_kept placement false inside so_far.read left t t' t'' so_far.written keeps }) some
 
 -- the outcome, as the two faults' clauses say it
 pub read_outcome : {T : Type 0} (r : Result T FilterFault) (source_failed sink_failed : Bool) → IsRunOutcome r source_failed sink_failed → IsErrOf r Read ↔ IsTrue source_failed
@@ -285,29 +285,29 @@ run_written T U (Ok v) fault f w is h same = absurd same
 run_written T U (Err e) fault f w is h same = subst (λ e. IsRunOutcome {T = T} (Err e) f w) (sym same) (run_last {T = T} (Err fault) f w is h)
 
 -- nothing was read and nothing written
-pub none_read : (symbols : Symbols) (source sink : Option (List ℕ)) → FiltersFront symbols source source sink sink
-none_read symbols source sink = read_fault symbols false [] source source source sink sink (none_copied symbols [] source sink refl) (Keeps-refl source)
+pub none_read : (placement : Placement) (source sink : Option (List ℕ)) → FiltersFront placement source source sink sink
+none_read placement source sink = read_fault placement false [] source source source sink sink (none_copied placement [] source sink refl) (Keeps-refl source)
 
-pub none_whole : (symbols : Symbols) (source sink : Option (List ℕ)) → FiltersWhole symbols source source sink sink
-none_whole symbols source sink = whole_written symbols [] [] source source sink sink (Consumes-nil source) (none_written symbols [] sink)
+pub none_whole : (placement : Placement) (source sink : Option (List ℕ)) → FiltersWhole placement source source sink sink
+none_whole placement source sink = whole_written placement [] [] source source sink sink (Consumes-nil source) (none_written placement [] sink)
 
 -- a chunk of lines was written up to its last line feed
-pub lines_written : (symbols : Symbols) (printing : Printing) (inside : Bool) (bytes : List ℕ) (n : ℕ) (t t' : Option (List ℕ)) → symbols ≡ Lines printing
-    → HasFiltered symbols (take n bytes) [] t t' → HasWritten symbols inside bytes (drop n bytes) false t t'
+pub lines_written : (placement : Placement) (printing : Printing) (inside : Bool) (bytes : List ℕ) (n : ℕ) (t t' : Option (List ℕ)) → placement ≡ Lines printing
+    → HasFiltered placement (take n bytes) [] t t' → HasWritten placement inside bytes (drop n bytes) false t t'
 lines_written (Lines p) printing inside bytes n t t' is so_far = ended_filtered (Lines p) bytes (take n bytes) (drop n bytes) n t t' so_far refl refl
 lines_written (Words options) printing inside bytes n t t' is so_far = absurd (cc)
 
 -- a beginning of its text was
-pub lines_front : (symbols : Symbols) (printing : Printing) (inside : Bool) (bytes : List ℕ) (n : ℕ) (t t' : Option (List ℕ)) → symbols ≡ Lines printing
-    → WritesWholeFront symbols (take n bytes) t t' → WritesFrontIn symbols inside bytes t t'
+pub lines_front : (placement : Placement) (printing : Printing) (inside : Bool) (bytes : List ℕ) (n : ℕ) (t t' : Option (List ℕ)) → placement ≡ Lines printing
+    → WritesWholeFront placement (take n bytes) t t' → WritesFrontIn placement inside bytes t t'
 lines_front (Lines p) printing inside bytes n t t' is begins = λ rest.
     subst (λ l. WritesBeginning (Lines p) l t t') (sym (append_assoc (take n bytes) (drop n bytes) rest) ∙ ap (λ l. l ++ rest) (take-append-drop n bytes))
     (begins (drop n bytes ++ rest))
 lines_front (Words options) printing inside bytes n t t' is begins = absurd (cc)
 
 -- memory was refused for one of its lines
-pub lines_some : (symbols : Symbols) (printing : Printing) (inside : Bool) (bytes : List ℕ) (n : ℕ) (t t' : Option (List ℕ)) → symbols ≡ Lines printing
-    → WritesSomeWhole symbols (take n bytes) t t' → WritesSomeIn symbols inside bytes t t'
+pub lines_some : (placement : Placement) (printing : Printing) (inside : Bool) (bytes : List ℕ) (n : ℕ) (t t' : Option (List ℕ)) → placement ≡ Lines printing
+    → WritesSomeWhole placement (take n bytes) t t' → WritesSomeIn placement inside bytes t t'
 lines_some (Lines p) printing inside bytes n t t' is (left, filtered) = (
   left ++ drop n bytes,
   subst (λ l. HasFiltered (Lines p) l (left ++ drop n bytes) t t') (take-append-drop n bytes)
@@ -323,11 +323,11 @@ past_first options inside after bytes rest n t t' leads outside rest_is writes =
     (subst (λ a. HasReplaced options inside bytes (drop n bytes) a t t') outside (front_passed options inside after bytes n t t' leads writes))
 
 -- the word that was kept stands in front after it: no byte was kept where a word goes on
-pub words_before : (symbols : Symbols) (options : Replacement) (inside : Bool) (bytes : List ℕ) (seen n : ℕ) → symbols ≡ Words options → AreKept symbols (take seen bytes)
+pub words_before : (placement : Placement) (options : Replacement) (inside : Bool) (bytes : List ℕ) (seen n : ℕ) → placement ≡ Words options → AreKept placement (take seen bytes)
     → (inside ≡ true → seen ≡ 0) → (inside ≡ false → n ≡ 0) → All IsWordByte (take seen (drop n bytes))
-words_before symbols options true bytes seen n is kept none outside =
+words_before placement options true bytes seen n is kept none outside =
     subst (λ k. All IsWordByte (take k (drop n bytes))) (sym (none refl)) (All-nil IsWordByte)
-words_before symbols options false bytes seen n is kept none outside =
+words_before placement options false bytes seen n is kept none outside =
     subst (λ k. All IsWordByte (take seen (drop k bytes))) (sym (outside refl)) ((subst (λ s. AreKept s (take seen bytes)) is kept).word)
 
 -- whole words after it too

@@ -11,8 +11,8 @@ use Rattle.symfilter_engine.specs.Shown.{IsShown}
 use Rattle.symfilter_engine.proofs.Shown.{each_shown}
 use Rattle.std.proofs.KnownBytes.{Appends-nil, Appends-trans, Appends-kept}
 use Rattle.std.specs.Io.KnownBytes.{Appends, Keeps}
-use Rattle.symfilter_engine.specs.declared.symbols.Symbols.{Symbols}
-use Rattle.symfilter_engine.specs.declared.symbols.Symbols.TheVariants.{Lines, Words}
+use Rattle.symfilter_engine.specs.declared.symbols.Placement.{Placement}
+use Rattle.symfilter_engine.specs.declared.symbols.Placement.TheVariants.{Lines, Words}
 use Rattle.symfilter_engine.specs.Replaced.{no_byte}
 use Rattle.symfilter_engine.specs.Filtered.{line_feed, HasNoLineFeed, AreLinesAnswered, no_line}
 use Rattle.symfilter_engine.specs.Filtered.{one_more, IsAnswered, ended, unended, AreWholeFiltered, IsFiltered, IsFront}
@@ -41,20 +41,20 @@ IsAnswered-append printing {lines} {text} first (unended {lines = lines'} {text 
     (unended (AreLinesAnswered-append printing first before) some unended_line is_answer))
 
 -- no line
-pub no_lines : (symbols : Symbols) → AreWholeFiltered symbols [] []
+pub no_lines : (placement : Placement) → AreWholeFiltered placement [] []
 no_lines (Lines printing) = no_line
 no_lines (Words options) = (refl, no_byte)
 
 -- lines after lines
-pub AreWholeFiltered-append : (symbols : Symbols) (lines text lines' text' : List ℕ) → AreWholeFiltered symbols lines text → AreWholeFiltered symbols lines' text'
-    → AreWholeFiltered symbols (lines ++ lines') (text ++ text')
+pub AreWholeFiltered-append : (placement : Placement) (lines text lines' text' : List ℕ) → AreWholeFiltered placement lines text → AreWholeFiltered placement lines' text'
+    → AreWholeFiltered placement (lines ++ lines') (text ++ text')
 AreWholeFiltered-append (Lines printing) lines text lines' text' first second = AreLinesAnswered-append printing first second
 AreWholeFiltered-append (Words options) lines text lines' text' first second =
     (whole-append lines lines' second.0 (λ _. first.0), IsReplaced-append options first.1 second.1 (whole_parted lines lines' first.0))
 
 -- bytes after lines
-IsFiltered-append : (symbols : Symbols) (lines text given text' : List ℕ) → AreWholeFiltered symbols lines text → IsFiltered symbols given text'
-    → IsFiltered symbols (lines ++ given) (text ++ text')
+IsFiltered-append : (placement : Placement) (lines text given text' : List ℕ) → AreWholeFiltered placement lines text → IsFiltered placement given text'
+    → IsFiltered placement (lines ++ given) (text ++ text')
 IsFiltered-append (Lines printing) lines text given text' first second = IsAnswered-append printing first second
 IsFiltered-append (Words options) lines text given text' first second =
     IsReplaced-append options first.1 second (whole_parted lines given first.0)
@@ -106,81 +106,81 @@ after_line printing line (byte ∷ bytes) unended_line =
     (λ longer. after_line printing (line ++ byte ∷ []) bytes longer)
 
 -- all bytes have a filtered text
-filtered_of : (symbols : Symbols) (bytes : List ℕ) → (text : List ℕ) × IsFiltered symbols bytes text
+filtered_of : (placement : Placement) (bytes : List ℕ) → (text : List ℕ) × IsFiltered placement bytes text
 filtered_of (Lines printing) bytes = after_line printing [] bytes (All-nil (λ byte. byte ≢ line_feed))
 filtered_of (Words options) bytes = replaced_of options bytes
 
 -- a front of the filtered text of the first lines
-of_lines : (symbols : Symbols) (lines text given rest written : List ℕ) → given ≡ lines ++ rest → AreWholeFiltered symbols lines text → IsFront written text
-    → IsBeginning symbols given written
-of_lines symbols lines text given rest written given_is filtered is_front =
-    let more = filtered_of symbols rest in (
+of_lines : (placement : Placement) (lines text given rest written : List ℕ) → given ≡ lines ++ rest → AreWholeFiltered placement lines text → IsFront written text
+    → IsBeginning placement given written
+of_lines placement lines text given rest written given_is filtered is_front =
+    let more = filtered_of placement rest in (
       text ++ more.0,
-      subst (λ l. IsFiltered symbols l (text ++ more.0)) (sym given_is) (IsFiltered-append symbols lines text rest more.0 filtered more.1),
+      subst (λ l. IsFiltered placement l (text ++ more.0)) (sym given_is) (IsFiltered-append placement lines text rest more.0 filtered more.1),
       (is_front.0 ++ more.0, ap (λ l. l ++ more.0) is_front.1 ∙ append_assoc written is_front.0 more.0),
     )
 
 -- no byte
-nothing_filtered : (symbols : Symbols) → IsFiltered symbols [] []
+nothing_filtered : (placement : Placement) → IsFiltered placement [] []
 nothing_filtered (Lines printing) = ended no_line
 nothing_filtered (Words options) = no_byte
 
 -- no last line was written
-pub no_last : (symbols : Symbols) (line : List ℕ) (at : Option (List ℕ)) → line ≡ [] → WritesFiltered symbols line at at
-no_last symbols line at line_is = subst (λ l. WritesFiltered symbols l at at) (sym line_is) ([], nothing_filtered symbols, Appends-nil at)
+pub no_last : (placement : Placement) (line : List ℕ) (at : Option (List ℕ)) → line ≡ [] → WritesFiltered placement line at at
+no_last placement line at line_is = subst (λ l. WritesFiltered placement l at at) (sym line_is) ([], nothing_filtered placement, Appends-nil at)
 
 -- a last line was written
-pub last_written : (symbols : Symbols) (printing : Printing) (line answer : List ℕ) (before after : Option (List ℕ)) → symbols ≡ Lines printing → line ≢ [] → HasNoLineFeed line → IsLineAnswer printing line answer
-    → Appends before after answer → WritesFiltered symbols line before after
-last_written symbols printing line answer before after is some unended_line is_answer writes =
+pub last_written : (placement : Placement) (printing : Printing) (line answer : List ℕ) (before after : Option (List ℕ)) → placement ≡ Lines printing → line ≢ [] → HasNoLineFeed line → IsLineAnswer printing line answer
+    → Appends before after answer → WritesFiltered placement line before after
+last_written placement printing line answer before after is some unended_line is_answer writes =
     subst (λ s. WritesFiltered s line before after) (sym is) (answer, unended no_line some unended_line is_answer, writes)
 
 -- nothing of it was written
-pub last_unwritten : (symbols : Symbols) (line : List ℕ) (at : Option (List ℕ)) → WritesBeginning symbols line at at
-last_unwritten symbols line at =
-    let found = filtered_of symbols line in ([], (found.0, found.1, (found.0, refl)), Appends-nil at)
+pub last_unwritten : (placement : Placement) (line : List ℕ) (at : Option (List ℕ)) → WritesBeginning placement line at at
+last_unwritten placement line at =
+    let found = filtered_of placement line in ([], (found.0, found.1, (found.0, refl)), Appends-nil at)
 
 -- a front of it was written
-pub last_begins : (symbols : Symbols) (printing : Printing) (line answer : List ℕ) (before after : Option (List ℕ)) → symbols ≡ Lines printing → line ≢ [] → HasNoLineFeed line → IsLineAnswer printing line answer
-    → WritesFront answer before after → WritesBeginning symbols line before after
-last_begins symbols printing line answer before after is some unended_line is_answer (rest, writes) =
+pub last_begins : (placement : Placement) (printing : Printing) (line answer : List ℕ) (before after : Option (List ℕ)) → placement ≡ Lines printing → line ≢ [] → HasNoLineFeed line → IsLineAnswer printing line answer
+    → WritesFront answer before after → WritesBeginning placement line before after
+last_begins placement printing line answer before after is some unended_line is_answer (rest, writes) =
     subst (λ s. WritesBeginning s line before after) (sym is)
     (writes.front, (answer, unended no_line some unended_line is_answer, (rest, writes.bytes_are)), writes.written)
 
 -- a last line was written replaced
-pub last_replaced : (symbols : Symbols) (options : Replacement) (line old output bytes : List ℕ) (before after : Option (List ℕ)) → symbols ≡ Words options → old ≡ []
-    → AppendsReplaced options line old output → bytes ≡ output → Appends before after bytes → WritesFiltered symbols line before after
-last_replaced symbols options line old output bytes before after is none (text, replaced, output_is) bytes_are writes =
+pub last_replaced : (placement : Placement) (options : Replacement) (line old output bytes : List ℕ) (before after : Option (List ℕ)) → placement ≡ Words options → old ≡ []
+    → AppendsReplaced options line old output → bytes ≡ output → Appends before after bytes → WritesFiltered placement line before after
+last_replaced placement options line old output bytes before after is none (text, replaced, output_is) bytes_are writes =
     subst (λ s. WritesFiltered s line before after) (sym is)
     (text, replaced, subst (Appends before after) (bytes_are ∙ output_is ∙ ap (λ l. l ++ text) none) writes)
 
 -- a front of its replaced text was written
-pub replaced_begins : (symbols : Symbols) (options : Replacement) (line old output bytes : List ℕ) (before after : Option (List ℕ)) → symbols ≡ Words options → old ≡ []
-    → AppendsReplaced options line old output → bytes ≡ output → WritesFront bytes before after → WritesBeginning symbols line before after
-replaced_begins symbols options line old output bytes before after is none (text, replaced, output_is) bytes_are (rest, writes) =
+pub replaced_begins : (placement : Placement) (options : Replacement) (line old output bytes : List ℕ) (before after : Option (List ℕ)) → placement ≡ Words options → old ≡ []
+    → AppendsReplaced options line old output → bytes ≡ output → WritesFront bytes before after → WritesBeginning placement line before after
+replaced_begins placement options line old output bytes before after is none (text, replaced, output_is) bytes_are (rest, writes) =
     subst (λ s. WritesBeginning s line before after) (sym is)
     (writes.front, (text, replaced, (rest, sym (bytes_are ∙ output_is ∙ ap (λ l. l ++ text) none) ∙ writes.bytes_are)), writes.written)
 
 -- nothing was given yet
-pub none_filtered : (symbols : Symbols) (given : List ℕ) (at : Option (List ℕ)) → HasFiltered symbols given given at at
-none_filtered symbols given at = record { lines = []; text = []; given_is = refl; filtered = no_lines symbols; written = Appends-nil at }
+pub none_filtered : (placement : Placement) (given : List ℕ) (at : Option (List ℕ)) → HasFiltered placement given given at at
+none_filtered placement given at = record { lines = []; text = []; given_is = refl; filtered = no_lines placement; written = Appends-nil at }
 
 -- lines of what was left were written too
-pub lines_filtered : (symbols : Symbols) (given rest : List ℕ) (n : ℕ) (before mid after : Option (List ℕ))
-    → HasFiltered symbols given rest before mid → WritesWhole symbols (take n rest) mid after → HasFiltered symbols given (drop n rest) before after
-lines_filtered symbols given rest n before mid after so_far (text, filtered, writes) =
+pub lines_filtered : (placement : Placement) (given rest : List ℕ) (n : ℕ) (before mid after : Option (List ℕ))
+    → HasFiltered placement given rest before mid → WritesWhole placement (take n rest) mid after → HasFiltered placement given (drop n rest) before after
+lines_filtered placement given rest n before mid after so_far (text, filtered, writes) =
     record {
       lines = so_far.lines ++ take n rest;
       text = so_far.text ++ text;
       given_is = so_far.given_is ∙ ap (λ l. so_far.lines ++ l) (sym (take-append-drop n rest)) ∙ sym (append_assoc so_far.lines (take n rest) (drop n rest));
-      filtered = AreWholeFiltered-append symbols so_far.lines so_far.text (take n rest) text so_far.filtered filtered;
+      filtered = AreWholeFiltered-append placement so_far.lines so_far.text (take n rest) text so_far.filtered filtered;
       written = Appends-trans before mid after so_far.text text so_far.written writes;
     }
 
 -- nothing of the next line was written
-pub next_unwritten : (symbols : Symbols) (given left : List ℕ) (before mid after : Option (List ℕ))
-    → HasFiltered symbols given left before mid → Keeps mid after → HasFiltered symbols given left before after
-next_unwritten symbols given left before mid after so_far keeps =
+pub next_unwritten : (placement : Placement) (given left : List ℕ) (before mid after : Option (List ℕ))
+    → HasFiltered placement given left before mid → Keeps mid after → HasFiltered placement given left before after
+next_unwritten placement given left before mid after so_far keeps =
     record {
       lines = so_far.lines;
       text = so_far.text;
@@ -190,9 +190,9 @@ next_unwritten symbols given left before mid after so_far keeps =
     }
 
 -- whatever follows what was given
-pub lines_before : (symbols : Symbols) (given left rest : List ℕ) (before after : Option (List ℕ))
-    → HasFiltered symbols given left before after → HasFiltered symbols (given ++ rest) (left ++ rest) before after
-lines_before symbols given left rest before after so_far =
+pub lines_before : (placement : Placement) (given left rest : List ℕ) (before after : Option (List ℕ))
+    → HasFiltered placement given left before after → HasFiltered placement (given ++ rest) (left ++ rest) before after
+lines_before placement given left rest before after so_far =
     record {
       lines = so_far.lines;
       text = so_far.text;
@@ -202,85 +202,85 @@ lines_before symbols given left rest before after so_far =
     }
 
 -- what is written stays a beginning
-pub filtered_begins : (symbols : Symbols) (given left : List ℕ) (before after : Option (List ℕ)) → HasFiltered symbols given left before after
-    → WritesBeginning symbols given before after
-filtered_begins symbols given left before after so_far = (
+pub filtered_begins : (placement : Placement) (given left : List ℕ) (before after : Option (List ℕ)) → HasFiltered placement given left before after
+    → WritesBeginning placement given before after
+filtered_begins placement given left before after so_far = (
   so_far.text,
-  of_lines symbols so_far.lines so_far.text given left so_far.text so_far.given_is so_far.filtered ([], sym (append-nil so_far.text)),
+  of_lines placement so_far.lines so_far.text given left so_far.text so_far.given_is so_far.filtered ([], sym (append-nil so_far.text)),
   so_far.written,
 )
 
 -- nothing of lines was written
-pub lines_unwritten : (symbols : Symbols) (lines : List ℕ) (at : Option (List ℕ)) → WritesWholeFront symbols lines at at
-lines_unwritten symbols lines at rest = last_unwritten symbols (lines ++ rest) at
+pub lines_unwritten : (placement : Placement) (lines : List ℕ) (at : Option (List ℕ)) → WritesWholeFront placement lines at at
+lines_unwritten placement lines at rest = last_unwritten placement (lines ++ rest) at
 
 -- a front of the text of the first lines was written
-pub lines_begin : (symbols : Symbols) (lines text : List ℕ) (n : ℕ) (before after : Option (List ℕ)) → AreWholeFiltered symbols (take n lines) text → WritesFront text before after
-    → WritesWholeFront symbols lines before after
-lines_begin symbols lines text n before after filtered (left, writes) rest = (
+pub lines_begin : (placement : Placement) (lines text : List ℕ) (n : ℕ) (before after : Option (List ℕ)) → AreWholeFiltered placement (take n lines) text → WritesFront text before after
+    → WritesWholeFront placement lines before after
+lines_begin placement lines text n before after filtered (left, writes) rest = (
   writes.front,
-  of_lines symbols (take n lines) text (lines ++ rest) (drop n lines ++ rest) writes.front
+  of_lines placement (take n lines) text (lines ++ rest) (drop n lines ++ rest) writes.front
       (ap (λ l. l ++ rest) (sym (take-append-drop n lines)) ∙ append_assoc (take n lines) (drop n lines) rest)
       filtered (left, writes.bytes_are),
   writes.written,
 )
 
 -- the lines of the next piece
-pub piece_filtered : (symbols : Symbols) (given piece left left' : List ℕ) (before mid after : Option (List ℕ))
-    → HasFiltered symbols given left before mid → HasFiltered symbols (left ++ piece) left' mid after
-    → HasFiltered symbols (given ++ piece) left' before after
-piece_filtered symbols given piece left left' before mid after so_far more =
+pub piece_filtered : (placement : Placement) (given piece left left' : List ℕ) (before mid after : Option (List ℕ))
+    → HasFiltered placement given left before mid → HasFiltered placement (left ++ piece) left' mid after
+    → HasFiltered placement (given ++ piece) left' before after
+piece_filtered placement given piece left left' before mid after so_far more =
     record {
       lines = so_far.lines ++ more.lines;
       text = so_far.text ++ more.text;
       given_is = ap (λ l. l ++ piece) so_far.given_is ∙ append_assoc so_far.lines left piece ∙ ap (λ l. so_far.lines ++ l) more.given_is ∙ sym (append_assoc so_far.lines more.lines left');
-      filtered = AreWholeFiltered-append symbols so_far.lines so_far.text more.lines more.text so_far.filtered more.filtered;
+      filtered = AreWholeFiltered-append placement so_far.lines so_far.text more.lines more.text so_far.filtered more.filtered;
       written = Appends-trans before mid after so_far.text more.text so_far.written more.written;
     }
 
 -- lines, and a last one
-pub WritesFiltered-append : (symbols : Symbols) (given left : List ℕ) (before mid after : Option (List ℕ)) → HasFiltered symbols given left before mid
-    → WritesFiltered symbols left mid after → WritesFiltered symbols given before after
-WritesFiltered-append symbols given left before mid after so_far (text, filtered, writes) = (
+pub WritesFiltered-append : (placement : Placement) (given left : List ℕ) (before mid after : Option (List ℕ)) → HasFiltered placement given left before mid
+    → WritesFiltered placement left mid after → WritesFiltered placement given before after
+WritesFiltered-append placement given left before mid after so_far (text, filtered, writes) = (
   so_far.text ++ text,
-  subst (λ l. IsFiltered symbols l (so_far.text ++ text)) (sym so_far.given_is)
-      (IsFiltered-append symbols so_far.lines so_far.text left text so_far.filtered filtered),
+  subst (λ l. IsFiltered placement l (so_far.text ++ text)) (sym so_far.given_is)
+      (IsFiltered-append placement so_far.lines so_far.text left text so_far.filtered filtered),
   Appends-trans before mid after so_far.text text so_far.written writes,
 )
 
 -- a beginning after lines
-IsBeginning-append : (symbols : Symbols) (lines text given written : List ℕ) → AreWholeFiltered symbols lines text → IsBeginning symbols given written
-    → IsBeginning symbols (lines ++ given) (text ++ written)
-IsBeginning-append symbols lines text given written first begins =
-    (text ++ begins.0, IsFiltered-append symbols lines text given begins.0 first begins.1, IsFront-append text written begins.0 begins.2)
+IsBeginning-append : (placement : Placement) (lines text given written : List ℕ) → AreWholeFiltered placement lines text → IsBeginning placement given written
+    → IsBeginning placement (lines ++ given) (text ++ written)
+IsBeginning-append placement lines text given written first begins =
+    (text ++ begins.0, IsFiltered-append placement lines text given begins.0 first begins.1, IsFront-append text written begins.0 begins.2)
 
 -- a beginning of the next piece
-pub piece_begins : (symbols : Symbols) (given piece left : List ℕ) (before mid after : Option (List ℕ))
-    → HasFiltered symbols given left before mid → WritesBeginning symbols (left ++ piece) mid after
-    → WritesBeginning symbols (given ++ piece) before after
-piece_begins symbols given piece left before mid after so_far (written, begins, writes) = (
+pub piece_begins : (placement : Placement) (given piece left : List ℕ) (before mid after : Option (List ℕ))
+    → HasFiltered placement given left before mid → WritesBeginning placement (left ++ piece) mid after
+    → WritesBeginning placement (given ++ piece) before after
+piece_begins placement given piece left before mid after so_far (written, begins, writes) = (
   so_far.text ++ written,
-  subst (λ l. IsBeginning symbols l (so_far.text ++ written)) (sym (ap (λ l. l ++ piece) so_far.given_is ∙ append_assoc so_far.lines left piece))
-      (IsBeginning-append symbols so_far.lines so_far.text (left ++ piece) written so_far.filtered begins),
+  subst (λ l. IsBeginning placement l (so_far.text ++ written)) (sym (ap (λ l. l ++ piece) so_far.given_is ∙ append_assoc so_far.lines left piece))
+      (IsBeginning-append placement so_far.lines so_far.text (left ++ piece) written so_far.filtered begins),
   Appends-trans before mid after so_far.text written so_far.written writes,
 )
 
 -- a beginning of a last line
-pub WritesBeginning-append : (symbols : Symbols) (given left : List ℕ) (before mid after : Option (List ℕ)) → HasFiltered symbols given left before mid
-    → WritesBeginning symbols left mid after → WritesBeginning symbols given before after
-WritesBeginning-append symbols given left before mid after so_far (written, begins, writes) = (
+pub WritesBeginning-append : (placement : Placement) (given left : List ℕ) (before mid after : Option (List ℕ)) → HasFiltered placement given left before mid
+    → WritesBeginning placement left mid after → WritesBeginning placement given before after
+WritesBeginning-append placement given left before mid after so_far (written, begins, writes) = (
   so_far.text ++ written,
-  subst (λ l. IsBeginning symbols l (so_far.text ++ written)) (sym so_far.given_is)
-      (IsBeginning-append symbols so_far.lines so_far.text left written so_far.filtered begins),
+  subst (λ l. IsBeginning placement l (so_far.text ++ written)) (sym so_far.given_is)
+      (IsBeginning-append placement so_far.lines so_far.text left written so_far.filtered begins),
   Appends-trans before mid after so_far.text written so_far.written writes,
 )
 
 -- a beginning of more lines
-pub WritesWholeFront-append : (symbols : Symbols) (given left : List ℕ) (before mid after : Option (List ℕ)) → HasFiltered symbols given left before mid
-    → WritesWholeFront symbols left mid after → WritesWholeFront symbols given before after
-WritesWholeFront-append symbols given left before mid after so_far begins rest =
-    WritesBeginning-append symbols (given ++ rest) (left ++ rest) before mid after
-    (lines_before symbols given left rest before mid so_far)
+pub WritesWholeFront-append : (placement : Placement) (given left : List ℕ) (before mid after : Option (List ℕ)) → HasFiltered placement given left before mid
+    → WritesWholeFront placement left mid after → WritesWholeFront placement given before after
+WritesWholeFront-append placement given left before mid after so_far begins rest =
+    WritesBeginning-append placement (given ++ rest) (left ++ rest) before mid after
+    (lines_before placement given left rest before mid so_far)
     (begins rest)
 
 -- what holds after a fault

@@ -9,8 +9,8 @@ use Rattle.std.proofs.lemmas.Str.{IsUtf8-take, IsUtf8-drop, IsCharBoundary-after
 use Rattle.std.specs.Prelude.{IsUtf8}
 use Rattle.std.specs.Simd.Lanes.{chunk}
 use Rattle.std.specs.List.{prefix_len}
-use Rattle.symfilter_engine.specs.declared.symbols.Symbols.{Symbols}
-use Rattle.symfilter_engine.specs.declared.symbols.Symbols.TheVariants.{Lines, Words}
+use Rattle.symfilter_engine.specs.declared.symbols.Placement.{Placement}
+use Rattle.symfilter_engine.specs.declared.symbols.Placement.TheVariants.{Lines, Words}
 use Rattle.symfilter_engine.specs.Filtered.{line_feed, EndsInLineFeed, AreWhole, AreLinesAnswered, no_line, one_more, AreWholeFiltered, IsLineAnswer}
 use Rattle.symfilter_engine.specs.Replaced.{ends_word}
 use Rattle.symfilter_engine.specs.Progress.{HasNone, IsFirst, EndsAt, HasNoPrefix, AppendsReplaced, AppendsWhole}
@@ -65,17 +65,17 @@ ended_after lines n ended some =
     ∙ ended (omega (arith, left))
 
 -- and what follows whole lines or words
-pub whole_after : (symbols : Symbols) (lines : List ℕ) (n : ℕ) → AreWhole symbols lines → AreWhole symbols (drop n lines)
+pub whole_after : (placement : Placement) (lines : List ℕ) (n : ℕ) → AreWhole placement lines → AreWhole placement (drop n lines)
 whole_after (Lines printing) lines n whole = ended_after lines n whole
 whole_after (Words options) lines n whole = whole-drop lines n whole
 
 -- lines are whole
-pub whole_lines : (symbols : Symbols) (printing : Printing) (lines : List ℕ) → symbols ≡ Lines printing → AreWhole symbols lines → EndsInLineFeed lines
-whole_lines symbols printing lines is whole = subst (λ s. AreWhole s lines) is whole
+pub whole_lines : (placement : Placement) (printing : Printing) (lines : List ℕ) → placement ≡ Lines printing → AreWhole placement lines → EndsInLineFeed lines
+whole_lines placement printing lines is whole = subst (λ s. AreWhole s lines) is whole
 
 -- so are words
-pub whole_words : (symbols : Symbols) (options : Replacement) (text : List ℕ) → symbols ≡ Words options → AreWhole symbols text → ends_word text ≡ false
-whole_words symbols options text is whole = subst (λ s. AreWhole s text) is whole
+pub whole_words : (placement : Placement) (options : Replacement) (text : List ℕ) → placement ≡ Words options → AreWhole placement text → ends_word text ≡ false
+whole_words placement options text is whole = subst (λ s. AreWhole s text) is whole
 
 -- the first line with its line feed
 pub with_feed : (lines : List ℕ) (end : ℕ) → EndsAt lines end → take (end + 1) lines ≡ take end lines ++ line_feed ∷ []
@@ -112,9 +112,9 @@ more_ordinary printing lines len end first ends ordinary =
     )
 
 -- whole words without a prefix
-pub unprefixed_words : (symbols : Symbols) (options : Replacement) (text : List ℕ) → symbols ≡ Words options → ends_word text ≡ false → HasNoPrefix text
-    → AreWholeFiltered symbols text text
-unprefixed_words symbols options text is whole none = subst (λ s. AreWholeFiltered s text text) (sym is) (whole, unprefixed options text none)
+pub unprefixed_words : (placement : Placement) (options : Replacement) (text : List ℕ) → placement ≡ Words options → ends_word text ≡ false → HasNoPrefix text
+    → AreWholeFiltered placement text text
+unprefixed_words placement options text is whole none = subst (λ s. AreWholeFiltered s text text) (sym is) (whole, unprefixed options text none)
 
 -- whole words were appended replaced
 pub block_appended : (options : Replacement) (text before after : List ℕ) → ends_word text ≡ false → AppendsReplaced options text before after → AppendsWhole (Words options) text before after
@@ -126,26 +126,26 @@ pub line_appended : (printing : Printing) (lines answer before after : List ℕ)
 line_appended printing lines answer before after end ends is_answer after_is = (answer ++ line_feed ∷ [], first_line printing lines answer end ends is_answer, after_is)
 
 -- more lines were appended
-pub lines_appended : (symbols : Symbols) (lines rest before after : List ℕ) (n m : ℕ) → AreWholeFiltered symbols (take n lines) before → rest ≡ drop n lines
-    → AppendsWhole symbols (take m rest) before after → AreWholeFiltered symbols (take (n + m) lines) after
-lines_appended symbols lines rest before after n m first rest_is (text, filtered, after_is) =
-    subst (λ l. AreWholeFiltered symbols l after) (sym (take-add n m lines))
-    (subst (AreWholeFiltered symbols (take n lines ++ take m (drop n lines))) (sym after_is)
-    (AreWholeFiltered-append symbols (take n lines) before (take m (drop n lines)) text first
-    (subst (λ l. AreWholeFiltered symbols (take m l) text) rest_is filtered)))
+pub lines_appended : (placement : Placement) (lines rest before after : List ℕ) (n m : ℕ) → AreWholeFiltered placement (take n lines) before → rest ≡ drop n lines
+    → AppendsWhole placement (take m rest) before after → AreWholeFiltered placement (take (n + m) lines) after
+lines_appended placement lines rest before after n m first rest_is (text, filtered, after_is) =
+    subst (λ l. AreWholeFiltered placement l after) (sym (take-add n m lines))
+    (subst (AreWholeFiltered placement (take n lines ++ take m (drop n lines))) (sym after_is)
+    (AreWholeFiltered-append placement (take n lines) before (take m (drop n lines)) text first
+    (subst (λ l. AreWholeFiltered placement (take m l) text) rest_is filtered)))
 
 -- lines of the rest were appended, and this is left of it
-pub rest_appended : (symbols : Symbols) (lines rest left before after : List ℕ) (m : ℕ)
-    → length rest ≤ length lines → rest ≡ drop (length lines - length rest) lines → AreWholeFiltered symbols (take (length lines - length rest) lines) before
-    → m ≤ length rest → AppendsWhole symbols (take m rest) before after → left ≡ drop m rest
-    → (length left ≤ length lines) × (left ≡ drop (length lines - length left) lines) × AreWholeFiltered symbols (take (length lines - length left) lines) after
-rest_appended symbols lines rest left before after m inside rest_is first bound appended left_is =
+pub rest_appended : (placement : Placement) (lines rest left before after : List ℕ) (m : ℕ)
+    → length rest ≤ length lines → rest ≡ drop (length lines - length rest) lines → AreWholeFiltered placement (take (length lines - length rest) lines) before
+    → m ≤ length rest → AppendsWhole placement (take m rest) before after → left ≡ drop m rest
+    → (length left ≤ length lines) × (left ≡ drop (length lines - length left) lines) × AreWholeFiltered placement (take (length lines - length left) lines) after
+rest_appended placement lines rest left before after m inside rest_is first bound appended left_is =
     let n : ℕ = length lines - length rest in
     let long : length left ≡ length rest - m = ap length left_is ∙ length-drop m rest in
     let more : n + m ≡ length lines - length left = omega arith in (
       omega arith,
       left_is ∙ ap (drop m) rest_is ∙ drop-drop m n lines ∙ ap (λ k. drop k lines) more,
-      subst (λ k. AreWholeFiltered symbols (take k lines) after) more (lines_appended symbols lines rest before after n m first rest_is appended),
+      subst (λ k. AreWholeFiltered placement (take k lines) after) more (lines_appended placement lines rest before after n m first rest_is appended),
     )
 
 -- a line feed is no part of a longer character
@@ -174,6 +174,6 @@ after_lines (byte ∷ bytes) rest ended utf8 =
     (IsUtf8-drop (lines ++ rest) (last + 1) utf8
     (IsCharBoundary-after_ascii (lines ++ rest) last utf8 (omega (arith, some, all)) (omega (arith, feed))))
 
-pub utf8_after : (symbols : Symbols) (lines text : List ℕ) (n : ℕ) (printing : Printing) → symbols ≡ Lines printing → AreWholeFiltered symbols (take n lines) text → IsUtf8 lines → IsUtf8 (drop n lines)
-utf8_after symbols lines text n printing is filtered utf8 =
+pub utf8_after : (placement : Placement) (lines text : List ℕ) (n : ℕ) (printing : Printing) → placement ≡ Lines printing → AreWholeFiltered placement (take n lines) text → IsUtf8 lines → IsUtf8 (drop n lines)
+utf8_after placement lines text n printing is filtered utf8 =
     after_lines (take n lines) (drop n lines) (answered_ended (subst (λ s. AreWholeFiltered s (take n lines) text) is filtered)) (subst IsUtf8 (sym (take-append-drop n lines)) utf8)

@@ -7,7 +7,7 @@ use Rattle.std.proofs.lemmas.List.Elements.{All-nil, All-cons, All-append, All-s
 use Rattle.std.proofs.KnownBytes.{Appends-nil, Appends-trans, Appends-kept}
 use Rattle.std.specs.Io.KnownBytes.{Appends, Consumes, Keeps}
 use Rattle.std.specs.Prelude.{All}
-use Rattle.symfilter_engine.specs.declared.symbols.Symbols.TheVariants.{Words}
+use Rattle.symfilter_engine.specs.declared.symbols.Placement.TheVariants.{Words}
 use Rattle.symfilter_engine.specs.Replaced.{is_word_byte, IsWordByte, begins_word, ends_word, IsHeld, may_hold_symbol, IsReplaced, no_byte, other, one_word, no_symbol}
 use Rattle.symfilter_engine.specs.Filtered.{IsFront, FiltersWhole, ReplacesAllButHeld, WritesBeginning, WritesFiltered}
 use Rattle.symfilter_engine.specs.Progress.{AreWordBytes, GoesOn, HasFiltered, HasReplaced, IsReplacedIn, Leads, ReplacesBeginning, ReplacesFront, WritesFront, WritesWholeFront}

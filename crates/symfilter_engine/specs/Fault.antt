@@ -10,8 +10,8 @@ reason_of Write = codes "write failed"
 reason_of Memory = codes "out of memory"
 
 -- the line that `symfilter` prints for a fault
-abbrev pub words_of : FilterFault → List ℕ
-words_of fault = codes "symfilter: " ++ reason_of fault
+abbrev pub line_of : FilterFault → List ℕ
+line_of fault = codes "symfilter: " ++ reason_of fault
 
 -- what reading ends with: `Read` exactly where the source has failed, and never `Write`
 abbrev pub IsReadOutcome : {T : Type 0} → Result T FilterFault → Bool → Type 0

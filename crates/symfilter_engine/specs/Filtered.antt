@@ -3,8 +3,8 @@ use Rattle.std.specs.Prelude.{◌≡◌, ◌≢◌, ℕ, ◌-◌, ◌<◌, List,
 use Rattle.std.specs.Io.KnownBytes.{Appends, Consumes}
 use Rattle.symfilter_engine.specs.declared.symbols.Printing.{Printing}
 use Rattle.symfilter_engine.specs.declared.symbols.Replacement.{Replacement}
-use Rattle.symfilter_engine.specs.declared.symbols.Symbols.{Symbols}
-use Rattle.symfilter_engine.specs.declared.symbols.Symbols.TheVariants.{Lines, Words}
+use Rattle.symfilter_engine.specs.declared.symbols.Placement.{Placement}
+use Rattle.symfilter_engine.specs.declared.symbols.Placement.TheVariants.{Lines, Words}
 use Rattle.symfilter_engine.specs.Shown.{IsShown}
 use Rattle.symfilter_engine.specs.Replaced.{ends_word, IsHeld, IsReplaced}
 
@@ -48,17 +48,17 @@ abbrev pub EndsInLineFeed : List ℕ → Type 0
 EndsInLineFeed bytes = 0 < length bytes → slice_index bytes (length bytes - 1) ≡ line_feed
 
 -- bytes that were read, and their filtered text: where symbols stand in words, it is the replaced text
-abbrev pub IsFiltered : Symbols → List ℕ → List ℕ → Type 0
+abbrev pub IsFiltered : Placement → List ℕ → List ℕ → Type 0
 IsFiltered (Lines printing) bytes text = IsAnswered printing bytes text
 IsFiltered (Words options) bytes text = IsReplaced options bytes text
 
 -- whole lines; where symbols stand in words, whole words, after the last of which a byte that is in no word stands
-abbrev pub AreWhole : Symbols → List ℕ → Type 0
+abbrev pub AreWhole : Placement → List ℕ → Type 0
 AreWhole (Lines printing) bytes = EndsInLineFeed bytes
 AreWhole (Words options) bytes = ends_word bytes ≡ false
 
 -- whole lines or words, and their filtered text
-abbrev pub AreWholeFiltered : Symbols → List ℕ → List ℕ → Type 0
+abbrev pub AreWholeFiltered : Placement → List ℕ → List ℕ → Type 0
 AreWholeFiltered (Lines printing) lines text = AreLinesAnswered printing lines text
 AreWholeFiltered (Words options) lines text = (ends_word lines ≡ false) × IsReplaced options lines text
 
@@ -67,45 +67,47 @@ abbrev pub IsFront : List ℕ → List ℕ → Type 0
 IsFront written text = (rest : List ℕ) × (text ≡ written ++ rest)
 
 -- a beginning of the filtered text of the bytes given was written
-abbrev pub IsBeginning : Symbols → List ℕ → List ℕ → Type 0
-IsBeginning symbols given written = (text : List ℕ) × IsFiltered symbols given text × IsFront written text
+abbrev pub IsBeginning : Placement → List ℕ → List ℕ → Type 0
+IsBeginning placement given written = (text : List ℕ) × IsFiltered placement given text × IsFront written text
 
 -- the sink got the filtered text of what was given and nothing else, where its bytes are known
-abbrev pub WritesFiltered : Symbols → List ℕ → Option (List ℕ) → Option (List ℕ) → Type 0
-WritesFiltered symbols given before after =
-    (text : List ℕ) × IsFiltered symbols given text × Appends before after text
+abbrev pub WritesFiltered : Placement → List ℕ → Option (List ℕ) → Option (List ℕ) → Type 0
+WritesFiltered placement given before after =
+    (text : List ℕ) × IsFiltered placement given text × Appends before after text
 
 -- the sink got a beginning of the filtered text of what was given and nothing else, where its bytes are known
-abbrev pub WritesBeginning : Symbols → List ℕ → Option (List ℕ) → Option (List ℕ) → Type 0
-WritesBeginning symbols given before after =
-    (written : List ℕ) × IsBeginning symbols given written × Appends before after written
+abbrev pub WritesBeginning : Placement → List ℕ → Option (List ℕ) → Option (List ℕ) → Type 0
+WritesBeginning placement given before after =
+    (written : List ℕ) × IsBeginning placement given written × Appends before after written
 
 -- the source gave a front of its bytes, where they are known, and the sink got a beginning of their filtered text
-pub record FiltersFront (symbols : Symbols) (before after written_before written_after : Option (List ℕ)) : Type 0 where
+pub record FiltersFront (placement : Placement)
+    (before after written_before written_after : Option (List ℕ)) : Type 0 where
   pub read : List ℕ
   pub consumed : Consumes before after read
-  pub begins : WritesBeginning symbols read written_before written_after
+  pub begins : WritesBeginning placement read written_before written_after
 
 -- the source gave whole lines or words and then these bytes, where its bytes are known, and the sink got the filtered
 -- text of the former and nothing else
-pub record FiltersWhole (symbols : Symbols)
+pub record FiltersWhole (placement : Placement)
     (before after written_before written_after : Option (List ℕ)) : Type 0 where
   pub lines : List ℕ
   pub left : List ℕ
   pub consumed : Consumes before after (lines ++ left)
   pub text : List ℕ
-  pub filtered : AreWholeFiltered symbols lines text
+  pub filtered : AreWholeFiltered placement lines text
   pub written : Appends written_before written_after text
 
 -- the source gave whole lines and a part of one more, where its bytes are known, and the sink got the filtered text
 -- of the whole lines and nothing else
-pub record FiltersLines (symbols : Symbols) (before after written_before written_after : Option (List ℕ)) : Type 0 where
+pub record FiltersLines (placement : Placement)
+    (before after written_before written_after : Option (List ℕ)) : Type 0 where
   pub lines : List ℕ
   pub line : List ℕ
   pub consumed : Consumes before after (lines ++ line)
   pub unended : HasNoLineFeed line
   pub text : List ℕ
-  pub filtered : AreWholeFiltered symbols lines text
+  pub filtered : AreWholeFiltered placement lines text
   pub written : Appends written_before written_after text
 
 -- the source gave these bytes and then those that are held back, where its bytes are known, and the sink got the

@@ -2,8 +2,8 @@
 use Rattle.std.specs.Prelude.{◌≡◌, ◌≢◌, ℕ, suc, ◌-◌, ◌<◌, ◌≤◌, List, [], ◌++◌, All, Bool, true, false, Option, length, take, slice_index}
 use Rattle.std.specs.Io.KnownBytes.{Appends, Consumes, IsAtEnd}
 use Rattle.symfilter_engine.specs.declared.symbols.Replacement.{Replacement}
-use Rattle.symfilter_engine.specs.declared.symbols.Symbols.{Symbols}
-use Rattle.symfilter_engine.specs.declared.symbols.Symbols.TheVariants.{Lines, Words}
+use Rattle.symfilter_engine.specs.declared.symbols.Placement.{Placement}
+use Rattle.symfilter_engine.specs.declared.symbols.Placement.TheVariants.{Lines, Words}
 use Rattle.symfilter_engine.specs.Filtered.{line_feed, HasNoLineFeed, AreWholeFiltered, IsFront, WritesBeginning, FiltersLines, ReplacesAllButHeld}
 use Rattle.symfilter_engine.specs.Replaced.{is_word_byte, IsWordByte, begins_word, ends_word, IsHeld, IsReplaced}
 
@@ -67,30 +67,30 @@ abbrev pub WritesFront : List ℕ → Option (List ℕ) → Option (List ℕ) �
 WritesFront bytes before after = (rest : List ℕ) × WritesUpTo bytes rest before after
 
 -- the filtered text of the lines was appended
-abbrev pub AppendsWhole : Symbols → List ℕ → List ℕ → List ℕ → Type 0
-AppendsWhole symbols lines before after =
-    (text : List ℕ) × AreWholeFiltered symbols lines text × (after ≡ before ++ text)
+abbrev pub AppendsWhole : Placement → List ℕ → List ℕ → List ℕ → Type 0
+AppendsWhole placement lines before after =
+    (text : List ℕ) × AreWholeFiltered placement lines text × (after ≡ before ++ text)
 
 -- whole lines of the bytes given were written filtered, and these bytes are left
-pub record HasFiltered (symbols : Symbols) (given left : List ℕ) (before after : Option (List ℕ)) : Type 0 where
+pub record HasFiltered (placement : Placement) (given left : List ℕ) (before after : Option (List ℕ)) : Type 0 where
   pub lines : List ℕ
   pub text : List ℕ
   pub given_is : given ≡ lines ++ left
-  pub filtered : AreWholeFiltered symbols lines text
+  pub filtered : AreWholeFiltered placement lines text
   pub written : Appends before after text
 
 -- whole lines of the bytes given were written filtered, and nothing of the next line
-abbrev pub WritesSomeWhole : Symbols → List ℕ → Option (List ℕ) → Option (List ℕ) → Type 0
-WritesSomeWhole symbols given before after = (left : List ℕ) × HasFiltered symbols given left before after
+abbrev pub WritesSomeWhole : Placement → List ℕ → Option (List ℕ) → Option (List ℕ) → Type 0
+WritesSomeWhole placement given before after = (left : List ℕ) × HasFiltered placement given left before after
 
 -- the filtered text of these lines was written
-abbrev pub WritesWhole : Symbols → List ℕ → Option (List ℕ) → Option (List ℕ) → Type 0
-WritesWhole symbols lines before after =
-    (text : List ℕ) × AreWholeFiltered symbols lines text × Appends before after text
+abbrev pub WritesWhole : Placement → List ℕ → Option (List ℕ) → Option (List ℕ) → Type 0
+WritesWhole placement lines before after =
+    (text : List ℕ) × AreWholeFiltered placement lines text × Appends before after text
 
 -- whatever follows these lines, a beginning of the filtered text of all was written
-abbrev pub WritesWholeFront : Symbols → List ℕ → Option (List ℕ) → Option (List ℕ) → Type 0
-WritesWholeFront symbols lines before after = (rest : List ℕ) → WritesBeginning symbols (lines ++ rest) before after
+abbrev pub WritesWholeFront : Placement → List ℕ → Option (List ℕ) → Option (List ℕ) → Type 0
+WritesWholeFront placement lines before after = (rest : List ℕ) → WritesBeginning placement (lines ++ rest) before after
 
 -- a chunk holds what was read between the bytes kept and this place, and the source is at its end if that is nothing
 pub record ReadsMore (kept end : ℕ) (old new : List ℕ) (before after : Option (List ℕ)) : Type 0 where
@@ -148,37 +148,37 @@ ReplacesFront options inside given before after =
     (rest : List ℕ) → ReplacesBeginning options inside (given ++ rest) before after
 
 -- bytes that are kept: the beginning of a line, or of a word that may hold a symbol, or none
-abbrev pub AreKept : Symbols → List ℕ → Type 0
+abbrev pub AreKept : Placement → List ℕ → Type 0
 AreKept (Lines printing) bytes = HasNoLineFeed bytes
 AreKept (Words options) bytes = IsHeld options.strip bytes
 
 -- of the bytes given the filtered text of all but those left was written; only in words a word may go on
-abbrev pub HasWritten : Symbols → Bool → List ℕ → List ℕ → Bool → Option (List ℕ) → Option (List ℕ) → Type 0
+abbrev pub HasWritten : Placement → Bool → List ℕ → List ℕ → Bool → Option (List ℕ) → Option (List ℕ) → Type 0
 HasWritten (Lines printing) inside given left after before_written after_written =
     HasFiltered (Lines printing) given left before_written after_written
 HasWritten (Words options) inside given left after before_written after_written =
     HasReplaced options inside given left after before_written after_written
 
 -- the filtered text of whole lines or words was written, and nothing of the next
-abbrev pub WritesSomeIn : Symbols → Bool → List ℕ → Option (List ℕ) → Option (List ℕ) → Type 0
-WritesSomeIn symbols inside given before after =
-    (left : List ℕ) × HasWritten symbols inside given left false before after
+abbrev pub WritesSomeIn : Placement → Bool → List ℕ → Option (List ℕ) → Option (List ℕ) → Type 0
+WritesSomeIn placement inside given before after =
+    (left : List ℕ) × HasWritten placement inside given left false before after
 
 -- whatever follows these bytes, a beginning of the filtered text of all was written
-abbrev pub WritesFrontIn : Symbols → Bool → List ℕ → Option (List ℕ) → Option (List ℕ) → Type 0
+abbrev pub WritesFrontIn : Placement → Bool → List ℕ → Option (List ℕ) → Option (List ℕ) → Type 0
 WritesFrontIn (Lines printing) inside given before after = WritesWholeFront (Lines printing) given before after
 WritesFrontIn (Words options) inside given before after = ReplacesFront options inside given before after
 
 -- bytes were read, and the filtered text of all but those left was written; none is left where a word goes on
-pub record HasCopied (symbols : Symbols) (inside : Bool) (left : List ℕ)
+pub record HasCopied (placement : Placement) (inside : Bool) (left : List ℕ)
     (before after written_before written_after : Option (List ℕ)) : Type 0 where
   pub read : List ℕ
   pub consumed : Consumes before after read
   pub none : inside ≡ true → left ≡ []
-  pub written : HasWritten symbols false read left inside written_before written_after
+  pub written : HasWritten placement false read left inside written_before written_after
 
 -- the filtered text of all that was read was written, but for bytes that are kept
-abbrev pub WritesAllButKept : Symbols → Option (List ℕ) → Option (List ℕ) → Option (List ℕ) → Option (List ℕ) → Type 0
+abbrev pub WritesAllButKept : Placement → Option (List ℕ) → Option (List ℕ) → Option (List ℕ) → Option (List ℕ) → Type 0
 WritesAllButKept (Lines printing) before after written_before written_after =
     FiltersLines (Lines printing) before after written_before written_after
 WritesAllButKept (Words options) before after written_before written_after =

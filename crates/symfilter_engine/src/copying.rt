@@ -10,7 +10,7 @@ use super::fault::FilterFault;
 use super::lines::{ended_len, write_last, write_whole};
 use super::output::write_all;
 use super::streams::{Failed, Sink, Source};
-use super::symbols::Symbols;
+use super::symbols::Placement;
 use super::word_bounds::{whole_words_len, word_end};
 use super::words::may_hold_symbol;
 use growing_text::Text;
@@ -24,7 +24,7 @@ const CHUNK_LEN: usize = 131072;
 /// isn't whole, or of a word that may hold a symbol.
 pub(crate) fn copy<R: Source, W: Sink>(
     alloc: Global,
-    symbols: Symbols,
+    placement: Placement,
     source: &mut R,
     sink: &mut W,
 ) -> Result<(), FilterFault>
@@ -35,12 +35,12 @@ pub(crate) fn copy<R: Source, W: Sink>(
     ensures sink_in_time { W.called_late sink.new ≡ W.called_late sink.old }
     ensures used_up { OnOk result (IfSome (R.remaining source.old) (λ _. R.remaining source.new ≡ Some [])) }
     ensures ok { OnOk result (IfSome (R.remaining source.old) (λ given.
-        WritesFiltered symbols given (W.taken sink.old) (W.taken sink.new))) }
-    ensures err { OnErr result (FiltersFront symbols
+        WritesFiltered placement given (W.taken sink.old) (W.taken sink.new))) }
+    ensures err { OnErr result (FiltersFront placement
         (R.remaining source.old) (R.remaining source.new) (W.taken sink.old) (W.taken sink.new)) }
-    ensures put { IsErrOf result FilterFault.Read → WritesAllButKept symbols
+    ensures put { IsErrOf result FilterFault.Read → WritesAllButKept placement
         (R.remaining source.old) (R.remaining source.new) (W.taken sink.old) (W.taken sink.new) }
-    ensures memory { IsErrOf result FilterFault.Memory → FiltersWhole symbols
+    ensures memory { IsErrOf result FilterFault.Memory → FiltersWhole placement
         (R.remaining source.old) (R.remaining source.new) (W.taken sink.old) (W.taken sink.new) }
 {
     let mut chunk = vec![in alloc; 0u8; CHUNK_LEN]?;
@@ -51,12 +51,12 @@ pub(crate) fn copy<R: Source, W: Sink>(
     'chunks: loop {
         let end = read_more(source, &mut chunk, kept)?;
         if end == kept {
-            return write_last(alloc, &mut demangler, symbols, &chunk[..kept], sink);
+            return write_last(alloc, &mut demangler, placement, &chunk[..kept], sink);
         }
         let (done, goes_on) = write_chunk(
             alloc,
             &mut demangler,
-            symbols,
+            placement,
             &chunk[..end],
             kept,
             inside,
@@ -104,7 +104,7 @@ fn read_more<R: Source>(
 fn write_chunk<W: Sink>(
     alloc: Global,
     demangler: &mut Demangler,
-    symbols: Symbols,
+    placement: Placement,
     bytes: &[u8],
     seen: usize,
     inside: bool,
@@ -113,26 +113,26 @@ fn write_chunk<W: Sink>(
 ) -> Result<(usize, bool), FilterFault>
     requires not_failed { W.failed sink.old ≡ false }
     requires within { seen ≤ length bytes.now }
-    requires kept { AreKept symbols (take seen bytes.now) }
+    requires kept { AreKept placement (take seen bytes.now) }
     requires none { inside ≡ true → seen ≡ 0 }
     ensures outcome { IsWriteOutcome result (W.failed sink.new) }
     ensures in_time { W.called_late sink.new ≡ W.called_late sink.old }
     ensures bound { IfOk result (λ written. written.0 ≤ length bytes.now) }
-    ensures held { IfOk result (λ written. AreKept symbols (drop written.0 bytes.now)) }
+    ensures held { IfOk result (λ written. AreKept placement (drop written.0 bytes.now)) }
     ensures none { IfOk result (λ written. written.1 ≡ true → drop written.0 bytes.now ≡ []) }
-    ensures ok { IfOk result (λ written. HasWritten symbols inside bytes.now
+    ensures ok { IfOk result (λ written. HasWritten placement inside bytes.now
         (drop written.0 bytes.now) written.1 (W.taken sink.old) (W.taken sink.new)) }
-    ensures err { OnErr result (WritesFrontIn symbols inside bytes.now (W.taken sink.old) (W.taken sink.new)) }
+    ensures err { OnErr result (WritesFrontIn placement inside bytes.now (W.taken sink.old) (W.taken sink.new)) }
     ensures memory { IsErrOf result FilterFault.Memory →
-        WritesSomeIn symbols inside bytes.now (W.taken sink.old) (W.taken sink.new) }
+        WritesSomeIn placement inside bytes.now (W.taken sink.old) (W.taken sink.new) }
 {
-    match symbols {
-        Symbols::Lines(_) => {
+    match placement {
+        Placement::Lines(_) => {
             let ended = ended_len(bytes, seen);
-            write_whole(alloc, demangler, symbols, &bytes[..ended], output, sink)?;
+            write_whole(alloc, demangler, placement, &bytes[..ended], output, sink)?;
             Ok((ended, false))
         }
-        Symbols::Words(options) => {
+        Placement::Words(options) => {
             let (first, goes_on) = first_word(inside, bytes);
             write_all(sink, &bytes[..first])?;
             if goes_on {
@@ -140,7 +140,7 @@ fn write_chunk<W: Sink>(
             }
             let rest = &bytes[first..];
             let whole = whole_words_len(rest, seen);
-            write_whole(alloc, demangler, symbols, &rest[..whole], output, sink)?;
+            write_whole(alloc, demangler, placement, &rest[..whole], output, sink)?;
             let word = &rest[whole..];
             if may_hold_symbol(options.strip, word) {
                 return Ok((first + whole, false));

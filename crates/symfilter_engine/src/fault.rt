@@ -19,7 +19,7 @@ pub enum FilterFault {
 const NAME: &str = "symfilter: ";
 
 impl FilterFault {
-    ghost use Rattle.symfilter_engine.specs.Fault.{reason_of, words_of};
+    ghost use Rattle.symfilter_engine.specs.Fault.{reason_of, line_of};
 
     /// Returns the words for the fault, without a program's name in front: `read failed`, `write failed` or
     /// `out of memory`.
@@ -31,7 +31,7 @@ impl FilterFault {
 
     /// Returns the line that the program `symfilter` prints for the fault: the program's name, and the words.
     pub fn line(&self) -> &'static str
-        ensures words { result.now ≡ words_of self.now }
+        ensures words { result.now ≡ line_of self.now }
     {
         match self {
             FilterFault::Read => "symfilter: read failed",

@@ -1,13 +1,13 @@
 //! The filter of lines.
 ghost use Rattle.std.specs.Prelude.{◌≡◌, ◌↔◌, false, [], IsTrue, IsErrOf, IfSome, Some, OnOk, OnErr};
 ghost use Rattle.symfilter_engine.specs.declared.symbols.Printing.TheVariants.{Names};
-ghost use Rattle.symfilter_engine.specs.declared.symbols.Symbols.TheVariants.{Lines};
+ghost use Rattle.symfilter_engine.specs.declared.symbols.Placement.TheVariants.{Lines};
 ghost use Rattle.symfilter_engine.specs.Filtered.{FiltersFront, FiltersLines, FiltersWhole, WritesFiltered};
 
 use super::copying::copy;
 use super::fault::FilterFault;
 use super::streams::{Sink, Source};
-use super::symbols::{Printing, Symbols};
+use super::symbols::{Placement, Printing};
 use std::alloc::Global;
 
 /// Reads to the end, and writes each line demangled. A line is written as it is if `Demangler::demangle` has no result
@@ -83,5 +83,5 @@ pub fn filter_by<R: Source, W: Sink>(
     ensures memory { IsErrOf result FilterFault.Memory → FiltersWhole (Lines printing)
         (R.remaining source.old) (R.remaining source.new) (W.taken sink.old) (W.taken sink.new) }
 {
-    copy(alloc, Symbols::Lines(printing), source, sink)
+    copy(alloc, Placement::Lines(printing), source, sink)
 }

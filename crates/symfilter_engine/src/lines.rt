@@ -8,7 +8,7 @@ ghost use Rattle.std.specs.Io.KnownBytes.{Keeps};
 ghost use Rattle.symfilter_engine.specs.Fault.{IsWriteOutcome};
 ghost use Rattle.symfilter_engine.specs.Replaced.{ends_word};
 ghost use Rattle.symfilter_engine.specs.declared.symbols.Printing.{Printing};
-ghost use Rattle.symfilter_engine.specs.declared.symbols.Symbols.TheVariants.{Lines, Words};
+ghost use Rattle.symfilter_engine.specs.declared.symbols.Placement.TheVariants.{Lines, Words};
 ghost use Rattle.symfilter_engine.specs.Filtered.{HasNoLineFeed, EndsInLineFeed, AreWhole, IsLineAnswer, AreLinesAnswered, AreWholeFiltered, WritesFiltered, WritesBeginning};
 ghost use Rattle.symfilter_engine.specs.Progress.{AppendsWhole, HasFiltered, WritesWhole, WritesWholeFront, WritesSomeWhole};
 
@@ -17,7 +17,7 @@ use super::fault::FilterFault;
 use super::output::write_all;
 use super::prefixes::unprefixed_len;
 use super::streams::Sink;
-use super::symbols::{Printing, Replacement, Symbols, prepare_shown};
+use super::symbols::{Placement, Printing, Replacement, prepare_shown};
 use super::word_bounds::{whole_words_len, word_end};
 use super::words::append_words;
 use growing_text::Text;
@@ -61,13 +61,13 @@ pub(crate) fn ended_len(bytes: &[u8], seen: usize) -> usize
 
 /// Returns the length in bytes of the first whole lines or words, up to one that isn't ordinary.
 #[inline(always)]
-fn ordinary_len(symbols: Symbols, whole: &[u8]) -> usize
+fn ordinary_len(placement: Placement, whole: &[u8]) -> usize
     ensures bound { result ≤ length whole.now }
-    ensures ordinary { AreWholeFiltered symbols (take result whole.now) (take result whole.now) }
+    ensures ordinary { AreWholeFiltered placement (take result whole.now) (take result whole.now) }
 {
-    match symbols {
-        Symbols::Lines(_) => unmangled_len(whole),
-        Symbols::Words(_) => unprefixed_len(whole),
+    match placement {
+        Placement::Lines(_) => unmangled_len(whole),
+        Placement::Words(_) => unprefixed_len(whole),
     }
 }
 
@@ -188,29 +188,29 @@ fn append_block(
 fn append_next(
     alloc: Global,
     demangler: &mut Demangler,
-    symbols: Symbols,
+    placement: Placement,
     whole: &[u8],
     known_utf8: bool,
     output: &mut Text,
 ) -> Result<usize, AllocError>
     requires some { 0 < length whole.now }
-    requires whole { AreWhole symbols whole.now }
-    requires known { (printing : Printing) → symbols ≡ Lines printing → IsTrue known_utf8 → IsUtf8 whole.now }
+    requires whole { AreWhole placement whole.now }
+    requires known { (printing : Printing) → placement ≡ Lines printing → IsTrue known_utf8 → IsUtf8 whole.now }
     ensures some { IfOk result (λ len. 0 < len) }
     ensures bound { IfOk result (λ len. len ≤ length whole.now) }
-    ensures ok { IfOk result (λ len. AppendsWhole symbols (take len whole.now) output.old output.new) }
+    ensures ok { IfOk result (λ len. AppendsWhole placement (take len whole.now) output.old output.new) }
     ensures err { OnErr result (output.new ≡ output.old) }
 {
-    let ordinary = ordinary_len(symbols, whole);
+    let ordinary = ordinary_len(placement, whole);
     if ordinary > 0 {
         output.add(&whole[..ordinary])?;
         return Ok(ordinary);
     }
-    match symbols {
-        Symbols::Lines(printing) => append_line(
+    match placement {
+        Placement::Lines(printing) => append_line(
             alloc, demangler, printing, whole, known_utf8, output,
         ),
-        Symbols::Words(options) => append_block(alloc, demangler, options, whole, output),
+        Placement::Words(options) => append_block(alloc, demangler, options, whole, output),
     }
 }
 
@@ -220,22 +220,22 @@ fn append_next(
 fn gather_whole(
     alloc: Global,
     demangler: &mut Demangler,
-    symbols: Symbols,
+    placement: Placement,
     whole: &[u8],
     known_utf8: bool,
     output: &mut Text,
 ) -> Result<usize, AllocError>
     requires some { 0 < length whole.now }
-    requires whole { AreWhole symbols whole.now }
-    requires known { (printing : Printing) → symbols ≡ Lines printing → IsTrue known_utf8 → IsUtf8 whole.now }
+    requires whole { AreWhole placement whole.now }
+    requires known { (printing : Printing) → placement ≡ Lines printing → IsTrue known_utf8 → IsUtf8 whole.now }
     requires empty { output.old ≡ [] }
     ensures some { IfOk result (λ len. 0 < len) }
     ensures bound { IfOk result (λ len. len ≤ length whole.now) }
-    ensures filtered { IfOk result (λ len. AreWholeFiltered symbols (take len whole.now) output.new) }
+    ensures filtered { IfOk result (λ len. AreWholeFiltered placement (take len whole.now) output.new) }
 {
     let mut rest = whole;
     while !rest.is_empty() && output.len() < OUTPUT_LEN {
-        match append_next(alloc, demangler, symbols, rest, known_utf8, output) {
+        match append_next(alloc, demangler, placement, rest, known_utf8, output) {
             Ok(more) => rest = &rest[more..],
             Err(error) if rest.len() == whole.len() => return Err(error),
             Err(_) => break,
@@ -249,7 +249,7 @@ fn gather_whole(
 fn write_next<W: Sink>(
     alloc: Global,
     demangler: &mut Demangler,
-    symbols: Symbols,
+    placement: Placement,
     whole: &[u8],
     known_utf8: bool,
     output: &mut Text,
@@ -257,24 +257,24 @@ fn write_next<W: Sink>(
 ) -> Result<usize, FilterFault>
     requires not_failed { W.failed sink.old ≡ false }
     requires some { 0 < length whole.now }
-    requires whole { AreWhole symbols whole.now }
-    requires known { (printing : Printing) → symbols ≡ Lines printing → IsTrue known_utf8 → IsUtf8 whole.now }
+    requires whole { AreWhole placement whole.now }
+    requires known { (printing : Printing) → placement ≡ Lines printing → IsTrue known_utf8 → IsUtf8 whole.now }
     ensures outcome { IsWriteOutcome result (W.failed sink.new) }
     ensures in_time { W.called_late sink.new ≡ W.called_late sink.old }
     ensures some { IfOk result (λ len. 0 < len) }
     ensures bound { IfOk result (λ len. len ≤ length whole.now) }
-    ensures ok { IfOk result (λ len. WritesWhole symbols (take len whole.now) (W.taken sink.old) (W.taken sink.new)) }
-    ensures err { OnErr result (WritesWholeFront symbols whole.now (W.taken sink.old) (W.taken sink.new)) }
+    ensures ok { IfOk result (λ len. WritesWhole placement (take len whole.now) (W.taken sink.old) (W.taken sink.new)) }
+    ensures err { OnErr result (WritesWholeFront placement whole.now (W.taken sink.old) (W.taken sink.new)) }
     ensures memory { IsErrOf result FilterFault.Memory → Keeps (W.taken sink.old) (W.taken sink.new) }
 {
-    let ordinary = ordinary_len(symbols, whole);
+    let ordinary = ordinary_len(placement, whole);
     if ordinary >= LONG_LEN {
         write_all(sink, &whole[..ordinary])?;
         return Ok(ordinary);
     }
     output.clear();
     output.reserve(OUTPUT_CAPACITY)?;
-    let len = gather_whole(alloc, demangler, symbols, whole, known_utf8, output)?;
+    let len = gather_whole(alloc, demangler, placement, whole, known_utf8, output)?;
     write_all(sink, output.as_slice())?;
     Ok(len)
 }
@@ -283,24 +283,24 @@ fn write_next<W: Sink>(
 pub(crate) fn write_whole<W: Sink>(
     alloc: Global,
     demangler: &mut Demangler,
-    symbols: Symbols,
+    placement: Placement,
     whole: &[u8],
     output: &mut Text,
     sink: &mut W,
 ) -> Result<(), FilterFault>
     requires not_failed { W.failed sink.old ≡ false }
-    requires whole { AreWhole symbols whole.now }
+    requires whole { AreWhole placement whole.now }
     ensures outcome { IsWriteOutcome result (W.failed sink.new) }
     ensures in_time { W.called_late sink.new ≡ W.called_late sink.old }
-    ensures ok { OnOk result (HasFiltered symbols whole.now [] (W.taken sink.old) (W.taken sink.new)) }
-    ensures err { OnErr result (WritesWholeFront symbols whole.now (W.taken sink.old) (W.taken sink.new)) }
+    ensures ok { OnOk result (HasFiltered placement whole.now [] (W.taken sink.old) (W.taken sink.new)) }
+    ensures err { OnErr result (WritesWholeFront placement whole.now (W.taken sink.old) (W.taken sink.new)) }
     ensures memory { IsErrOf result FilterFault.Memory →
-        WritesSomeWhole symbols whole.now (W.taken sink.old) (W.taken sink.new) }
+        WritesSomeWhole placement whole.now (W.taken sink.old) (W.taken sink.new) }
 {
-    let known_utf8 = matches!(symbols, Symbols::Lines(_)) && is_utf8(whole);
+    let known_utf8 = matches!(placement, Placement::Lines(_)) && is_utf8(whole);
     let mut rest = whole;
     while !rest.is_empty() {
-        let len = write_next(alloc, demangler, symbols, rest, known_utf8, output, sink)?;
+        let len = write_next(alloc, demangler, placement, rest, known_utf8, output, sink)?;
         rest = &rest[len..];
     }
     Ok(())
@@ -310,28 +310,28 @@ pub(crate) fn write_whole<W: Sink>(
 pub(crate) fn write_last<W: Sink>(
     alloc: Global,
     demangler: &mut Demangler,
-    symbols: Symbols,
+    placement: Placement,
     line: &[u8],
     sink: &mut W,
 ) -> Result<(), FilterFault>
     requires not_failed { W.failed sink.old ≡ false }
-    requires unended { (printing : Printing) → symbols ≡ Lines printing → HasNoLineFeed line.now }
+    requires unended { (printing : Printing) → placement ≡ Lines printing → HasNoLineFeed line.now }
     ensures outcome { IsWriteOutcome result (W.failed sink.new) }
     ensures in_time { W.called_late sink.new ≡ W.called_late sink.old }
-    ensures ok { OnOk result (WritesFiltered symbols line.now (W.taken sink.old) (W.taken sink.new)) }
-    ensures err { OnErr result (WritesBeginning symbols line.now (W.taken sink.old) (W.taken sink.new)) }
+    ensures ok { OnOk result (WritesFiltered placement line.now (W.taken sink.old) (W.taken sink.new)) }
+    ensures err { OnErr result (WritesBeginning placement line.now (W.taken sink.old) (W.taken sink.new)) }
     ensures memory { IsErrOf result FilterFault.Memory → Keeps (W.taken sink.old) (W.taken sink.new) }
     ensures some { IsErrOf result FilterFault.Memory → 0 < length line.now }
 {
     if line.is_empty() {
         return Ok(());
     }
-    match symbols {
-        Symbols::Lines(printing) => {
+    match placement {
+        Placement::Lines(printing) => {
             let answer = line_answer(alloc, demangler, printing, line, false)?;
             write_all(sink, answer)
         }
-        Symbols::Words(options) => {
+        Placement::Words(options) => {
             let mut output = Text::new(alloc);
             append_words(alloc, demangler, options, line, &mut output)?;
             write_all(sink, output.as_slice())

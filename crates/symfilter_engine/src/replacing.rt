@@ -1,12 +1,12 @@
 //! The replacement of symbols in words.
 ghost use Rattle.std.specs.Prelude.{◌≡◌, ◌↔◌, false, [], IsTrue, IsErrOf, IfSome, Some, OnOk, OnErr};
-ghost use Rattle.symfilter_engine.specs.declared.symbols.Symbols.TheVariants.{Words};
+ghost use Rattle.symfilter_engine.specs.declared.symbols.Placement.TheVariants.{Words};
 ghost use Rattle.symfilter_engine.specs.Filtered.{FiltersFront, FiltersWhole, ReplacesAllButHeld, WritesFiltered};
 
 use super::copying::copy;
 use super::fault::FilterFault;
 use super::streams::{Sink, Source};
-use super::symbols::{Replacement, Symbols};
+use super::symbols::{Placement, Replacement};
 use std::alloc::Global;
 
 /// Reads to the end, and writes the replaced text: each symbol in a word is replaced by its demangled name or its
@@ -46,5 +46,5 @@ pub fn replace<R: Source, W: Sink>(
     ensures memory { IsErrOf result FilterFault.Memory → FiltersWhole (Words options)
         (R.remaining source.old) (R.remaining source.new) (W.taken sink.old) (W.taken sink.new) }
 {
-    copy(alloc, Symbols::Words(options), source, sink)
+    copy(alloc, Placement::Words(options), source, sink)
 }

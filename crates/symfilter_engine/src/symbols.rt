@@ -27,7 +27,7 @@ pub struct Replacement {
 
 /// Where a symbol may be.
 #[derive(Clone, Copy, Debug, PartialEq, Eq)]
-pub(crate) enum Symbols {
+pub(crate) enum Placement {
     /// A whole line may be a symbol.
     Lines(Printing),
     /// A symbol may be in a word, after the word's prefix characters.

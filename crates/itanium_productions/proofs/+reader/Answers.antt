@@ -14,7 +14,7 @@ use Rattle.demangle_text.specs.declared.buffer.Buffer.{Buffer}
 use Rattle.demangle_edit.proofs.Built.{appended_text}
 use Rattle.itanium_syntax.specs.Offsets.{past_base_offset}
 use Rattle.demangle_text.proofs.Laws.{runs, IsRun-edit, IsRun-same, IsRun-trans, IsSince-opens, IsSince-run, SameFrame-closed, Lives-same, IsLast-stays, IsLast-push, IsInner-last, IsInner-same, text_after-follows}
-use Rattle.demangle_text.proofs.Laws.{text_after-more, text_after-same, text_after-last}
+use Rattle.demangle_text.proofs.Laws.{text_after-more, text_after-same, text_after-last, text_after-follows}
 use Rattle.demangle_edit.specs.Built.{arguments_opened, separator}
 use Rattle.demangle_quals.specs.declared.quals.Quals.{Quals}
 use Rattle.demangle_edit.specs.Names.{default_arg_shape}
@@ -42,7 +42,7 @@ use Rattle.itanium_reader.proofs.Turns.{pack_wide, typed_wide, items_wide}
 use Rattle.itanium_syntax.specs.Context.{inside_lambda}
 use Rattle.itanium_grammar.specs.Cases.{SegmentCase, ArgsSegment, NameSegment, EndOfSegments}
 use Rattle.itanium_syntax.specs.Names.{segment_case}
-use Rattle.itanium_productions.proofs.+reader.Goals.{names::read_prefix-in-ArgsSegment+in_ok-save_unsaved-in-ArgsSegment+in_ok-read_template_args-in-ArgsSegment, names::read_prefix-in-NameSegment+in_ok-save_unsaved-in-NameSegment+in_ok-read_segment-in-NameSegment}
+use Rattle.itanium_productions.proofs.+reader.Goals.{names::read_prefix-in-ArgsSegment+in_ok-save_if-in-ArgsSegment+in_ok-read_template_args-in-ArgsSegment, names::read_prefix-in-NameSegment+in_ok-save_if-in-NameSegment+in_ok-read_segment-in-NameSegment}
 use Rattle.itanium_reader.proofs.Rules.{buffers, types}
 use Rattle.itanium_grammar.specs.Tree.{worded_shape, construction_shape}
 use Rattle.itanium_productions.proofs.+reader.Goals as goal
@@ -264,7 +264,7 @@ names::read_prefix-returns-in_err-read_source_segment-clause-reads t c =
     let args = spec.parse_args c.args.depth c.args.context true in
     let r = c.loop-reader.reader in
     let name = shape r.buffer.value r.found in
-    let case = source_segment type param args name (spec.save_unsaved c.loop-reader.unsaved name (state r)) (search rules) in
+    let case = source_segment type param args name (spec.save_if c.loop-reader.unsaved name (state r)) (search rules) in
     let f = c.from_residual-in_err-read_source_segment in
     let e = err_from_is_err_and f.result f.ensures.1 in
     rw (e.1, e.2) (stops _ _ (c.in_err-read_source_segment.ensures {u = tt}).reads
@@ -277,7 +277,7 @@ names::read_prefix-returns-in_err-check_width-clause-reads t c =
     let args = spec.parse_args c.args.depth c.args.context true in
     let r = c.loop-reader.reader in
     let name = shape r.buffer.value r.found in
-    let case = source_segment type param args name (spec.save_unsaved c.loop-reader.unsaved name (state r)) (search rules) in
+    let case = source_segment type param args name (spec.save_if c.loop-reader.unsaved name (state r)) (search rules) in
     let new = c.read_source_segment.new.self in
     let read = (c.in_ok-read_source_segment.ensures {u = tt}) in
     let f = c.from_residual-in_err-check_width in
@@ -292,7 +292,7 @@ names::read_prefix-loop-reader-preserved-then-begins_source t c =
     let args = spec.parse_args c.args.depth c.args.context true in
     let r = c.loop-reader.reader in
     let name = shape r.buffer.value r.found in
-    let case = source_segment type param args name (spec.save_unsaved c.loop-reader.unsaved name (state r)) (search rules) in
+    let case = source_segment type param args name (spec.save_if c.loop-reader.unsaved name (state r)) (search rules) in
     let new = c.read_source_segment.new.self in
     let read = (c.in_ok-read_source_segment.ensures {u = tt}) in
     let longer = length-append (saved new.buffer.value) (shape new.buffer.value new.found ∷ []) in
@@ -328,11 +328,11 @@ names::read_prefix-returns-in_err-read_template_args-in-ArgsSegment-clause-reads
     let args = spec.parse_args c.args.depth c.args.context true in
     let r = c.loop-reader.reader in
     let name = shape r.buffer.value r.found in
-    let s = spec.past_initializer (spec.save_unsaved c.loop-reader.unsaved name (state r)) in
+    let s = spec.past_initializer (spec.save_if c.loop-reader.unsaved name (state r)) in
     let f = c.from_residual-in_err-read_template_args-in-ArgsSegment in
     let e = err_from_is_err_and f.result f.ensures.1 in
     rw (e.1, e.2) (stops _ _ (c.in_err-read_template_args-in-ArgsSegment.ensures {u = tt}).reads
-    (λ none. let later = is_later (spec.parse_unqualified type param) args name s ArgsSegment c.save_unsaved.new.self none (λ ended. cc ended) (search rules) (search rules) (search rules) in
+    (λ none. let later = is_later (spec.parse_unqualified type param) args name s ArgsSegment c.save_if.new.self none (λ ended. cc ended) (search rules) (search rules) (search rules) in
     segments_none _ _ c.loop-reader.invariant.reads later.goes_on later.gives))
 
 pub names::read_prefix-returns-in_err-read_segment-in-NameSegment-clause-reads : goal.names::read_prefix-returns-in_err-read_segment-in-NameSegment-clause-reads
@@ -342,11 +342,11 @@ names::read_prefix-returns-in_err-read_segment-in-NameSegment-clause-reads t c =
     let args = spec.parse_args c.args.depth c.args.context true in
     let r = c.loop-reader.reader in
     let name = shape r.buffer.value r.found in
-    let s = spec.past_initializer (spec.save_unsaved c.loop-reader.unsaved name (state r)) in
+    let s = spec.past_initializer (spec.save_if c.loop-reader.unsaved name (state r)) in
     let f = c.from_residual-in_err-read_segment-in-NameSegment in
     let e = err_from_is_err_and f.result f.ensures.1 in
     rw (e.1, e.2) (stops _ _ (c.in_err-read_segment-in-NameSegment.ensures {u = tt}).reads
-    (λ none. let later = is_later (spec.parse_unqualified type param) args name s NameSegment c.save_unsaved-in-NameSegment.new.self none (λ ended. cc ended) (search rules) (search rules) (search rules) in
+    (λ none. let later = is_later (spec.parse_unqualified type param) args name s NameSegment c.save_if-in-NameSegment.new.self none (λ ended. cc ended) (search rules) (search rules) (search rules) in
     segments_none _ _ c.loop-reader.invariant.reads later.goes_on later.gives))
 
 pub names::read_prefix-returns-in_err-check_width-2-clause-reads : goal.names::read_prefix-returns-in_err-check_width-2-clause-reads
@@ -356,13 +356,13 @@ names::read_prefix-returns-in_err-check_width-2-clause-reads t c =
     let args = spec.parse_args c.args.depth c.args.context true in
     let r = c.loop-reader.reader in
     let name = shape r.buffer.value r.found in
-    let s = spec.past_initializer (spec.save_unsaved c.loop-reader.unsaved name (state r)) in
+    let s = spec.past_initializer (spec.save_if c.loop-reader.unsaved name (state r)) in
     let m = c.match-segment_case.reader in
     let later : IsLater (spec.parse_unqualified type param) args name s (Some (shape m.buffer.value m.found, state m)) = elim c.match-segment_case.branch [
-      | names::read_prefix-in-ArgsSegment+in_ok-save_unsaved-in-ArgsSegment+in_ok-read_template_args-in-ArgsSegment w ↦
-          rw w.reader-is (is_later _ args name s ArgsSegment w.save_unsaved.new.self (w.in_ok-read_template_args-in-ArgsSegment.ensures {u = tt}).reads.1 (λ ended. cc ended) (search rules) (search rules) (search rules))
-      | names::read_prefix-in-NameSegment+in_ok-save_unsaved-in-NameSegment+in_ok-read_segment-in-NameSegment w ↦
-          rw w.reader-is (is_later _ args name s NameSegment w.save_unsaved-in-NameSegment.new.self (w.in_ok-read_segment-in-NameSegment.ensures {u = tt}).reads.1 (λ ended. cc ended) (search rules) (search rules) (search rules))
+      | names::read_prefix-in-ArgsSegment+in_ok-save_if-in-ArgsSegment+in_ok-read_template_args-in-ArgsSegment w ↦
+          rw w.reader-is (is_later _ args name s ArgsSegment w.save_if.new.self (w.in_ok-read_template_args-in-ArgsSegment.ensures {u = tt}).reads.1 (λ ended. cc ended) (search rules) (search rules) (search rules))
+      | names::read_prefix-in-NameSegment+in_ok-save_if-in-NameSegment+in_ok-read_segment-in-NameSegment w ↦
+          rw w.reader-is (is_later _ args name s NameSegment w.save_if-in-NameSegment.new.self (w.in_ok-read_segment-in-NameSegment.ensures {u = tt}).reads.1 (λ ended. cc ended) (search rules) (search rules) (search rules))
     ] in
     let f = c.from_residual-in_err-check_width-2 in
     let e = err_from_is_err_and f.result f.ensures.1 in
@@ -376,13 +376,13 @@ names::read_prefix-loop-reader-preserved t c =
     let args = spec.parse_args c.args.depth c.args.context true in
     let r = c.loop-reader.reader in
     let name = shape r.buffer.value r.found in
-    let s = spec.past_initializer (spec.save_unsaved c.loop-reader.unsaved name (state r)) in
+    let s = spec.past_initializer (spec.save_if c.loop-reader.unsaved name (state r)) in
     let m = c.match-segment_case.reader in
     let later : IsLater (spec.parse_unqualified type param) args name s (Some (shape m.buffer.value m.found, state m)) = elim c.match-segment_case.branch [
-      | names::read_prefix-in-ArgsSegment+in_ok-save_unsaved-in-ArgsSegment+in_ok-read_template_args-in-ArgsSegment w ↦
-          rw w.reader-is (is_later _ args name s ArgsSegment w.save_unsaved.new.self (w.in_ok-read_template_args-in-ArgsSegment.ensures {u = tt}).reads.1 (λ ended. cc ended) (search rules) (search rules) (search rules))
-      | names::read_prefix-in-NameSegment+in_ok-save_unsaved-in-NameSegment+in_ok-read_segment-in-NameSegment w ↦
-          rw w.reader-is (is_later _ args name s NameSegment w.save_unsaved-in-NameSegment.new.self (w.in_ok-read_segment-in-NameSegment.ensures {u = tt}).reads.1 (λ ended. cc ended) (search rules) (search rules) (search rules))
+      | names::read_prefix-in-ArgsSegment+in_ok-save_if-in-ArgsSegment+in_ok-read_template_args-in-ArgsSegment w ↦
+          rw w.reader-is (is_later _ args name s ArgsSegment w.save_if.new.self (w.in_ok-read_template_args-in-ArgsSegment.ensures {u = tt}).reads.1 (λ ended. cc ended) (search rules) (search rules) (search rules))
+      | names::read_prefix-in-NameSegment+in_ok-save_if-in-NameSegment+in_ok-read_segment-in-NameSegment w ↦
+          rw w.reader-is (is_later _ args name s NameSegment w.save_if-in-NameSegment.new.self (w.in_ok-read_segment-in-NameSegment.ensures {u = tt}).reads.1 (λ ended. cc ended) (search rules) (search rules) (search rules))
     ] in
     let longer = length-append (saved m.buffer.value) (shape m.buffer.value m.found ∷ []) in
     record {
@@ -564,7 +564,7 @@ first_untagged type param x s begins read none = first_source_opens type param x
 -- a <source-name> with its tags is the first segment
 first_tagged : (type param : spec.Parses Shape) (x : Context) (s : spec.ParserState) {name found : Shape} {mid after : spec.ParserState} → begins_source s.rest ≡ true
     → spec.parse_source s ≡ Some (name, mid) → spec.parse_tags name mid ≡ Some (found, after)
-    → spec.first_as (first_case s.rest) (spec.parse_unqualified type param) x s ≡ Some (found, spec.save_unsaved true found after)
+    → spec.first_as (first_case s.rest) (spec.parse_unqualified type param) x s ≡ Some (found, spec.save_if true found after)
 first_tagged type param x s begins read tags = first_source_opens type param x s begins ∙ rw (read, tags) refl
 
 -- a first segment isn't read where what it calls isn't
@@ -800,3 +800,29 @@ specials::read_thunk-returns-in_err-read_encoding-clause-reads t c = grind (arit
 
 pub specials::read_type_special-print_worded-requires-clause-after : goal.specials::read_type_special-print_worded-requires-clause-after
 specials::read_type_special-print_worded-requires-clause-after t c = grind (arith, words)
+
+pub expressions::read_pre-print_worded-requires-clause-after : goal.expressions::read_pre-print_worded-requires-clause-after
+expressions::read_pre-print_worded-requires-clause-after t c = search (rules, text_after-follows)
+
+pub expressions::read_pre-returns-clause-reads : goal.expressions::read_pre-returns-clause-reads
+expressions::read_pre-returns-clause-reads t c = search rules
+
+pub encodings::end_encoding-returns-in_ok-reader-in-SomeEncodingParams-clause-reads :
+    goal.encodings::end_encoding-returns-in_ok-reader-in-SomeEncodingParams-clause-reads
+encodings::end_encoding-returns-in_ok-reader-in-SomeEncodingParams-clause-reads t c = search rules
+
+pub encodings::end_encoding-returns-in_ok-reader-in-SomeEncodingParams-clause-run :
+    goal.encodings::end_encoding-returns-in_ok-reader-in-SomeEncodingParams-clause-run
+encodings::end_encoding-returns-in_ok-reader-in-SomeEncodingParams-clause-run t c = search rules
+
+pub expressions::read_conditional-returns-clause-run : goal.expressions::read_conditional-returns-clause-run
+expressions::read_conditional-returns-clause-run t c = search rules
+
+pub expressions::read_expression-returns-in_err-check_width-clause-bounds : goal.expressions::read_expression-returns-in_err-check_width-clause-bounds
+expressions::read_expression-returns-in_err-check_width-clause-bounds t c = grind (arith, common_steps)
+
+pub expressions::read_expression-returns-in_err-check_width-clause-saved : goal.expressions::read_expression-returns-in_err-check_width-clause-saved
+expressions::read_expression-returns-in_err-check_width-clause-saved t c = grind (arith, common_steps)
+
+pub expressions::read_expression-returns-clause-run : goal.expressions::read_expression-returns-clause-run
+expressions::read_expression-returns-clause-run t c = grind (arith, common_steps)

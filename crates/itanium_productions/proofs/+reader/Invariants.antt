@@ -97,7 +97,7 @@ decreases-names::read_prefix l = prefix l.depth
 
 -- What was found, and the state once it is saved, where it isn't saved yet.
 abbrev saved_so_far : Bool → Reader → spec.ParserState
-saved_so_far unsaved r = spec.save_unsaved unsaved (shape r.buffer.value r.found) (state r)
+saved_so_far unsaved r = spec.save_if unsaved (shape r.buffer.value r.found) (state r)
 
 abbrev pub invariant-names::read_prefix-loop-reader : goal.invariant-names::read_prefix-loop-reader
 invariant-names::read_prefix-loop-reader l = record {

@@ -11,10 +11,10 @@ use Rattle.symfilter_engine.proofs.copying.copy.Goals as goal
 use Rattle.symfilter_engine.proofs.copying.copy.Goals.{then-done-gt0, else-done-gt0}
 
 pub returns-in_err-chunk-clause-err : goal.returns-in_err-chunk-clause-err
-returns-in_err-chunk-clause-err g c = at_fault _ (none_read c.args.symbols _ _)
+returns-in_err-chunk-clause-err g c = at_fault _ (none_read c.args.placement _ _)
 
 pub returns-in_err-chunk-clause-memory : goal.returns-in_err-chunk-clause-memory
-returns-in_err-chunk-clause-memory g c = λ _. none_whole c.args.symbols _ _
+returns-in_err-chunk-clause-memory g c = λ _. none_whole c.args.placement _ _
 
 pub chunks-init : goal.chunks-init
 chunks-init g c = record {
@@ -24,41 +24,41 @@ chunks-init g c = record {
   sink_in_time = refl;
   room = search rules;
   within = search rules;
-  held = none_kept c.args.symbols _ refl;
-  so_far = none_copied c.args.symbols _ _ _ refl;
+  held = none_kept c.args.placement _ refl;
+  so_far = none_copied c.args.placement _ _ _ refl;
 }
 
 pub returns-in_err-end-clause-err : goal.returns-in_err-end-clause-err
-returns-in_err-end-clause-err g c = at_fault _ (read_fault c.args.symbols _ _ _ _ _ _ _ c.chunks.invariant.so_far c.in_err-end.ensures.err)
+returns-in_err-end-clause-err g c = at_fault _ (read_fault c.args.placement _ _ _ _ _ _ _ c.chunks.invariant.so_far c.in_err-end.ensures.err)
 
 pub returns-in_err-end-clause-put : goal.returns-in_err-end-clause-put
-returns-in_err-end-clause-put g c = λ _. read_put c.args.symbols _ _ _ _ _ _ _ c.chunks.invariant.so_far c.chunks.invariant.held c.in_err-end.ensures.err
+returns-in_err-end-clause-put g c = λ _. read_put c.args.placement _ _ _ _ _ _ _ c.chunks.invariant.so_far c.chunks.invariant.held c.in_err-end.ensures.err
 
 pub returns-in_err-end-clause-memory : goal.returns-in_err-end-clause-memory
 returns-in_err-end-clause-memory g c = λ refused.
-    read_refused c.args.symbols _ _ _ _ _ _ _ _ c.chunks.invariant.so_far c.in_err-end.ensures.err (c.in_err-end.ensures.full (search rules)) c.chunks.invariant.room
+    read_refused c.args.placement _ _ _ _ _ _ _ _ c.chunks.invariant.so_far c.in_err-end.ensures.err (c.in_err-end.ensures.full (search rules)) c.chunks.invariant.room
 
 pub write_chunk-requires-clause-kept : goal.write_chunk-requires-clause-kept
 write_chunk-requires-clause-kept g c =
     let end = c.in_ok-end.end in
     let kept = c.chunks.kept in
-    subst (λ l. AreKept c.args.symbols (take kept (take end l))) (sym c.deref-in-chunks.ensures.value)
-    (still_kept c.args.symbols kept end _ _ _ _ c.chunks.invariant.held c.in_ok-end.ensures.ok c.chunks.invariant.within)
+    subst (λ l. AreKept c.args.placement (take kept (take end l))) (sym c.deref-in-chunks.ensures.value)
+    (still_kept c.args.placement kept end _ _ _ _ c.chunks.invariant.held c.in_ok-end.ensures.ok c.chunks.invariant.within)
 
 pub write_chunk-requires-clause-none : goal.write_chunk-requires-clause-none
-write_chunk-requires-clause-none g c = none_seen c.args.symbols _ _ _ _ _ _ _ c.chunks.invariant.so_far c.chunks.invariant.within
+write_chunk-requires-clause-none g c = none_seen c.args.placement _ _ _ _ _ _ _ c.chunks.invariant.so_far c.chunks.invariant.within
 
 pub returns-in_err-done-clause-err : goal.returns-in_err-done-clause-err
 returns-in_err-done-clause-err g c =
     let end = c.in_ok-end.end in
-    at_fault _ (turn_fault c.args.symbols c.chunks.inside _ end _ _ _ _ _ _ _ _ c.chunks.invariant.so_far c.in_ok-end.ensures.ok
-    (subst (λ l. WritesFrontIn c.args.symbols c.chunks.inside (take end l) (g.W.Sink.taken c.chunks.sink) (g.W.Sink.taken c.write_chunk.new.sink)) c.deref-in-chunks.ensures.value c.in_err-done.ensures.err))
+    at_fault _ (turn_fault c.args.placement c.chunks.inside _ end _ _ _ _ _ _ _ _ c.chunks.invariant.so_far c.in_ok-end.ensures.ok
+    (subst (λ l. WritesFrontIn c.args.placement c.chunks.inside (take end l) (g.W.Sink.taken c.chunks.sink) (g.W.Sink.taken c.write_chunk.new.sink)) c.deref-in-chunks.ensures.value c.in_err-done.ensures.err))
 
 pub returns-in_err-done-clause-memory : goal.returns-in_err-done-clause-memory
 returns-in_err-done-clause-memory g c = λ refused.
     let end = c.in_ok-end.end in
-    turn_refused c.args.symbols c.chunks.inside _ end _ _ _ _ _ _ _ _ c.chunks.invariant.so_far c.in_ok-end.ensures.ok
-    (subst (λ l. WritesSomeIn c.args.symbols c.chunks.inside (take end l) (g.W.Sink.taken c.chunks.sink) (g.W.Sink.taken c.write_chunk.new.sink)) c.deref-in-chunks.ensures.value
+    turn_refused c.args.placement c.chunks.inside _ end _ _ _ _ _ _ _ _ c.chunks.invariant.so_far c.in_ok-end.ensures.ok
+    (subst (λ l. WritesSomeIn c.args.placement c.chunks.inside (take end l) (g.W.Sink.taken c.chunks.sink) (g.W.Sink.taken c.write_chunk.new.sink)) c.deref-in-chunks.ensures.value
     (c.in_err-done.ensures.memory (search rules)))
 
 pub chunks-preserved : goal.chunks-preserved
@@ -87,9 +87,9 @@ chunks-preserved g c =
       sink_in_time = c.in_ok-done.ensures.in_time ∙ c.chunks.invariant.sink_in_time;
       room = omega (arith, inside, long, c.in_ok-end.ensures.ok.low, c.if-end-kept.false);
       within = omega (arith, inside, long);
-      held = subst (AreKept c.args.symbols) (ap (λ l. drop done (take end l)) same ∙ sym moved) c.in_ok-done.ensures.held;
-      so_far = turn_copied c.args.symbols c.chunks.inside after c.chunks.kept end _ all _ (drop done (take end all)) _ _ _ _ _ _ c.chunks.invariant.so_far c.in_ok-end.ensures.ok
-          (subst (λ l. HasWritten c.args.symbols c.chunks.inside (take end l) (drop done (take end l)) after (g.W.Sink.taken c.chunks.sink) (g.W.Sink.taken c.write_chunk.new.sink)) same c.in_ok-done.ensures.ok)
+      held = subst (AreKept c.args.placement) (ap (λ l. drop done (take end l)) same ∙ sym moved) c.in_ok-done.ensures.held;
+      so_far = turn_copied c.args.placement c.chunks.inside after c.chunks.kept end _ all _ (drop done (take end all)) _ _ _ _ _ _ c.chunks.invariant.so_far c.in_ok-end.ensures.ok
+          (subst (λ l. HasWritten c.args.placement c.chunks.inside (take end l) (drop done (take end l)) after (g.W.Sink.taken c.chunks.sink) (g.W.Sink.taken c.write_chunk.new.sink)) same c.in_ok-done.ensures.ok)
           moved (λ is. ap (λ l. drop done (take end l)) (sym same) ∙ c.in_ok-done.ensures.none is);
     }
 
@@ -104,7 +104,7 @@ returns-then-end-kept-clause-outcome g c = run_last _ _ _ c.in_ok-end.ensures.ou
 
 pub returns-then-end-kept-clause-used_up : goal.returns-then-end-kept-clause-used_up
 returns-then-end-kept-clause-used_up g c =
-    let ended = end_copied c.args.symbols c.chunks.inside c.chunks.kept _ _ _ _ _ _ _ _ c.chunks.invariant.so_far c.in_ok-end.ensures.ok c.chunks.invariant.within c.if-end-kept.true in
+    let ended = end_copied c.args.placement c.chunks.inside c.chunks.kept _ _ _ _ _ _ _ _ c.chunks.invariant.so_far c.in_ok-end.ensures.ok c.chunks.invariant.within c.if-end-kept.true in
     on_ok_weaker _ (λ _. at_end _ _ ended.read ended.consumed (c.in_ok-end.ensures.ok.ended c.if-end-kept.true)) c.write_last.ensures.ok
 
 pub returns-then-end-kept-clause-ok : goal.returns-then-end-kept-clause-ok
@@ -112,22 +112,22 @@ returns-then-end-kept-clause-ok g c =
     let kept = c.chunks.kept in
     let t' = g.W.Sink.taken c.chunks.sink in
     let t'' = g.W.Sink.taken c.write_last.new.sink in
-    let ended = end_copied c.args.symbols c.chunks.inside kept _ _ _ _ _ _ _ _ c.chunks.invariant.so_far c.in_ok-end.ensures.ok c.chunks.invariant.within c.if-end-kept.true in
-    on_ok_weaker _ (λ writes. last_copied c.args.symbols c.chunks.inside (take kept c.read_more.new.chunk.items) _ _ _ t' t'' ended (c.in_ok-end.ensures.ok.ended c.if-end-kept.true)
-    (subst (λ l. WritesFiltered c.args.symbols (take kept l) t' t'') c.deref.ensures.value writes)) c.write_last.ensures.ok
+    let ended = end_copied c.args.placement c.chunks.inside kept _ _ _ _ _ _ _ _ c.chunks.invariant.so_far c.in_ok-end.ensures.ok c.chunks.invariant.within c.if-end-kept.true in
+    on_ok_weaker _ (λ writes. last_copied c.args.placement c.chunks.inside (take kept c.read_more.new.chunk.items) _ _ _ t' t'' ended (c.in_ok-end.ensures.ok.ended c.if-end-kept.true)
+    (subst (λ l. WritesFiltered c.args.placement (take kept l) t' t'') c.deref.ensures.value writes)) c.write_last.ensures.ok
 
 pub returns-then-end-kept-clause-err : goal.returns-then-end-kept-clause-err
 returns-then-end-kept-clause-err g c =
     let kept = c.chunks.kept in
     let t' = g.W.Sink.taken c.chunks.sink in
     let t'' = g.W.Sink.taken c.write_last.new.sink in
-    let ended = end_copied c.args.symbols c.chunks.inside kept _ _ _ _ _ _ _ _ c.chunks.invariant.so_far c.in_ok-end.ensures.ok c.chunks.invariant.within c.if-end-kept.true in
-    on_err_weaker _ (λ begins. last_fault c.args.symbols c.chunks.inside (take kept c.read_more.new.chunk.items) _ _ _ t' t'' ended
-    (subst (λ l. WritesBeginning c.args.symbols (take kept l) t' t'') c.deref.ensures.value begins)) c.write_last.ensures.err
+    let ended = end_copied c.args.placement c.chunks.inside kept _ _ _ _ _ _ _ _ c.chunks.invariant.so_far c.in_ok-end.ensures.ok c.chunks.invariant.within c.if-end-kept.true in
+    on_err_weaker _ (λ begins. last_fault c.args.placement c.chunks.inside (take kept c.read_more.new.chunk.items) _ _ _ t' t'' ended
+    (subst (λ l. WritesBeginning c.args.placement (take kept l) t' t'') c.deref.ensures.value begins)) c.write_last.ensures.err
 
 pub returns-then-end-kept-clause-memory : goal.returns-then-end-kept-clause-memory
 returns-then-end-kept-clause-memory g c = λ refused.
     let kept = c.chunks.kept in
-    let ended = end_copied c.args.symbols c.chunks.inside kept _ _ _ _ _ _ _ _ c.chunks.invariant.so_far c.in_ok-end.ensures.ok c.chunks.invariant.within c.if-end-kept.true in
-    last_refused c.args.symbols c.chunks.inside (take kept c.read_more.new.chunk.items) _ _ _ _ _ ended
+    let ended = end_copied c.args.placement c.chunks.inside kept _ _ _ _ _ _ _ _ c.chunks.invariant.so_far c.in_ok-end.ensures.ok c.chunks.invariant.within c.if-end-kept.true in
+    last_refused c.args.placement c.chunks.inside (take kept c.read_more.new.chunk.items) _ _ _ _ _ ended
     (subst (λ l. 0 < length (take kept l)) c.deref.ensures.value (c.write_last.ensures.some refused)) (c.write_last.ensures.memory refused)

@@ -11,8 +11,8 @@ invariant-chunks g l =
       sink_in_time : g.W.Sink.called_late l.sink ≡ g.W.Sink.called_late l.fn.sink;
       room : 0 < length l.chunk.items;
       within : l.kept ≤ length l.chunk.items;
-      held : AreKept l.symbols (take l.kept l.chunk.items);
-      so_far : HasCopied l.symbols l.inside (take l.kept l.chunk.items) (g.R.Source.remaining l.fn.source) (g.R.Source.remaining l.source) (g.W.Sink.taken l.fn.sink) (g.W.Sink.taken l.sink);
+      held : AreKept l.placement (take l.kept l.chunk.items);
+      so_far : HasCopied l.placement l.inside (take l.kept l.chunk.items) (g.R.Source.remaining l.fn.source) (g.R.Source.remaining l.source) (g.W.Sink.taken l.fn.sink) (g.W.Sink.taken l.sink);
     }
 
 abbrev pub decreases-chunks : goal.decreases-chunks

@@ -12,11 +12,11 @@ use Rattle.symfilter_engine.proofs.copying.write_chunk.Goals as goal
 
 pub returns-in_err-write_whole-in-Lines-clause-err : goal.returns-in_err-write_whole-in-Lines-clause-err
 returns-in_err-write_whole-in-Lines-clause-err g c =
-    at_fault _ (lines_front c.args.symbols _ c.args.inside c.args.bytes.now c.ended_len-ended.result _ _ c.in-Lines.is c.in_err-write_whole-in-Lines.ensures.err)
+    at_fault _ (lines_front c.args.placement _ c.args.inside c.args.bytes.now c.ended_len-ended.result _ _ c.in-Lines.is c.in_err-write_whole-in-Lines.ensures.err)
 
 pub returns-in_err-write_whole-in-Lines-clause-memory : goal.returns-in_err-write_whole-in-Lines-clause-memory
 returns-in_err-write_whole-in-Lines-clause-memory g c = λ refused.
-    lines_some c.args.symbols _ c.args.inside c.args.bytes.now c.ended_len-ended.result _ _ c.in-Lines.is (c.in_err-write_whole-in-Lines.ensures.memory (search rules))
+    lines_some c.args.placement _ c.args.inside c.args.bytes.now c.ended_len-ended.result _ _ c.in-Lines.is (c.in_err-write_whole-in-Lines.ensures.memory (search rules))
 
 pub returns-in_err-write_all-in-Words-clause-err : goal.returns-in_err-write_all-in-Words-clause-err
 returns-in_err-write_all-in-Words-clause-err g c =
@@ -34,7 +34,7 @@ pub whole_words_len-whole-requires-clause-before : goal.whole_words_len-whole-re
 whole_words_len-whole-requires-clause-before g c =
     let first = c.first_word-first in
     subst (λ l. All IsWordByte (take c.args.seen l)) (sym (take_rest c.args.bytes.now first.result.0))
-    (words_before c.args.symbols c.in-Words.options c.args.inside c.args.bytes.now c.args.seen first.result.0 c.in-Words.is c.requires.kept c.requires.none first.ensures.outside)
+    (words_before c.args.placement c.in-Words.options c.args.inside c.args.bytes.now c.args.seen first.result.0 c.in-Words.is c.requires.kept c.requires.none first.ensures.outside)
 
 pub returns-in_err-write_whole-in-Words-clause-err : goal.returns-in_err-write_whole-in-Words-clause-err
 returns-in_err-write_whole-in-Words-clause-err g c =
@@ -84,7 +84,7 @@ returns-in_err-write_all-in-Words-2-clause-err g c =
     (subst (λ l. WritesFront l (g.W.Sink.taken c.write_whole-in-Words.new.sink) (g.W.Sink.taken c.write_all-in-Words.new.sink)) same c.in_err-write_all-in-Words-2.ensures.err))))
 
 pub returns-in_ok-write_all-in-Words-2-clause-held : goal.returns-in_ok-write_all-in-Words-2-clause-held
-returns-in_ok-write_all-in-Words-2-clause-held g c = none_kept c.args.symbols _ (drop-length c.args.bytes.now)
+returns-in_ok-write_all-in-Words-2-clause-held g c = none_kept c.args.placement _ (drop-length c.args.bytes.now)
 
 pub returns-in_ok-write_all-in-Words-2-clause-ok : goal.returns-in_ok-write_all-in-Words-2-clause-ok
 returns-in_ok-write_all-in-Words-2-clause-ok g c =

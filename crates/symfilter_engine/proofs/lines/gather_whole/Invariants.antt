@@ -7,7 +7,7 @@ invariant-loop-output l =
     record {
       inside : length l.rest ≤ length l.whole;
       left : l.rest ≡ drop (length l.whole - length l.rest) l.whole;
-      so_far : AreWholeFiltered l.symbols (take (length l.whole - length l.rest) l.whole) l.output;
+      so_far : AreWholeFiltered l.placement (take (length l.whole - length l.rest) l.whole) l.output;
       -- nothing is appended before the first line
       empty : length l.rest ≡ length l.whole → l.output ≡ [];
     }

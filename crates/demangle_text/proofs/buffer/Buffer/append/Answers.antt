@@ -10,21 +10,21 @@ use Rattle.demangle_text.proofs.Tails.{Lives-inserted, IsEditOf-spliced, own-fit
 use Rattle.demangle_text.proofs.Brought.{KeepsAll-left, IsStore-extended, IsEdit-extended, IsSplice-added}
 use Rattle.demangle_text.proofs.buffer.Buffer.append.Goals as goal
 
-pub returns-in_err-taken_back-clause-err : goal.returns-in_err-taken_back-clause-err
-returns-in_err-taken_back-clause-err c =
+pub returns-in_err-truncated_on_err-clause-err : goal.returns-in_err-truncated_on_err-clause-err
+returns-in_err-truncated_on_err-clause-err c =
     let s = store_of c.self.inside in
     let mid = c.at_end.new.output in
     let done = c.add-added.new.self in
-    let failed : done ≡ mid = subst (λ r. OnErr r (done ≡ mid)) (sym c.in_err-taken_back.ensures.same) c.add-added.ensures.err in
-    on_err_from c.from_residual-in_err-taken_back.result (rw (← c.self.view_is)
-    (KeepsAll-left s mid done c.taken_back.new.output c.len-len.result c.len-len.ensures.value c.in_ok-from.ensures.brought.longer failed c.in_err-taken_back.ensures.err))
+    let failed : done ≡ mid = subst (λ r. OnErr r (done ≡ mid)) (sym c.in_err-truncated_on_err.ensures.same) c.add-added.ensures.err in
+    on_err_from c.from_residual-in_err-truncated_on_err.result (rw (← c.self.view_is)
+    (KeepsAll-left s mid done c.truncated_on_err.new.output c.len-len.result c.len-len.ensures.value c.in_ok-from.ensures.brought.longer failed c.in_err-truncated_on_err.ensures.err))
 
 pub invariant_of-self-2 : goal.invariant_of-self-2
 invariant_of-self-2 c =
     let mid = c.at_end.new.output in
     let more = c.args.bytes.now in
     let done = c.add-added.new.self in
-    let is = c.in_ok-taken_back.ensures.ok ∙ subst (λ r. OnOk r (done ≡ mid ++ more)) (sym c.in_ok-taken_back.ensures.same) c.add-added.ensures.ok in
+    let is = c.in_ok-truncated_on_err.ensures.ok ∙ subst (λ r. OnOk r (done ≡ mid ++ more)) (sym c.in_ok-truncated_on_err.ensures.same) c.add-added.ensures.ok in
     IsStore-extended (store_of c.self.inside) mid more _ c.self.invariant c.in_ok-from.ensures.brought.longer is
 
 pub returns-clause-edit : goal.returns-clause-edit
@@ -32,7 +32,7 @@ returns-clause-edit c =
     let mid = c.at_end.new.output in
     let more = c.args.bytes.now in
     let done = c.add-added.new.self in
-    let is = c.in_ok-taken_back.ensures.ok ∙ subst (λ r. OnOk r (done ≡ mid ++ more)) (sym c.in_ok-taken_back.ensures.same) c.add-added.ensures.ok in
+    let is = c.in_ok-truncated_on_err.ensures.ok ∙ subst (λ r. OnOk r (done ≡ mid ++ more)) (sym c.in_ok-truncated_on_err.ensures.same) c.add-added.ensures.ok in
     rw (← c.self.view_is) (IsEdit-extended (store_of c.self.inside) mid more _ c.self.invariant c.in_ok-from.ensures.brought.longer is)
 
 pub with_bytes-requires-clause-own_fits : goal.with_bytes-requires-clause-own_fits
@@ -41,8 +41,8 @@ with_bytes-requires-clause-own_fits c =
     let s = store_of c.self.inside in
     let p = c.args.piece in
     let done = c.add-added.new.self in
-    let added = subst (λ r. OnOk r (done ≡ c.at_end.new.output ++ c.args.bytes.now)) (sym c.in_ok-taken_back.ensures.same) c.add-added.ensures.ok in
-    let splice = IsSplice-added s b c.taken_back.new.output p _ _ c.in_ok-from.from c.self.view_is c.requires.living c.in_ok-from.ensures.brought (c.in_ok-taken_back.ensures.ok ∙ added) in
+    let added = subst (λ r. OnOk r (done ≡ c.at_end.new.output ++ c.args.bytes.now)) (sym c.in_ok-truncated_on_err.ensures.same) c.add-added.ensures.ok in
+    let splice = IsSplice-added s b c.truncated_on_err.new.output p _ _ c.in_ok-from.from c.self.view_is c.requires.living c.in_ok-from.ensures.brought (c.in_ok-truncated_on_err.ensures.ok ∙ added) in
     let fits = own-fits b _ p (p.to_byte - p.from_byte) c.args.bytes.now c.in_ok-from.from c.requires.living splice in
     omega (arith, fits, c.len.ensures.value, c.len.type_inv)
 
@@ -52,8 +52,8 @@ with_bytes-requires-clause-layout_fits c =
     let s = store_of c.self.inside in
     let p = c.args.piece in
     let done = c.add-added.new.self in
-    let added = subst (λ r. OnOk r (done ≡ c.at_end.new.output ++ c.args.bytes.now)) (sym c.in_ok-taken_back.ensures.same) c.add-added.ensures.ok in
-    let splice = IsSplice-added s b c.taken_back.new.output p _ _ c.in_ok-from.from c.self.view_is c.requires.living c.in_ok-from.ensures.brought (c.in_ok-taken_back.ensures.ok ∙ added) in
+    let added = subst (λ r. OnOk r (done ≡ c.at_end.new.output ++ c.args.bytes.now)) (sym c.in_ok-truncated_on_err.ensures.same) c.add-added.ensures.ok in
+    let splice = IsSplice-added s b c.truncated_on_err.new.output p _ _ c.in_ok-from.from c.self.view_is c.requires.living c.in_ok-from.ensures.brought (c.in_ok-truncated_on_err.ensures.ok ∙ added) in
     let fits = layout-fits b _ p (p.to_byte - p.from_byte) c.args.bytes.now c.in_ok-from.from c.requires.living splice in
     omega (arith, fits, c.len.ensures.value, c.len.type_inv)
 
@@ -66,8 +66,8 @@ returns-clause-shape c =
     let bytes = c.args.bytes.now in
     let m = c.with_bytes.ensures in
     let done = c.add-added.new.self in
-    let added = subst (λ r. OnOk r (done ≡ c.at_end.new.output ++ bytes)) (sym c.in_ok-taken_back.ensures.same) c.add-added.ensures.ok in
-    let splice = IsSplice-added s b c.taken_back.new.output p _ _ from c.self.view_is c.requires.living c.in_ok-from.ensures.brought (c.in_ok-taken_back.ensures.ok ∙ added) in
+    let added = subst (λ r. OnOk r (done ≡ c.at_end.new.output ++ bytes)) (sym c.in_ok-truncated_on_err.ensures.same) c.add-added.ensures.ok in
+    let splice = IsSplice-added s b c.truncated_on_err.new.output p _ _ from c.self.view_is c.requires.living c.in_ok-from.ensures.brought (c.in_ok-truncated_on_err.ensures.ok ∙ added) in
     let k = c.len.ensures.value in
     Lives-inserted b _ p (p.to_byte - p.from_byte) bytes from c.requires.living splice c.with_bytes.result (subst (IsAt c.with_bytes.result from) k m.stands)
     End tt refl m.layout
@@ -82,18 +82,18 @@ returns-clause-edit_of c =
     let q = c.with_bytes.result in
     let from = c.in_ok-from.from in
     let done = c.add-added.new.self in
-    let added = subst (λ r. OnOk r (done ≡ c.at_end.new.output ++ c.args.bytes.now)) (sym c.in_ok-taken_back.ensures.same) c.add-added.ensures.ok in
-    let splice = IsSplice-added s b c.taken_back.new.output p _ _ from c.self.view_is c.requires.living c.in_ok-from.ensures.brought (c.in_ok-taken_back.ensures.ok ∙ added) in
+    let added = subst (λ r. OnOk r (done ≡ c.at_end.new.output ++ c.args.bytes.now)) (sym c.in_ok-truncated_on_err.ensures.same) c.add-added.ensures.ok in
+    let splice = IsSplice-added s b c.truncated_on_err.new.output p _ _ from c.self.view_is c.requires.living c.in_ok-from.ensures.brought (c.in_ok-truncated_on_err.ensures.ok ∙ added) in
     IsEditOf-spliced b _ p q (p.to_byte - p.from_byte) from c.args.bytes.now splice (subst (IsAt q from) c.len.ensures.value c.with_bytes.ensures.stands)
 
 pub at_end-requires-clause-ordered : goal.at_end-requires-clause-ordered
 unfolding internals
 at_end-requires-clause-ordered c = grind (arith, states)
 
-pub taken_back-requires : goal.taken_back-requires
+pub truncated_on_err-requires : goal.truncated_on_err-requires
 unfolding internals
-taken_back-requires c = grind (arith, common_steps)
+truncated_on_err-requires c = grind (arith, common_steps)
 
-pub invariant_of-self-in_err-taken_back : goal.invariant_of-self-in_err-taken_back
+pub invariant_of-self-in_err-truncated_on_err : goal.invariant_of-self-in_err-truncated_on_err
 unfolding internals
-invariant_of-self-in_err-taken_back c = grind (arith, common_steps)
+invariant_of-self-in_err-truncated_on_err c = grind (arith, common_steps)

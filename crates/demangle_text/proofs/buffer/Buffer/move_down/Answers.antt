@@ -22,14 +22,14 @@ returns-then-from-at-2-clause-edit c =
     rw (← c.self.view_is, c.in_ok-add_text.ensures.ok) (IsEdit-keeps _ _ (KeepsAll-longer (store_of c.self.inside) _ c.self.invariant))
 
 -- what is kept lies in the texts
-pub set_apart-requires-clause-saved : goal.set_apart-requires-clause-saved
-set_apart-requires-clause-saved c = rw c.as_slice.ensures.value (elim c.if-spilled.branch [
+pub spill_torn-requires-clause-saved : goal.spill_torn-requires-clause-saved
+spill_torn-requires-clause-saved c = rw c.as_slice.ensures.value (elim c.if-spilled.branch [
   | then-spilled+in_ok-add_text+else-from-at-2 w ↦ rw (w.self-inside-is, w.in_ok-add_text.ensures.ok) ((IsStore-longer (store_of c.self.inside) _ c.self.invariant).saved_lie)
   | else-spilled+else-from-at w ↦ rw w.self-inside-is c.self.invariant.saved_lie
 ])
 
-pub set_apart-requires-clause-args : goal.set_apart-requires-clause-args
-set_apart-requires-clause-args c = rw c.as_slice.ensures.value (elim c.if-spilled.branch [
+pub spill_torn-requires-clause-args : goal.spill_torn-requires-clause-args
+spill_torn-requires-clause-args c = rw c.as_slice.ensures.value (elim c.if-spilled.branch [
   | then-spilled+in_ok-add_text+else-from-at-2 w ↦ rw (w.self-inside-is, w.in_ok-add_text.ensures.ok) ((IsStore-longer (store_of c.self.inside) _ c.self.invariant).args_lie)
   | else-spilled+else-from-at w ↦ rw w.self-inside-is c.self.invariant.args_lie
 ])
@@ -38,7 +38,7 @@ set_apart-requires-clause-args c = rw c.as_slice.ensures.value (elim c.if-spille
 abbrev part : Store → Bool → ℕ → ℕ → List ℕ
 part s spilled from to = slice_range (home_bytes s.output_text s.spill_text spilled) from to
 
-block : (c : goal.After-carry-2) → IsBlock (store_of c.self.inside) (store_of c.if-spilled.self-inside) (part (store_of c.self.inside) c.args.spilled c.args.from c.args.to) c.args.at c.if-spilled.from c.if-spilled.to
+block : (c : goal.After-shift-2) → IsBlock (store_of c.self.inside) (store_of c.if-spilled.self-inside) (part (store_of c.self.inside) c.args.spilled c.args.from c.args.to) c.args.at c.if-spilled.from c.if-spilled.to
 block c =
     let s = store_of c.self.inside in
     let mark : s.marked_len ≡ c.args.at = ap (λ (b : Store). b.marked_len) c.self.view_is ∙ c.requires.mark in
@@ -52,27 +52,27 @@ block c =
           IsBlock-here s c.args.spilled c.args.at c.args.from c.args.to c.self.invariant mark w.if-spilled.false c.requires.ordered within)
     ]
 
-moves : (c : goal.After-carry-2) → Moves (store_of c.if-spilled.self-inside).output_text c.keep.new.self c.args.at c.if-spilled.from c.if-spilled.to c.args.at
+moves : (c : goal.After-shift-2) → Moves (store_of c.if-spilled.self-inside).output_text c.keep.new.self c.args.at c.if-spilled.from c.if-spilled.to c.args.at
 moves c =
     let b = block c in
     Moves-kept (store_of c.if-spilled.self-inside).output_text c.keep.new.self c.args.at c.if-spilled.from c.if-spilled.to b.low b.ordered b.within c.keep.ensures.value
 
 pub invariant_of-self-2 : goal.invariant_of-self-2
 invariant_of-self-2 c =
-    let a = c.in_ok-set_apart.ensures in
+    let a = c.in_ok-spill_torn.ensures in
     let b = block c in
-    (IsStore-after (store_of c.if-spilled.self-inside) _ _ _ _ c.as_slice.ensures.value c.set_apart.ensures.spilled
-    _ _ _ _ _ _ _ b.store a.saved_apart a.args_apart c.carry.ensures.value c.carry-2.ensures.value
+    (IsStore-after (store_of c.if-spilled.self-inside) _ _ _ _ c.as_slice.ensures.value c.spill_torn.ensures.spilled
+    _ _ _ _ _ _ _ b.store a.saved_apart a.args_apart c.shift.ensures.value c.shift-2.ensures.value
     (moves c) b.inner)
 
 pub returns-clause-edit : goal.returns-clause-edit
 returns-clause-edit c =
-    let a = c.in_ok-set_apart.ensures in
+    let a = c.in_ok-spill_torn.ensures in
     let b = block c in
     rw (← c.self.view_is)
     (IsEdit-trans _ _ _ (IsEdit-keeps _ _ b.keeps)
-    (IsEdit-after (store_of c.if-spilled.self-inside) _ _ _ _ c.as_slice.ensures.value c.set_apart.ensures.spilled
-    _ _ _ _ _ _ _ b.store a.saved_apart a.args_apart c.carry.ensures.value c.carry-2.ensures.value
+    (IsEdit-after (store_of c.if-spilled.self-inside) _ _ _ _ c.as_slice.ensures.value c.spill_torn.ensures.spilled
+    _ _ _ _ _ _ _ b.store a.saved_apart a.args_apart c.shift.ensures.value c.shift-2.ensures.value
     (moves c) b.inner))
 
 pub returns-clause-output : goal.returns-clause-output
@@ -82,18 +82,18 @@ pub returns-then-from-at-2-clause-output : goal.returns-then-from-at-2-clause-ou
 unfolding IsLiving shape main_bytes Stands frame_start frame outermost IsOlder IsAsOld inside outside saved scopes
 returns-then-from-at-2-clause-output c = grind (arith, common_steps)
 
-pub invariant_of-self-in_err-set_apart : goal.invariant_of-self-in_err-set_apart
+pub invariant_of-self-in_err-spill_torn : goal.invariant_of-self-in_err-spill_torn
 unfolding IsLiving shape main_bytes Stands frame_start frame outermost IsOlder IsAsOld inside outside saved scopes
-invariant_of-self-in_err-set_apart c = grind (arith, common_steps)
+invariant_of-self-in_err-spill_torn c = grind (arith, common_steps)
 
 pub keep-requires-clause-ordered : goal.keep-requires-clause-ordered
 unfolding IsLiving shape main_bytes Stands frame_start frame outermost IsOlder IsAsOld inside outside saved scopes
 keep-requires-clause-ordered c = grind (arith, common_steps)
 
-pub carry-requires-clause-block : goal.carry-requires-clause-block
+pub shift-requires-clause-block : goal.shift-requires-clause-block
 unfolding IsLiving shape main_bytes Stands frame_start frame outermost IsOlder IsAsOld inside outside saved scopes
-carry-requires-clause-block c = grind (arith, common_steps)
+shift-requires-clause-block c = grind (arith, common_steps)
 
-pub carry-requires-2-clause-block : goal.carry-requires-2-clause-block
+pub shift-requires-2-clause-block : goal.shift-requires-2-clause-block
 unfolding IsLiving shape main_bytes Stands frame_start frame outermost IsOlder IsAsOld inside outside saved scopes
-carry-requires-2-clause-block c = grind (arith, common_steps)
+shift-requires-2-clause-block c = grind (arith, common_steps)

@@ -17,18 +17,18 @@ spilled m spill was new saved saved' args args' same a = subst (λ (v : List ℕ
 room : (output was new : List ℕ) (at n : ℕ) → output ≡ was → HasRoom (take at output) (drop at output) new n → HasRoom (take at was) (drop at was) new n
 room output was new at n same h = subst (λ (v : List ℕ). HasRoom (take at v) (drop at v) new n) same h
 
-pub returns-in_err-set_apart-clause-err : goal.returns-in_err-set_apart-clause-err
-returns-in_err-set_apart-clause-err c =
+pub returns-in_err-spill_torn-clause-err : goal.returns-in_err-spill_torn-clause-err
+returns-in_err-spill_torn-clause-err c =
     let same : KeepsAll c.args.self.now _ =
     rw (← c.self.view_is, c.reserve.ensures.same)
-    (KeepsAll-spilled (store_of c.self.inside) _ _ _ _ (c.as_slice.ensures.value ∙ c.reserve.ensures.same) (spilled _ _ _ _ _ _ _ _ c.reserve-2.ensures.same c.set_apart.ensures.spilled)) in
-    on_err_from c.from_residual-in_err-set_apart.result same
+    (KeepsAll-spilled (store_of c.self.inside) _ _ _ _ (c.as_slice.ensures.value ∙ c.reserve.ensures.same) (spilled _ _ _ _ _ _ _ _ c.reserve-2.ensures.same c.spill_torn.ensures.spilled)) in
+    on_err_from c.from_residual-in_err-spill_torn.result same
 
 pub returns-in_err-open_room-clause-err : goal.returns-in_err-open_room-clause-err
 returns-in_err-open_room-clause-err c =
     let same : KeepsAll c.args.self.now _ =
     rw (← c.self.view_is, c.in_err-open_room.ensures.err, c.reserve.ensures.same)
-    (KeepsAll-spilled (store_of c.self.inside) _ _ _ _ (c.as_slice.ensures.value ∙ c.reserve.ensures.same) (spilled _ _ _ _ _ _ _ _ c.reserve-2.ensures.same c.set_apart.ensures.spilled)) in
+    (KeepsAll-spilled (store_of c.self.inside) _ _ _ _ (c.as_slice.ensures.value ∙ c.reserve.ensures.same) (spilled _ _ _ _ _ _ _ _ c.reserve-2.ensures.same c.spill_torn.ensures.spilled)) in
     on_err_from c.from_residual-in_err-open_room.result same
 
 -- the place lies in the text, and no earlier than the mark
@@ -54,14 +54,14 @@ overflow_add-dest c =
     let s = store_of c.self.inside in
     omega (arith, place s _ c.args.at c.self.view_is c.requires.within, c.len-len.ensures.value, c.len.type_inv)
 
-pub carry-requires-clause-fits : goal.carry-requires-clause-fits
-carry-requires-clause-fits c =
+pub shift-requires-clause-fits : goal.shift-requires-clause-fits
+shift-requires-clause-fits c =
     let s = store_of c.self.inside in
     let n = longer s _ _ c.args.at _ c.self.view_is c.requires.within (room _ _ _ c.args.at _ c.reserve.ensures.same c.in_ok-open_room.ensures.ok) in
     let within = place s _ c.args.at c.self.view_is c.requires.within in
     omega (arith, n, within, c.len-len.ensures.value, c.len.ensures.value, c.len.type_inv)
 
-moved_by : (c : goal.After-carry-2) → c.args.at + (c.len.result - c.len-len.result) ≡ c.args.at + c.args.n
+moved_by : (c : goal.After-shift-2) → c.args.at + (c.len.result - c.len-len.result) ≡ c.args.at + c.args.n
 moved_by c =
     let s = store_of c.self.inside in
     let n = longer s _ _ c.args.at _ c.self.view_is c.requires.within (room _ _ _ c.args.at _ c.reserve.ensures.same c.in_ok-open_room.ensures.ok) in
@@ -71,9 +71,9 @@ pub invariant_of-self-2 : goal.invariant_of-self-2
 invariant_of-self-2 c =
     let s = store_of c.self.inside in
     let at = c.args.at in
-    let a = c.in_ok-set_apart.ensures in
-    (IsStore-opened s _ _ _ _ _ _ at c.args.n _ _ (c.as_slice.ensures.value ∙ c.reserve.ensures.same) (spilled _ _ _ _ _ _ _ _ c.reserve-2.ensures.same c.set_apart.ensures.spilled)
-    a.saved_apart a.args_apart c.carry.ensures.value c.carry-2.ensures.value
+    let a = c.in_ok-spill_torn.ensures in
+    (IsStore-opened s _ _ _ _ _ _ at c.args.n _ _ (c.as_slice.ensures.value ∙ c.reserve.ensures.same) (spilled _ _ _ _ _ _ _ _ c.reserve-2.ensures.same c.spill_torn.ensures.spilled)
+    a.saved_apart a.args_apart c.shift.ensures.value c.shift-2.ensures.value
     c.self.invariant (low s _ at c.self.view_is c.requires.inner) (place s _ at c.self.view_is c.requires.within)
     c.len-len.ensures.value (moved_by c) _ (room _ _ _ c.args.at _ c.reserve.ensures.same c.in_ok-open_room.ensures.ok))
 
@@ -81,9 +81,9 @@ pub returns-clause-gap : goal.returns-clause-gap
 returns-clause-gap c =
     let s = store_of c.self.inside in
     let at = c.args.at in
-    let a = c.in_ok-set_apart.ensures in
+    let a = c.in_ok-spill_torn.ensures in
     rw (← c.self.view_is)
-    (IsGap-opened s _ _ _ _ _ _ at c.args.n _ _ (c.as_slice.ensures.value ∙ c.reserve.ensures.same) (spilled _ _ _ _ _ _ _ _ c.reserve-2.ensures.same c.set_apart.ensures.spilled)
-    a.saved_apart a.args_apart c.carry.ensures.value c.carry-2.ensures.value
+    (IsGap-opened s _ _ _ _ _ _ at c.args.n _ _ (c.as_slice.ensures.value ∙ c.reserve.ensures.same) (spilled _ _ _ _ _ _ _ _ c.reserve-2.ensures.same c.spill_torn.ensures.spilled)
+    a.saved_apart a.args_apart c.shift.ensures.value c.shift-2.ensures.value
     c.self.invariant (low s _ at c.self.view_is c.requires.inner) (place s _ at c.self.view_is c.requires.within)
     c.len-len.ensures.value (moved_by c) _ (room _ _ _ c.args.at _ c.reserve.ensures.same c.in_ok-open_room.ensures.ok))

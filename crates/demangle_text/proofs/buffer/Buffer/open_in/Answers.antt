@@ -18,15 +18,15 @@ returns-then-is_tail-clause-opened c =
     IsOpen-tail c.args.self.now c.open_gap.new.self c.args.piece c.args.at c.args.n (tail-is (store_of c.self.inside) c.args.self.now c.args.piece c.len.result c.self.view_is c.len.ensures.value (c.is_tail.ensures.tail c.if-is_tail.true))
     c.requires.living.ordered c.requires.within c.in_ok-open_gap.ensures.gap
 
-pub returns-in_err-taken_back-clause-err : goal.returns-in_err-taken_back-clause-err
-returns-in_err-taken_back-clause-err c =
+pub returns-in_err-truncated_on_err-clause-err : goal.returns-in_err-truncated_on_err-clause-err
+returns-in_err-truncated_on_err-clause-err c =
     let s = store_of c.self.inside in
     let mid = c.add_text.new.output in
     let done = c.open_room-opened.new.self in
-    let failed : done ≡ mid = subst (λ r. OnErr r (done ≡ mid)) (sym c.in_err-taken_back.ensures.same) c.open_room-opened.ensures.err in
-    on_err_from c.from_residual-in_err-taken_back.result (rw (← c.self.view_is)
-    (KeepsAll-left s mid done c.taken_back.new.output c.len-from.result c.len-from.ensures.value
-    (record { more = piece_text s.output_text s.spill_text c.args.piece; all = c.in_ok-add_text.ensures.ok }) failed c.in_err-taken_back.ensures.err))
+    let failed : done ≡ mid = subst (λ r. OnErr r (done ≡ mid)) (sym c.in_err-truncated_on_err.ensures.same) c.open_room-opened.ensures.err in
+    on_err_from c.from_residual-in_err-truncated_on_err.result (rw (← c.self.view_is)
+    (KeepsAll-left s mid done c.truncated_on_err.new.output c.len-from.result c.len-from.ensures.value
+    (record { more = piece_text s.output_text s.spill_text c.args.piece; all = c.in_ok-add_text.ensures.ok }) failed c.in_err-truncated_on_err.ensures.err))
 
 pub invariant_of-self-2 : goal.invariant_of-self-2
 invariant_of-self-2 c =
@@ -46,10 +46,10 @@ invariant_of-self-2 c =
     let place = c.len-2.result - (c.text_len.result - at) in
     let there : place ≡ from + at =
     omega (arith, c.len-2.ensures.value, c.len-from.ensures.value, c.text_len.ensures.value, c.requires.within, ap length copied, length-append s.output_text text, length-text s p lies) in
-    let opened = subst (λ r. OnOk r (HasRoom (take place mid) (drop place mid) done n)) (sym c.in_ok-taken_back.ensures.same) c.open_room-opened.ensures.ok in
+    let opened = subst (λ r. OnOk r (HasRoom (take place mid) (drop place mid) done n)) (sym c.in_ok-truncated_on_err.ensures.same) c.open_room-opened.ensures.ok in
     let moved = subst (λ (i : ℕ). HasRoom (take i mid) (drop i mid) done n) there opened in
-    let room = subst (λ (v : List ℕ). HasRoom (take (from + at) mid) (drop (from + at) mid) v n) (sym c.in_ok-taken_back.ensures.ok) moved in
-    IsStore-copied s p mid c.taken_back.new.output at n from c.self.invariant lies apart c.len-from.ensures.value c.requires.within copied room
+    let room = subst (λ (v : List ℕ). HasRoom (take (from + at) mid) (drop (from + at) mid) v n) (sym c.in_ok-truncated_on_err.ensures.ok) moved in
+    IsStore-copied s p mid c.truncated_on_err.new.output at n from c.self.invariant lies apart c.len-from.ensures.value c.requires.within copied room
 
 pub returns-clause-opened : goal.returns-clause-opened
 returns-clause-opened c =
@@ -69,22 +69,22 @@ returns-clause-opened c =
     let place = c.len-2.result - (c.text_len.result - at) in
     let there : place ≡ from + at =
     omega (arith, c.len-2.ensures.value, c.len-from.ensures.value, c.text_len.ensures.value, c.requires.within, ap length copied, length-append s.output_text text, length-text s p lies) in
-    let opened = subst (λ r. OnOk r (HasRoom (take place mid) (drop place mid) done n)) (sym c.in_ok-taken_back.ensures.same) c.open_room-opened.ensures.ok in
+    let opened = subst (λ r. OnOk r (HasRoom (take place mid) (drop place mid) done n)) (sym c.in_ok-truncated_on_err.ensures.same) c.open_room-opened.ensures.ok in
     let moved = subst (λ (i : ℕ). HasRoom (take i mid) (drop i mid) done n) there opened in
-    let room = subst (λ (v : List ℕ). HasRoom (take (from + at) mid) (drop (from + at) mid) v n) (sym c.in_ok-taken_back.ensures.ok) moved in
-    rw (← c.self.view_is) (IsOpen-copied s p mid c.taken_back.new.output at n from c.self.invariant lies apart c.len-from.ensures.value c.requires.within copied room)
+    let room = subst (λ (v : List ℕ). HasRoom (take (from + at) mid) (drop (from + at) mid) v n) (sym c.in_ok-truncated_on_err.ensures.ok) moved in
+    rw (← c.self.view_is) (IsOpen-copied s p mid c.truncated_on_err.new.output at n from c.self.invariant lies apart c.len-from.ensures.value c.requires.within copied room)
 
 pub overflow_sub-len : goal.overflow_sub-len
 unfolding IsLiving shape main_bytes Stands frame_start frame outermost IsOlder IsAsOld inside outside saved scopes
 overflow_sub-len c = grind (arith, common_steps)
 
-pub taken_back-requires : goal.taken_back-requires
+pub truncated_on_err-requires : goal.truncated_on_err-requires
 unfolding IsLiving shape main_bytes Stands frame_start frame outermost IsOlder IsAsOld inside outside saved scopes
-taken_back-requires c = grind (arith, common_steps)
+truncated_on_err-requires c = grind (arith, common_steps)
 
-pub invariant_of-self-in_err-taken_back : goal.invariant_of-self-in_err-taken_back
+pub invariant_of-self-in_err-truncated_on_err : goal.invariant_of-self-in_err-truncated_on_err
 unfolding IsLiving shape main_bytes Stands frame_start frame outermost IsOlder IsAsOld inside outside saved scopes
-invariant_of-self-in_err-taken_back c = grind (arith, common_steps)
+invariant_of-self-in_err-truncated_on_err c = grind (arith, common_steps)
 
 pub returns-clause-fits : goal.returns-clause-fits
 unfolding IsLiving shape main_bytes Stands frame_start frame outermost IsOlder IsAsOld inside outside saved scopes

@@ -1,12 +1,12 @@
 use Rattle.std.proofs.Common.{sym, ap}
-use Rattle.symfilter_engine.specs.Fault.{words_of}
+use Rattle.symfilter_engine.specs.Fault.{line_of}
 use Rattle.symfilter_engine.proofs.fault.FilterFault.line.Goals as goal
 
 pub returns-in-Read : goal.returns-in-Read
-returns-in-Read c = record { words = ap words_of (sym c.in-Read.is) }
+returns-in-Read c = record { words = ap line_of (sym c.in-Read.is) }
 
 pub returns-in-Write : goal.returns-in-Write
-returns-in-Write c = record { words = ap words_of (sym c.in-Write.is) }
+returns-in-Write c = record { words = ap line_of (sym c.in-Write.is) }
 
 pub returns-in-Memory : goal.returns-in-Memory
-returns-in-Memory c = record { words = ap words_of (sym c.in-Memory.is) }
+returns-in-Memory c = record { words = ap line_of (sym c.in-Memory.is) }

@@ -9,8 +9,8 @@ use Rattle.demangle_text.specs.declared.piece_list.Entry.{Entry}
 use Rattle.demangle_text.specs.Pieces.{EndsBy, IsApart, carried, pieces_of, reaches_of}
 use Rattle.demangle_text.proofs.Bounds.{carried-stays, carried-moves}
 use Rattle.demangle_text.proofs.Reaches.{over_at, over_start, reached-fewer, reached-set_kept, within-ends}
-use Rattle.demangle_text.proofs.piece_list.PieceList.carry.Goals as goal
-use Rattle.demangle_text.proofs.piece_list.PieceList.carry.Goals.{then-not-piece, then-block-piece, else-block-piece, else-not-piece}
+use Rattle.demangle_text.proofs.piece_list.PieceList.shift.Goals as goal
+use Rattle.demangle_text.proofs.piece_list.PieceList.shift.Goals.{then-not-piece, then-block-piece, else-block-piece, else-not-piece}
 
 not_true : (b : Bool) → not b ≡ true → b ≡ false
 not_true false e = refl

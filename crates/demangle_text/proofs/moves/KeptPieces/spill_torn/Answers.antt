@@ -1,10 +1,10 @@
 use Rattle.std.proofs.Common.{refl, ◌∙◌}
 use Rattle.demangle_text.proofs.States.{All-extends, shapes-extends, Extends-trans}
-use Rattle.demangle_text.proofs.moves.KeptPieces.set_apart.Goals as goal
+use Rattle.demangle_text.proofs.moves.KeptPieces.spill_torn.Goals as goal
 
-pub returns-in_err-evict-clause-spilled : goal.returns-in_err-evict-clause-spilled
-returns-in_err-evict-clause-spilled c =
-    let e = c.evict.ensures in
+pub returns-in_err-spill_torn_of-clause-spilled : goal.returns-in_err-spill_torn_of-clause-spilled
+returns-in_err-spill_torn_of-clause-spilled c =
+    let e = c.spill_torn_of.ensures in
     record {
       spill = e.spill;
       saved_lie = e.lie;
@@ -14,13 +14,13 @@ returns-in_err-evict-clause-spilled c =
       args_long = refl;
     }
 
-pub evict-requires-2 : goal.evict-requires-2
-evict-requires-2 c = record { lie = All-extends c.args.output.now _ _ c.evict.ensures.spill _ c.requires.args }
+pub spill_torn_of-requires-2 : goal.spill_torn_of-requires-2
+spill_torn_of-requires-2 c = record { lie = All-extends c.args.output.now _ _ c.spill_torn_of.ensures.spill _ c.requires.args }
 
 pub returns-clause-spilled : goal.returns-clause-spilled
 returns-clause-spilled c =
-    let e = c.evict.ensures in
-    let d = c.evict-2.ensures in
+    let e = c.spill_torn_of.ensures in
+    let d = c.spill_torn_of-2.ensures in
     record {
       spill = Extends-trans _ _ _ e.spill d.spill;
       saved_lie = All-extends c.args.output.now _ _ d.spill _ e.lie;

@@ -5,8 +5,8 @@ use Rattle.demangle_text.specs.declared.shape.Piece.{Piece}
 use Rattle.demangle_text.specs.Pieces.{IsApart, IsPiece, Extends, shape_in}
 use Rattle.demangle_text.proofs.States.{IsPiece-spilled, shape-spilled, replaced_lie, replaced_shapes, Extends-trans}
 use Rattle.demangle_text.proofs.Reaches.{within-apart}
-use Rattle.demangle_text.proofs.moves.evict.Goals as goal
-use Rattle.demangle_text.proofs.moves.evict.Goals.{then-is_torn+in_ok-add, else-is_torn}
+use Rattle.demangle_text.proofs.moves.spill_torn_of.Goals as goal
+use Rattle.demangle_text.proofs.moves.spill_torn_of.Goals.{then-is_torn+in_ok-add, else-is_torn}
 
 pub loop-i-init : goal.loop-i-init
 loop-i-init c = record {

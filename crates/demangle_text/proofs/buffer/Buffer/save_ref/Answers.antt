@@ -6,7 +6,7 @@ use Rattle.std.proofs.lemmas.List.Elements.{All-push}
 use Rattle.demangle_text.specs.Pieces.{Store, IsPiece}
 use Rattle.demangle_text.specs.State.{IsLiving}
 use Rattle.demangle_text.specs.View.{store_of}
-use Rattle.demangle_text.proofs.buffer.Buffer.save_in_place.Goals as goal
+use Rattle.demangle_text.proofs.buffer.Buffer.save_ref.Goals as goal
 
 pub invariant_of-self-2 : goal.invariant_of-self-2
 unfolding IsLiving

@@ -1,7 +1,7 @@
 use Rattle.std.proofs.Common.{◌≡◌, map, All, length}
 use Rattle.std.specs.List.{AllWithin}
 use Rattle.demangle_text.specs.Pieces.{IsPiece, shape_in, IsApart, Extends}
-use Rattle.demangle_text.proofs.moves.evict.Given as goal
+use Rattle.demangle_text.proofs.moves.spill_torn_of.Given as goal
 
 abbrev pub invariant-loop-i : goal.invariant-loop-i
 invariant-loop-i l = record {

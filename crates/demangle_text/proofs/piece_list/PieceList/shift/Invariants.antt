@@ -2,7 +2,7 @@
 use Rattle.std.proofs.Common.{◌≡◌, ◌++◌, map, take, drop, length}
 use Rattle.std.specs.List.{AllWithin}
 use Rattle.demangle_text.specs.Pieces.{AreReached, EndsBy, carried, pieces_of, reaches_of}
-use Rattle.demangle_text.proofs.piece_list.PieceList.carry.Given as goal
+use Rattle.demangle_text.proofs.piece_list.PieceList.shift.Given as goal
 
 abbrev pub invariant-loop-i : goal.invariant-loop-i
 invariant-loop-i l = record {
