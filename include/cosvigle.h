@@ -20,6 +20,9 @@
  * cosvigle_free. Any other NULL gives COSVIGLE_BAD_CALL. This holds for callers that include this header. The exported
  * calls themselves, as a program reaches them by dlsym or from another language, take no NULL.
  *
+ * Stack: for the deepest symbols that have a name or a signature, a call needs at most 96 KiB of its thread's stack.
+ * This is measured, and not proved.
+ *
  * The library has no unwind tables: a backtrace that is taken inside a call ends there. */
 #ifndef COSVIGLE_H
 #define COSVIGLE_H
@@ -49,10 +52,9 @@ enum {
     COSVIGLE_NOT_UTF8 = 4,  /* the symbol as a whole isn't UTF-8, and isn't read */
     COSVIGLE_BAD_CALL = 5   /* a pointer is NULL that must not be */
 };
-/* The parameter capacity is how many bytes of memory the caller gives for a text, from out on. If such a call returns
- * COSVIGLE_WRITTEN, it has written the text at the front of that memory, without a NUL at its end. The bytes after the
- * text are unchanged. With any other status nothing is written there, and *needed is 0 unless the status is
- * COSVIGLE_NO_ROOM. */
+/* out points to capacity bytes of memory of the caller. If a call with these parameters returns COSVIGLE_WRITTEN, the
+ * text is at out, without a NUL. The bytes after the text are unchanged. With any other status nothing is written to
+ * that memory, and *needed is 0 unless the status is COSVIGLE_NO_ROOM. */
 
 /* The version of the library: the major version times 1,000,000, the minor times 1,000, and the patch, added up. */
 uint32_t cosvigle_version(void);
@@ -87,12 +89,12 @@ int cosvigle_demangle(const char *symbol, size_t len, char *out, size_t capacity
 
 /* Writes a text with its symbols replaced by their demangled names, as the program cosvigle does.
  *
- * A word is a maximal run of ASCII letters, digits, _, $ and dots. It has three parts: a front, a symbol, and the dots
- * at its end. The front is one dot, one $, one __imp_ or nothing. The symbol is everything between the front and the
- * dots. It begins with _Z or __Z, and with strip also with ___Z, whose first underscore is then no part of it.
- * If the symbol has a demangled name, the word becomes its front, the name and its dots. So bytes of the word that
- * follow what was read are dropped, as in cosvigle_ask: foo for _Z3foov_Z3barv. A word without a symbol, or whose
- * symbol has no name, is kept. Bytes that are in no word are kept too.
+ * A word is a maximal run of ASCII letters, digits, _, $ and dots. It has three parts: prefix characters, a symbol,
+ * and the dots at its end. The prefix characters are one dot, one $, one __imp_ or nothing. The symbol is everything
+ * between them and the dots. It begins with _Z or __Z, and with strip also with ___Z, whose first underscore is then
+ * no part of it. If the symbol has a demangled name, the word becomes its prefix characters, the name and its dots. So
+ * bytes of the word that follow what was read are dropped, as in cosvigle_ask: foo for _Z3foov_Z3barv. A word without
+ * a symbol, or whose symbol has no name, is kept. Bytes that are in no word are kept too.
  *
  * The status is COSVIGLE_WRITTEN, COSVIGLE_NO_MEMORY or COSVIGLE_NO_ROOM, and COSVIGLE_BAD_CALL for a NULL. A call
  * takes more than 128 KiB of memory while it runs. So give it whole texts rather than single lines.
