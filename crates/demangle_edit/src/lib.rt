@@ -2,7 +2,8 @@
 //!
 //! An edit ends the pieces that were made since the innermost open mark, except the piece that it returns. Older
 //! pieces keep their shapes, and so do the substitution table and the arguments of the scopes. An edit returns an
-//! error only if an allocation fails. After that, `clear` of the buffer is the only call that is promised to work.
+//! error only if an allocation fails. Then all pieces and marks made before are lost, and no clause says what the
+//! output and the lists are. Calls of the buffer that require nothing, such as `clear`, keep their contracts.
 //!
 //! If a piece ends the output, and began at that mark or later, most edits change it where it is and leave no other
 //! byte after the mark (`in_place`). The other edits put their text at the end of the output (`appends`).

@@ -1,4 +1,5 @@
--- What calls of the buffer ask of a shape, answer of it and make of it, where no tree asks for that.
+-- For the contracts of the buffer and of the crates that call it: where a piece stands, which forms a call requires,
+-- the fields of a form, and those steps on shapes that the grammar doesn't use.
 use Rattle.std.specs.Prelude.{ℕ, ◌+◌, ◌-◌, ◌≤◌, List, ◌++◌, length}
 use Rattle.std.specs.Prelude.{take, drop, slice_range, false, Option, Some, None}
 use Rattle.demangle_text.specs.declared.shape.Kind.{Kind}

@@ -36,7 +36,7 @@ main_bytes b = b.output_text
 unfoldable pub Stands : Piece → ℕ → ℕ → Type 0
 Stands p from to = IsAt p from to
 
--- a frame is the stretch of calls from one mark to the next
+-- a frame: the part of the output from one open mark to the next, given by the byte at which it begins
 unfoldable pub Frame : Type 0
 Frame = ℕ
 
@@ -64,12 +64,12 @@ unfoldable pub frame_start : Frame → ℕ
 unfolding Frame
 frame_start f = f
 
--- the piece was made before the frame began, or lies in the spill, whose bytes stay
+-- p is older than f: p is in the spill, whose bytes stay, or it ends at the byte at which f begins or earlier
 unfoldable pub IsOlder : Piece → Frame → Type 0
 unfolding Frame
 IsOlder p f = EndsBy f p
 
--- what is answered for a piece was made when the piece was
+-- q is at least as old as p: q is older than every frame that p is older than
 unfoldable pub IsAsOld : Piece → Piece → Type 0
 IsAsOld p q = (f : Frame) → IsOlder p f → IsOlder q f
 
@@ -166,17 +166,19 @@ pub record IsEditOf (old new : Store) (piece answer : Piece) (n : ℕ) : Type 0 
   pub in_place : (at : ℕ) → frame_start (frame old) ≤ at → Stands piece at (length (main_bytes old))
       → Stands answer at (length (main_bytes new)) × (length (main_bytes new) ≡ length (main_bytes old) + n)
 
--- where the piece stands in the output, it ends by this byte, and before it unless it begins before the innermost
--- mark
+-- if the piece is in the output, it ends at this byte or earlier; if it also begins at the innermost mark or later, it
+-- ends before this byte
 abbrev pub StandsBefore : Store → Piece → ℕ → Type 0
 StandsBefore b p at = (from to : ℕ) → Stands p from to → (to ≤ at) × (frame_start (frame b) ≤ from → to < at)
 
--- both pieces in one, with n bytes between them: the answer stands up to the end of the output. Where the second
--- begins at the end of the first and stands up to that end, and the first stands from the innermost mark or later, the
--- start of the first stays, and the output grows by n bytes. Else, where the second stands up to that end, from the
--- innermost mark or later, and the first stands before it or nowhere in the output, the start of the second stays,
--- and the output grows by the first text and n bytes. Where the first stands up to that end, from the innermost mark
--- or later, its start stays, and the output grows by n bytes and the second text
+-- two pieces are joined into one, the answer, with n bytes between them. The answer ends the output. A piece is last
+-- here if it ends the output and begins at the innermost mark or later.
+-- `in_place`: the second piece is last, and the first begins at the innermost mark or later and ends where the second
+-- begins. Then the answer begins where the first piece began, and the output grows by n bytes.
+-- `in_front`: the second piece is last, and `StandsBefore` holds of the first. Then the answer begins where the second
+-- piece began, and the output grows by the first text and n bytes.
+-- `after`: the first piece is last. Then the answer begins where it began, and the output grows by n bytes and the
+-- second text.
 pub record IsJoinOf (old new : Store) (first second answer : Piece) (n : ℕ) : Type 0 where
   pub front : KeepsFront old new
   pub ends : EndsMain old new answer

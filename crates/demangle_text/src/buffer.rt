@@ -103,8 +103,9 @@ impl Buffer {
     }
 
     /// Closes the innermost mark. The piece keeps its shape and becomes all of the output since the mark. It counts as
-    /// made under the mark outside. The other pieces made since the mark end. After `AllocError`, `clear` is the only
-    /// call that is promised to work.
+    /// made under the mark outside. The other pieces made since the mark end. After `AllocError` all pieces and marks
+    /// made before are lost: no clause says which pieces live, which mark is innermost, or what the output and both
+    /// lists are. Calls that require nothing, such as `clear`, `open` and `push`, keep their contracts.
     #[inline(always)]
     pub fn close(&mut self, mark: Mark, piece: Piece) -> Result<Piece, AllocError>
         requires innermost { frame self.old ≡ inside mark }
@@ -171,7 +172,7 @@ impl Buffer {
     }
 
     /// Appends a copy of the piece's text to the output, and returns a piece of it with the same shape. After
-    /// `AllocError` nothing has changed. The method is offered to other callers: no crate here calls it.
+    /// `AllocError` nothing has changed. The method is offered to other callers: only `probes` calls it here.
     pub fn copy(&mut self, piece: Piece) -> Result<Piece, AllocError>
         requires living { IsLiving self.old piece }
         ensures shape { IfOk result (λ p. Lives self.new p (shape self.old piece)) }

@@ -4,14 +4,16 @@
 //! text `before` the pointers and references to it, a parenthesized `group` of these, if there is one, and a text
 //! `after` them. A shape also has its base name as a range of its text, and two flags.
 //!
-//! The methods of a `Buffer` return pieces. A piece stands for a shape, and lives from the call that returns it.
-//! `open` returns a mark, and `close` takes it back. The next edit may end the pieces that were made since the
-//! innermost mark. All pieces that were made before that mark keep their shapes. A buffer also keeps the substitution
-//! table and a list of scopes, each of which is a list of shapes.
+//! The methods of a `Buffer` return pieces. A piece is a small value that stands for a text in the buffer, with its
+//! shape. `open` returns a mark, and `close` takes it back. An edit is a call that changes a text, such as `append`.
+//! It ends every piece made since the innermost mark, except the one that it returns. Older pieces keep their shapes.
+//! No clause says anything of a piece that has ended. A buffer also keeps the substitution table and a list of scopes,
+//! each of which is a list of shapes.
 //!
-//! New text goes to the end of one output, which `main_bytes` lends. If a piece ends the output it is edited in place,
-//! and the kept pieces are moved along. `close` leaves nothing but its piece after the mark. Kept texts that an edit
-//! or `close` would tear are copied to a second text, the spill.
+//! New text goes to the end of one output, which `main_bytes` lends. If a piece ends the output, and begins at the
+//! innermost mark or later, it is edited in place. `close` leaves nothing but its piece after the mark. Both may move
+//! bytes. Saved pieces and arguments that a move shifts as a whole get new places. Those that it would split or
+//! overwrite are copied to a second text first, the spill.
 //!
 //! The texts are those of `growing_text`. Begin with `specs/Shape` and `shape.rt`, and then read `buffer.rt`.
 #![tactic(auto)]

@@ -38,7 +38,8 @@ impl Buffer {
         Ok(())
     }
 
-    /// Removes the last entry of the substitution table.
+    /// Removes the last entry of the substitution table. The method is offered to other callers: only `probes` calls
+    /// it here.
     #[inline(always)]
     pub fn unsave(&mut self)
         requires some { 0 < length (saved self.old) }

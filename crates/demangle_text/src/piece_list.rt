@@ -11,7 +11,8 @@ use std::marker::Model;
 // The number of pieces for which the first allocation has capacity.
 const FIRST_ROOM: usize = 16;
 
-// A piece and its reach: a byte of the output by which this piece and all that were kept before it end.
+// A piece, and its reach: a byte of the output at which, or before which, this piece and all earlier ones of the list
+// end, as far as they are in the output. The reach may be greater than needed.
 #[derive(Clone, Copy)]
 pub(crate) struct Entry {
     piece: Piece,

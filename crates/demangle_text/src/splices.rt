@@ -1,4 +1,4 @@
-//! Edits of the output from which the calls of a buffer are made. They bring a text to the end and change it there,
+//! Changes of the output from which the calls of a buffer are made. They bring a text to the end and change it there,
 //! join texts, and keep one text alone.
 ghost use Rattle.std.specs.Prelude.{◌≡◌, ◌+◌, ◌-◌, ◌^◌, ◌<◌, ◌≤◌, ◌++◌, length, take, drop, slice_range, IfOk, OnOk, OnErr, true};
 
@@ -15,9 +15,9 @@ impl Buffer {
     ghost use Rattle.demangle_text.specs.Gaps.{IsGap, IsOpen};
     ghost use Rattle.demangle_text.specs.Pieces.{IsSplice, IsAdjacent, IsAt, EndsBy, outline_of, piece_text, home_bytes};
 
-    // Makes a part of the output or of the spill all of the output since the innermost mark. A part in the spill, or
-    // before the mark, is copied to the end first. Then the part moves down to the mark, and all else since the mark
-    // goes.
+    // Replaces everything after the innermost mark by one range of the output or the spill. A range in the spill, or
+    // before the mark, is copied to the end first. Then the range moves down to the mark, and everything else after
+    // the mark goes.
     #[cold]
     pub(crate) fn move_down(
         &mut self,

@@ -1,4 +1,5 @@
--- What a reader says of trees.
+-- What the result of a parser or of a reader means in terms of trees, for the laws of `specs/Readers` and the clauses
+-- of `read_mangled_name`.
 use Rattle.std.specs.Prelude.{◌≡◌, ℕ, ◌+◌, max, map, Bool, true, false, Result, Ok, Err}
 use Rattle.demangle_text.specs.State.{IsLiving, shape}
 use Rattle.itanium_syntax.specs.Context.{showing_words}

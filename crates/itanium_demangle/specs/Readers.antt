@@ -1,5 +1,5 @@
--- How the parser of a production agrees with the grammar. A reader's clause says what it reads by that parser; with the
--- laws here it says what it reads of trees.
+-- How the parser of a production agrees with the grammar. A reader's clause `reads` says what it reads by that parser.
+-- With the laws here it says what it reads of trees.
 use Rattle.std.specs.Prelude.{◌≡◌, ◌≤◌, ℕ, Bool, true, false, List, map, length, Some, None}
 use Rattle.demangle_text.specs.Shape.{Shape}
 use Rattle.demangle_edit.specs.Lists.{arguments_shape}
@@ -19,23 +19,23 @@ use Rattle.itanium_reader.specs.Parser.{parse_thunk, parse_signature, parse_args
 use Rattle.itanium_reader.specs.Parser.{parse_primary, parse_expression, parse_type}
 use Rattle.itanium_demangle.specs.Meaning.{state_at, HasReading, HasNoReading}
 
--- the parser reads what the grammar reads within the limits, and nothing else: from each position of trees, after any
--- number of productions entered and of trees saved at most. Of the readings R it reads at least those that are N
+-- the parser agrees with the grammar, from every position of trees and for all counts before. R are the readings that
+-- it may return. N are those that can't exist if it returns `None`: all of R, or only those that `Narrow` selects
 pub record IsParserOf {T A : Type 0} (R N : Position → T → Position → Cost → Type 0) (show : T → A) (depth : ℕ)
     (parse : Parses A) : Type 0 where
-  -- what it answers is a reading within the limits, with which every other agrees
+  -- what the parser returns is a reading R within the limits, and every other such reading agrees with it
   pub reads :
       (p : Position) (entered most_saved : ℕ) (found : A) (after : ParserState)
       → parse (state_at p entered most_saved) ≡ Some (found, after)
       → HasReading (R p) show depth entered most_saved found after
-  -- where it answers none there is no such reading within the limits
+  -- if the parser returns `None`, no reading N within the limits exists
   pub none :
       (p : Position) (entered most_saved : ℕ)
       → parse (state_at p entered most_saved) ≡ None
       → HasNoReading (N p) depth
 
--- a reading whose tree isn't longer than a counted production may be: what is not counted itself is read where it may
--- stand in one that is
+-- a reading R whose tree prints at most `max_text` bytes. An uncounted production is covered only so far: if its parser
+-- returns `None`, a reading that prints more may exist
 abbrev pub Narrow : (Position → Tree → Position → Cost → Type 0) → Position → Tree → Position → Cost → Type 0
 Narrow R p t q c = R p t q c × (length (printing t) ≤ max_text)
 
@@ -63,7 +63,7 @@ Argument x p = ArgumentAs (argument_case p.rest) x p
 abbrev pub Primary : Context → Position → Tree → Position → Cost → Type 0
 Primary x p = PrimaryAs (primary_case p.rest) x p
 
--- the parsers read what the grammar reads: in each context, within each depth
+-- each parser agrees with the grammar, in every context and for every depth
 pub record LawsOfReaders : Type 0 where
   -- <name> without its own qualifiers, which wait for the parameters of an encoding
   pub bare_names :

@@ -1,4 +1,5 @@
--- What a reader says of a call.
+-- What the contracts of the readers say: how a result relates to that of the parser, how many counted productions a
+-- call enters, and how the substitution table grows.
 use Rattle.std.specs.Prelude.{◌≡◌, ◌≤◌, ℕ, ◌+◌, ◌*◌, ◌^◌, ◌<◌, ◌-◌, max, length, Bool, true, false, Option, Some, None}
 use Rattle.std.specs.Prelude.{Result, Ok, Err}
 use Rattle.demangle_text.specs.Shape.{Shape}

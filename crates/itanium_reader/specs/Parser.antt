@@ -1,6 +1,6 @@
--- Pure functions over shapes that do what the readers do. They are a bridge between the readers and the grammar, for
--- the proof alone. The grammar is what is promised; theorems over it say that these functions read what it reads, and
--- nothing else.
+-- The parser, which never runs: pure functions over shapes, to which the readers are proved to be equal. They are a
+-- bridge between the readers and the grammar, for the proof alone. The grammar is what is promised. The laws of
+-- `itanium_demangle/specs/Readers` say how the parser agrees with it.
 use Rattle.std.specs.Prelude.{ℕ, zero, suc, ◌+◌, ◌-◌, max, Bool, true, false, not, if◌then◌else◌, nat_lt, is_some}
 use Rattle.std.specs.Prelude.{slice_get, List, [], ◌∷◌, ◌++◌, Option, Some, None, option_and_then, take, drop, length}
 use Rattle.std.specs.Prelude.{codes}

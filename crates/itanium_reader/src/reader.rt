@@ -53,9 +53,9 @@ pub struct Reader<'a> {
     pub quals: Option<Quals>,
     /// The number of counted productions that were entered.
     pub entered: usize,
-    /// The most entries of the substitution table at the `E` of a nested name, if its last segment were saved. The
-    /// grammar saves that segment and removes it at the `E`; this code never saves it. The method `most_saved` returns
-    /// the maximum of this field and the length of the table.
+    /// The largest length that the table would have had at the `E` of a nested name if its last segment had been
+    /// saved, as the grammar does. This code never saves it. The method `most_saved` returns the maximum of this field
+    /// and the length of the table.
     pub most_noted: usize,
 }
 
@@ -271,6 +271,7 @@ impl<'a> Reader<'a> {
                 };
                 self.skip(1);
                 let piece = self.buffer.push(abbreviation_text(abbreviation))?;
+                // The base name begins after `std::`, which has 5 bytes.
                 let end = 5 + abbreviation_own_len(abbreviation);
                 self.found = self.buffer.own_at(piece, 5, end);
                 Ok(())

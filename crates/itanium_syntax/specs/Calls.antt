@@ -1,4 +1,4 @@
--- What functions promise in words of their own, which the grammar doesn't use.
+-- For the contracts of this crate alone: what its functions return that the grammar doesn't use, such as `<seq-id>`.
 use Prim.Native.String.{String}
 use Rattle.std.specs.Prelude.{ℕ, List, [], ◌∷◌, Bool, Option, option_map}
 use Rattle.itanium_syntax.specs.declared.numerals.Radix.TheVariants.{Base36}

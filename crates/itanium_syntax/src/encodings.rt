@@ -3,13 +3,13 @@
 ghost use Rattle.std.specs.Prelude.{◌≡◌};
 ghost use Rattle.itanium_syntax.specs.Encodings as spec;
 
-/// Where an `<encoding>` ends.
+/// Where an `<encoding>` ends, or a list of parameters.
 #[derive(Clone, Copy)]
 pub enum EncodingEnd {
     /// Right after its name: neither return type nor parameters are read. This is the end for a symbol that is read as
     /// a name, and for the encoding of a thunk in such a symbol or in a local or external name.
     AfterName,
-    /// At the `E` of the local or external name around it.
+    /// At the `E` of the local or external name around it. Parameters of a lambda or a function type end at its `E`.
     AtE,
     /// Where the symbol ends. This is the end for a signature, and for the encoding of a thunk whose end is that of a
     /// signature.

@@ -72,8 +72,8 @@ pub(crate) fn copy<R: Source, W: Sink>(
     }
 }
 
-/// Reads more bytes after the first `kept` bytes of the chunk, and returns the number of both. If the chunk is full,
-/// it grows first. The number is `kept` only at the end of the input.
+/// Reads into the chunk after its first `kept` bytes. Returns `kept` plus the number of bytes read. If the chunk is
+/// full, it grows first. The result is `kept` only at the end of the input.
 fn read_more<R: Source>(
     source: &mut R,
     chunk: &mut Vec<u8>,

@@ -17,8 +17,8 @@ use std::alloc::Global;
 /// Returns at the first fault, and calls neither source nor sink after it. The fault is `Read` if the source has
 /// failed, `Write` if the sink has failed, and `Memory` if an allocation has failed. What was written is then a
 /// beginning of the filtered text: after `Read` the text of all whole lines that were read, and after `Memory` that of
-/// some whole lines. In the code, the next line after `Memory` is the one that the allocation was for; no clause says
-/// so.
+/// some whole lines. After `Memory` the output ends right before the line whose allocation failed. The code does so;
+/// no clause says it.
 pub fn filter<R: Source, W: Sink>(
     alloc: Global,
     source: &mut R,
@@ -55,8 +55,8 @@ pub fn filter<R: Source, W: Sink>(
 /// Returns at the first fault, and calls neither source nor sink after it. The fault is `Read` if the source has
 /// failed, `Write` if the sink has failed, and `Memory` if an allocation has failed. What was written is then a
 /// beginning of the filtered text: after `Read` the text of all whole lines that were read, and after `Memory` that of
-/// some whole lines. In the code, the next line after `Memory` is the one that the allocation was for; no clause says
-/// so.
+/// some whole lines. After `Memory` the output ends right before the line whose allocation failed. The code does so;
+/// no clause says it.
 pub fn filter_by<R: Source, W: Sink>(
     alloc: Global,
     printing: Printing,

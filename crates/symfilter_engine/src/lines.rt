@@ -31,7 +31,7 @@ const OUTPUT_LEN: usize = 32768;
 /// The capacity that is reserved for the output, in bytes. The capacity is more than `OUTPUT_LEN`.
 const OUTPUT_CAPACITY: usize = 40960;
 
-/// The least length in bytes of ordinary lines that are written without a copy.
+/// The least length in bytes of ordinary lines or words that are written without a copy.
 const LONG_LEN: usize = 16384;
 
 /// The most bytes whose words are replaced at once, unless the first word is longer.
@@ -182,8 +182,8 @@ fn append_block(
     Ok(first)
 }
 
-/// Appends what is written for the first lines, ordinary or not, and returns their length in bytes. After an error
-/// nothing is appended.
+/// Appends what is written for the first lines or words, ordinary or not, and returns their length in bytes. After an
+/// error nothing is appended.
 #[inline(always)]
 fn append_next(
     alloc: Global,
@@ -214,9 +214,9 @@ fn append_next(
     }
 }
 
-/// Appends what is written for the first lines to an empty output, and returns their length in bytes. Stops once the
-/// output has `OUTPUT_LEN` bytes, and in front of a line for which an allocation fails. Returns an error if that is
-/// the first line.
+/// Appends what is written for the first lines or words to an empty output, and returns their length in bytes. Stops
+/// once the output has `OUTPUT_LEN` bytes, and in front of a line or word for which an allocation fails. Returns an
+/// error if that is the first one.
 fn gather_whole(
     alloc: Global,
     demangler: &mut Demangler,
@@ -244,8 +244,8 @@ fn gather_whole(
     Ok(whole.len() - rest.len())
 }
 
-/// Writes the text for the first lines, and returns their length in bytes. Ordinary lines of at least `LONG_LEN` bytes
-/// are written without a copy. Other lines are gathered in the output first.
+/// Writes the text for the first lines or words, and returns their length in bytes. Ordinary ones of at least
+/// `LONG_LEN` bytes in all are written without a copy. Others are gathered in the output first.
 fn write_next<W: Sink>(
     alloc: Global,
     demangler: &mut Demangler,
@@ -306,7 +306,8 @@ pub(crate) fn write_whole<W: Sink>(
     Ok(())
 }
 
-/// Writes the text for a last line, which has no line feed, or for a last word. The line or word may be empty.
+/// Writes the text for a last line, which has no line feed, or for a last word. The parameter `line` is either of
+/// them, and may be empty.
 pub(crate) fn write_last<W: Sink>(
     alloc: Global,
     demangler: &mut Demangler,

@@ -9,13 +9,13 @@ use std::simd::prelude::*;
 /// The number of bytes that are tested at once.
 const LANES: usize = 16;
 
-/// Gives, for the four high bits of a byte, the bit of the kind of word bytes that have them, or 0 for no kind. The
-/// bits are 1 for `$` and `.`, 2 for the digits, 4 for `A` to `O` and `a` to `o`, 8 for `P` to `Z` and `_`, 16 for `p`
-/// to `z`.
+/// Indexed by the high four bits of a byte. The value is the bit of a class of word bytes, or 0 if no word byte has
+/// these bits. The bits are 1 for `$` and `.`, 2 for the digits, 4 for `A` to `O` and `a` to `o`, 8 for `P` to `Z` and
+/// `_`, 16 for `p` to `z`.
 const BY_HIGH_NIBBLE: [u8; 16] = [0, 0, 1, 2, 4, 8, 4, 16, 0, 0, 0, 0, 0, 0, 0, 0];
 
-/// Gives, for the four low bits of a byte, the bits of all kinds that have a byte with them. A byte is a word byte if
-/// its entries in both tables have a bit in common.
+/// Indexed by the low four bits of a byte. The value has the bits of all classes that have a byte with these bits. A
+/// byte is a word byte if its values in both tables have a bit in common.
 const BY_LOW_NIBBLE: [u8; 16] = [26, 30, 30, 30, 31, 30, 30, 30, 30, 30, 28, 4, 4, 4, 5, 12];
 
 /// Returns whether the byte is a word byte: an ASCII letter, a digit, `_`, `$` or `.`.
@@ -26,7 +26,7 @@ fn is_word_byte(byte: u8) -> bool
     matches!(byte, b'A'..=b'Z' | b'a'..=b'z' | b'0'..=b'9' | b'_' | b'$' | b'.')
 }
 
-/// Returns where the word begins whose bytes are in front of `place`. The search goes back to `low` at most.
+/// Returns the start of the run of word bytes that ends at `place`. The search goes back to `low` at most.
 #[inline(always)]
 pub(crate) fn word_start(text: &[u8], low: usize, place: usize) -> usize
     requires ordered { low ≤ place }
