@@ -800,29 +800,3 @@ specials::read_thunk-returns-in_err-read_encoding-clause-reads t c = grind (arit
 
 pub specials::read_type_special-print_worded-requires-clause-after : goal.specials::read_type_special-print_worded-requires-clause-after
 specials::read_type_special-print_worded-requires-clause-after t c = grind (arith, words)
-
-pub expressions::read_pre-print_worded-requires-clause-after : goal.expressions::read_pre-print_worded-requires-clause-after
-expressions::read_pre-print_worded-requires-clause-after t c = search (rules, text_after-follows)
-
-pub expressions::read_pre-returns-clause-reads : goal.expressions::read_pre-returns-clause-reads
-expressions::read_pre-returns-clause-reads t c = search rules
-
-pub encodings::end_encoding-returns-in_ok-reader-in-SomeEncodingParams-clause-reads :
-    goal.encodings::end_encoding-returns-in_ok-reader-in-SomeEncodingParams-clause-reads
-encodings::end_encoding-returns-in_ok-reader-in-SomeEncodingParams-clause-reads t c = search rules
-
-pub encodings::end_encoding-returns-in_ok-reader-in-SomeEncodingParams-clause-run :
-    goal.encodings::end_encoding-returns-in_ok-reader-in-SomeEncodingParams-clause-run
-encodings::end_encoding-returns-in_ok-reader-in-SomeEncodingParams-clause-run t c = search rules
-
-pub expressions::read_conditional-returns-clause-run : goal.expressions::read_conditional-returns-clause-run
-expressions::read_conditional-returns-clause-run t c = search rules
-
-pub expressions::read_expression-returns-in_err-check_width-clause-bounds : goal.expressions::read_expression-returns-in_err-check_width-clause-bounds
-expressions::read_expression-returns-in_err-check_width-clause-bounds t c = grind (arith, common_steps)
-
-pub expressions::read_expression-returns-in_err-check_width-clause-saved : goal.expressions::read_expression-returns-in_err-check_width-clause-saved
-expressions::read_expression-returns-in_err-check_width-clause-saved t c = grind (arith, common_steps)
-
-pub expressions::read_expression-returns-clause-run : goal.expressions::read_expression-returns-clause-run
-expressions::read_expression-returns-clause-run t c = grind (arith, common_steps)
