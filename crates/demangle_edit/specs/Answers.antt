@@ -1,4 +1,4 @@
--- What the edits that may find no type answer.
+-- Results of edits that may return no piece.
 use Rattle.std.specs.Prelude.{◌≡◌, Result, Ok, Err, Option, Some, None}
 use Rattle.std.specs.declared.alloc.AllocError.{AllocError}
 use Rattle.demangle_text.specs.declared.shape.Piece.{Piece}

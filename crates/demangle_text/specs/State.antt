@@ -40,7 +40,7 @@ Stands p from to = IsAt p from to
 unfoldable pub Frame : Type 0
 Frame = ℕ
 
--- the frame of a buffer with no open mark
+-- the frame of a buffer whose innermost mark is at the start of the output, or that has no open mark
 unfoldable pub outermost : Frame
 unfolding Frame
 outermost = 0
@@ -158,8 +158,10 @@ pub record EndsMain (old new : Store) (p : Piece) : Type 0 where
   pub front : take from (main_bytes new) ≡ take from (main_bytes old)
   pub stands : Stands p from (length (main_bytes new))
 
--- an edit of a piece, which puts n bytes into its text: the answer stands up to the end of the output; a piece
--- that stands there, from the innermost mark or later, keeps its start, and the output grows as its text does
+-- A piece is edited, and n bytes are put into its text. The answer ends the output, and begins at the innermost mark
+-- or later. No byte before it changes.
+-- `in_place`: the piece begins at the innermost mark or later, and ends the output. Then the answer begins where the
+-- piece began, and the output grows by n bytes.
 pub record IsEditOf (old new : Store) (piece answer : Piece) (n : ℕ) : Type 0 where
   pub front : KeepsFront old new
   pub ends : EndsMain old new answer
@@ -192,31 +194,31 @@ pub record IsJoinOf (old new : Store) (first second answer : Piece) (n : ℕ) : 
       → Stands answer at (length (main_bytes new))
       × (length (main_bytes new) ≡ length (main_bytes old) + (n + text_len (shape old second)))
 
--- what is answered for a piece stands where the piece does
+-- if p stands in the output, then q stands at the same bytes
 abbrev pub StandsAs : Piece → Piece → Type 0
 StandsAs p q = (from to : ℕ) → Stands p from to → Stands q from to
 
--- and from the same byte, but ends n bytes before the piece does
+-- if p stands in the output, then q begins at the same byte, and ends n bytes earlier
 abbrev pub StandsShortened : ℕ → Piece → Piece → Type 0
 StandsShortened n p q = (from to : ℕ) → Stands p from to → Stands q from (to - n)
 
--- the answer stands up to the end of the output, from the innermost mark or later, and no byte before it changes;
--- where the piece stood up to that end, from the innermost mark or later, the answer stands from the same byte
+-- The answer ends the output, and begins at the innermost mark or later. No byte before it changes.
+-- If the piece begins at the innermost mark or later, and ends the output, then the answer begins where it began.
 pub record StaysInPlace (old new : Store) (piece answer : Piece) : Type 0 where
   pub ends : EndsMain old new answer
   pub stays : (at : ℕ) → frame_start (frame old) ≤ at → Stands piece at (length (main_bytes old))
       → Stands answer at (length (main_bytes new)) × (take at (main_bytes new) ≡ take at (main_bytes old))
 
--- what becomes of a piece that may be right as it is
+-- an edit that may change nothing
 pub data IsLeftOrStays (old new : Store) (piece answer : Piece) : Type 0 where
   -- the answer is the piece, and no byte of the output changes
   left : main_bytes new ≡ main_bytes old → answer ≡ piece → IsLeftOrStays old new piece answer
   -- the piece was edited
   edited : StaysInPlace old new piece answer → IsLeftOrStays old new piece answer
 
--- the answer stands up to the end of the output, from the innermost mark or later, and no byte before it changes;
--- where the first piece stood from the innermost mark or later, and up to the end of the output or to where the
--- second began, which stood up to that end, the answer stands from the start of the first
+-- The answer ends the output, and begins at the innermost mark or later. No byte before it changes.
+-- If the first piece begins at the innermost mark or later, and either ends the output, or ends where the second begins
+-- and the second ends the output, then the answer begins where the first began.
 pub record JoinsInPlace (old new : Store) (first second answer : Piece) : Type 0 where
   pub ends : EndsMain old new answer
   pub stays : (from middle : ℕ) → frame_start (frame old) ≤ from → Stands first from middle
@@ -225,7 +227,7 @@ pub record JoinsInPlace (old new : Store) (first second answer : Piece) : Type 0
   pub after : (from : ℕ) → frame_start (frame old) ≤ from → Stands first from (length (main_bytes old))
       → Stands answer from (length (main_bytes new)) × (take from (main_bytes new) ≡ take from (main_bytes old))
 
--- the output becomes all that it was and then the text of the answer, which stands at the innermost mark or later
+-- The new output is the old output, followed by the answer. The answer begins at the innermost mark or later.
 pub record Appends (old new : Store) (answer : Piece) : Type 0 where
   pub front : take (length (main_bytes old)) (main_bytes new) ≡ main_bytes old
   pub inner : frame_start (frame old) ≤ length (main_bytes old)

@@ -42,12 +42,13 @@ abbrev pub IsText : Option (List ℕ) → Type 0
 IsText (Some text) = IsUtf8 text
 IsText None = Unit {0}
 
--- where there is an answer, no scope and no mark is open in its buffer
+-- If there is an answer, no scope is open in its buffer, and the innermost mark is at the start of the output, or none
+-- is open.
 abbrev pub IsEnded : Bool → Option (Box Buffer Global) → Type 0
 IsEnded true (Some buffer) = (scopes buffer.value ≡ []) × (frame buffer.value ≡ outermost)
 IsEnded answered buffer = Unit {0}
 
--- what is kept as an answer is UTF-8, in a buffer where no scope and no mark is open
+-- what is kept as an answer is UTF-8, in a buffer of which `IsEnded` holds
 pub record KeepsAnswer (d : Inside) : Type 0 where
   pub text : IsText (answer_text d.answered d.buffer)
   pub ended : IsEnded d.answered d.buffer

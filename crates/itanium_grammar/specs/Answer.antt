@@ -21,7 +21,7 @@ pub record Fits (depth : ℕ) (cost : Cost) : Type 0 where
   pub depth_fits : cost.depth ≤ depth
   pub width_fits : cost.width ≤ max_text
 
--- the same of a symbol's reading: at most 128 counted productions nest
+-- the same of a symbol's reading: at most 128 counted productions nest, and none prints more than max_text bytes
 abbrev pub IsWithin : Cost → Type 0
 IsWithin cost = Fits max_depth cost
 

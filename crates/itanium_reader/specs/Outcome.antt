@@ -106,8 +106,8 @@ TakesSome more result before after = Bounds 1 (2 - more) more result before afte
 abbrev pub MayTakeNone : {A : Type 0} → ℕ → Result A Stop → ParserState → ParserState → Type 0
 MayTakeNone more result before after = Bounds 0 0 more result before after
 
--- The most components at any moment: no more than the most before the call, or no more than there were before it with
--- one for each byte that was left, less the slack.
+-- The peak after the call is at most the larger of the peak before the call and (the table's length + the bytes left -
+-- the slack), both counted before the call.
 abbrev pub MostSaved : ℕ → ParserState → ParserState → Type 0
 MostSaved slack before after =
     after.most_saved + slack ≤ max (before.most_saved + slack) (length before.saved + length before.rest)

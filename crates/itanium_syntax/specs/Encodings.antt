@@ -12,8 +12,8 @@ abbrev pub begins_identifier : List ℕ → Bool
 begins_identifier bytes =
     begins_digit bytes || begins_between "A" "Z" bytes || begins (codes "_") bytes || begins_between "a" "z" bytes
 
--- whether an encoding that ends so is at its end before these bytes: right after its name, at the E of the name around
--- it, or where a symbol ends
+-- whether an encoding with this end stops in front of these bytes: `AfterName` always does, `AtE` in front of an E, and
+-- `AtSymbolEnd` where no ASCII letter, digit or underscore is next
 abbrev pub ends_here : EncodingEnd → List ℕ → Bool
 ends_here AfterName bytes = true
 ends_here AtE bytes = begins (codes "E") bytes

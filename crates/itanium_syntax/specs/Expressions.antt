@@ -14,7 +14,7 @@ use Rattle.itanium_syntax.specs.Operators.{is_code, operator_here, operator_arit
 abbrev pub is_external : List ℕ → Bool
 is_external bytes = begins (codes "L_Z") bytes
 
--- a literal, from its L on
+-- a literal or an external name, from its L on
 abbrev pub primary_case : List ℕ → PrimaryCase
 primary_case bytes =
     if is_external bytes then ExternalName else

@@ -32,7 +32,7 @@ capital_z = 90
 abbrev pub HasNoPrefix : List ℕ → Type 0
 HasNoPrefix bytes = (k : ℕ) → slice_index bytes k ≡ underscore → slice_index bytes (suc k) ≡ capital_z → ⊥
 
--- an underscore stands there, and no `_Z` before it
+-- An underscore stands there, and no `_Z` is in front of it. A `Z` after that underscore isn't required.
 pub record IsFirstPrefix (bytes : List ℕ) (place : ℕ) : Type 0 where
   pub inside : place < length bytes
   pub underscore : slice_index bytes place ≡ underscore
@@ -101,7 +101,7 @@ pub record ReadsMore (kept end : ℕ) (old new : List ℕ) (before after : Optio
   pub consumed : Consumes before after piece
   pub ended : end ≡ kept → IsAtEnd after
 
--- bytes in which a word that holds no symbol goes on, and their replaced text
+-- `text` is the replaced text of `bytes`, which begin inside a word without a symbol. `word` is the rest of that word.
 pub record GoesOn (options : Replacement) (bytes text : List ℕ) : Type 0 where
   pub word : List ℕ
   pub more : List ℕ
@@ -112,12 +112,13 @@ pub record GoesOn (options : Replacement) (bytes text : List ℕ) : Type 0 where
   pub next : begins_word more ≡ false
   pub replaced : IsReplaced options more more_text
 
--- bytes, and their replaced text, after a word that holds no symbol and goes on in them, or after none
+-- `text` is the replaced text of `bytes`. The truth value says whether they begin inside a word without a symbol.
 abbrev pub IsReplacedIn : Replacement → Bool → List ℕ → List ℕ → Type 0
 IsReplacedIn options true bytes text = GoesOn options bytes text
 IsReplacedIn options false bytes text = IsReplaced options bytes text
 
--- the replaced text of bytes that come after such a word or none, and whether such a word goes on after them
+-- `text` is the replaced text of `bytes`. `inside`: the bytes begin inside a word without a symbol. `after`: such a
+-- word continues after them.
 pub record Leads (options : Replacement) (inside : Bool) (bytes text : List ℕ) (after : Bool) : Type 0 where
   pub goes :
       (rest more : List ℕ)
@@ -126,7 +127,8 @@ pub record Leads (options : Replacement) (inside : Bool) (bytes text : List ℕ)
   pub ended : after ≡ false → ends_word bytes ≡ false
   pub none : after ≡ false → bytes ≡ [] → inside ≡ false
 
--- of the bytes given the replaced text of all but those left was written
+-- The given bytes are `done ++ left`, and the replaced text of `done` was written. `inside` and `after` are those of
+-- `Leads`, for `done`.
 pub record HasReplaced (options : Replacement) (inside : Bool) (given left : List ℕ) (after : Bool)
     (before_written after_written : Option (List ℕ)) : Type 0 where
   pub done : List ℕ
@@ -135,41 +137,44 @@ pub record HasReplaced (options : Replacement) (inside : Bool) (given left : Lis
   pub leads : Leads options inside done text after
   pub written : Appends before_written after_written text
 
--- a beginning of the replaced text of the bytes was written
+-- A beginning of the replaced text of the given bytes was written. `inside`: they begin inside a word without a symbol.
 abbrev pub ReplacesBeginning : Replacement → Bool → List ℕ → Option (List ℕ) → Option (List ℕ) → Type 0
 ReplacesBeginning options inside given before after =
     (written : List ℕ)
     × ((text : List ℕ) × IsReplacedIn options inside given text × IsFront written text)
     × Appends before after written
 
--- whatever follows these bytes, a beginning of the replaced text of all was written
+-- For all bytes `rest` it holds that a beginning of the replaced text of `given ++ rest` was written.
 abbrev pub ReplacesFront : Replacement → Bool → List ℕ → Option (List ℕ) → Option (List ℕ) → Type 0
 ReplacesFront options inside given before after =
     (rest : List ℕ) → ReplacesBeginning options inside (given ++ rest) before after
 
--- bytes that are kept: the beginning of a line, or of a word that may hold a symbol, or none
+-- Bytes that are kept for the next turn. In lines they have no line feed. In words they begin a word that may hold a
+-- symbol, or there are none.
 abbrev pub AreKept : Placement → List ℕ → Type 0
 AreKept (Lines printing) bytes = HasNoLineFeed bytes
 AreKept (Words options) bytes = IsHeld options.strip bytes
 
--- of the bytes given the filtered text of all but those left was written; only in words a word may go on
+-- The given bytes end in `left`, and the filtered text of those in front of `left` was written. In lines these are
+-- whole lines, and `inside` and `after` say nothing. In words `inside` and `after` are those of `HasReplaced`.
 abbrev pub HasWritten : Placement → Bool → List ℕ → List ℕ → Bool → Option (List ℕ) → Option (List ℕ) → Type 0
 HasWritten (Lines printing) inside given left after before_written after_written =
     HasFiltered (Lines printing) given left before_written after_written
 HasWritten (Words options) inside given left after before_written after_written =
     HasReplaced options inside given left after before_written after_written
 
--- the filtered text of whole lines or words was written, and nothing of the next
+-- The given bytes begin with whole lines or words, and the filtered text of these was written, and nothing else.
 abbrev pub WritesSomeIn : Placement → Bool → List ℕ → Option (List ℕ) → Option (List ℕ) → Type 0
 WritesSomeIn placement inside given before after =
     (left : List ℕ) × HasWritten placement inside given left false before after
 
--- whatever follows these bytes, a beginning of the filtered text of all was written
+-- For all bytes `rest` it holds that a beginning of the filtered text of `given ++ rest` was written.
 abbrev pub WritesFrontIn : Placement → Bool → List ℕ → Option (List ℕ) → Option (List ℕ) → Type 0
 WritesFrontIn (Lines printing) inside given before after = WritesWholeFront (Lines printing) given before after
 WritesFrontIn (Words options) inside given before after = ReplacesFront options inside given before after
 
--- bytes were read, and the filtered text of all but those left was written; none is left where a word goes on
+-- The bytes `read` were read. They end in `left`, and the filtered text of those in front of `left` was written.
+-- `inside`: a word without a symbol continues after the written bytes. Then `left` is empty.
 pub record HasCopied (placement : Placement) (inside : Bool) (left : List ℕ)
     (before after written_before written_after : Option (List ℕ)) : Type 0 where
   pub read : List ℕ
@@ -177,7 +182,7 @@ pub record HasCopied (placement : Placement) (inside : Bool) (left : List ℕ)
   pub none : inside ≡ true → left ≡ []
   pub written : HasWritten placement false read left inside written_before written_after
 
--- the filtered text of all that was read was written, but for bytes that are kept
+-- The filtered text of all bytes that were read was written, except for the last ones, which may be kept (`AreKept`).
 abbrev pub WritesAllButKept : Placement → Option (List ℕ) → Option (List ℕ) → Option (List ℕ) → Option (List ℕ) → Type 0
 WritesAllButKept (Lines printing) before after written_before written_after =
     FiltersLines (Lines printing) before after written_before written_after
