@@ -2,7 +2,8 @@
 //! the memory. `include/cosvigle.h` declares the functions.
 //!
 //! Every function but `cosvigle_free` and `cosvigle_version` returns a status: 0 if all is done, 1 if there is no
-//! demangled name, 2 if an allocation failed, 3 if the capacity is too small, 4 if the symbol isn't UTF-8.
+//! demangled name, 2 if an allocation failed, 3 if the capacity is too small, 4 if the symbol isn't UTF-8. From
+//! `cosvigle_take`, 1 means that the handle keeps no text.
 //!
 //! `itanium_demangle` and `symfilter_engine` do the work. Begin with `cosvigle_ask` below. `texts.rt` has the
 //! functions for whole texts, and `handle.rt` keeps a demangler from one call to the next.

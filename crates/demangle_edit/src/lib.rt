@@ -1,22 +1,22 @@
 //! Edits of a buffer's pieces. Each edit is one step: from the shapes of a tree's parts to the shape of the tree.
 //!
-//! An edit ends the pieces that were made since the innermost open mark, except the piece that it returns. Older
-//! pieces keep their shapes, and so do the substitution table and the arguments of the scopes. An edit returns an
-//! error only if an allocation fails. Then all pieces and marks made before are lost, and no clause says what the
+//! An edit invalidates the pieces that were made since the innermost open mark, except the piece that it returns.
+//! Older pieces keep their shapes, and so do the substitution table and the arguments of the scopes. An edit returns
+//! an error only if an allocation fails. Then all pieces and marks made before are lost, and no clause says what the
 //! output and the lists are. Calls of the buffer that require nothing, such as `clear`, keep their contracts.
 //!
 //! If a piece ends the output, and began at that mark or later, most edits change it where it is and leave no other
 //! byte after the mark (`in_place`). The other edits put their text at the end of the output (`appends`).
 //!
 //! Some shapes can be made in two ways, which give the same shape. The first way takes pieces that are complete:
-//! `default_arg`, `qualify`, `attach_template_args`, `format_params`, `function_type`. The second way makes the text in
-//! the order in which the symbol is read. The text is opened first (`open_default_arg`, `open_parent`,
+//! `default_arg`, `qualify`, `attach_template_args`, `format_params`, `function_type`. The second way makes the text
+//! in the order in which the symbol is read. The text is opened first (`open_default_arg`, `open_parent`,
 //! `open_arguments`, `open_params`, `open_function`). Then the parts follow. The caller writes the `, ` between them.
-//! It appends each parameter by `append_piece`, and writes template arguments right after the list. At last the text is
-//! closed (`close_opened`, `close_arguments`, `close_params`, `close_function`).
+//! It appends each parameter by `append_piece`, and writes template arguments right after the list. At last the text
+//! is closed (`close_opened`, `close_arguments`, `close_params`, `close_function`).
 //!
-//! The pieces are those of `demangle_text`. Begin with the files of the same names in `specs/`, and then read
-//! `names.rt`, `types.rt`, `lists.rt`.
+//! The pieces are those of `demangle_text`. Begin with `names.rt`, and then read `types.rt` and `lists.rt`. The
+//! definitions of their shapes are in the files of the same names in `specs/`.
 #![tactic(auto)]
 
 mod appends;

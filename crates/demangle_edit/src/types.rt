@@ -134,8 +134,8 @@ fn insert_dimension(
 }
 
 /// Makes an array of the type, with this dimension, or with `[]` if there is none. ` [n]` goes to the end of a group
-/// or after a plain text. For an array without a group, `[n]` goes after the first byte of what follows its name, so
-/// that the outer dimension is first. The flags stay.
+/// or after a plain text. For an array without a group, `[n]` goes after the first byte of `after`, so that the outer
+/// dimension is first. The flags stay.
 ///
 /// Returns `None`, and changes nothing, for a function without a group.
 pub fn wrap_array(

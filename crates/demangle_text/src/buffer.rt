@@ -68,8 +68,8 @@ impl Buffer {
         }
     }
 
-    /// Ends all pieces and marks. Afterwards nothing is saved, no scope and no mark is open, and the output is empty.
-    /// Reserved memory stays.
+    /// Invalidates all pieces and marks. Afterwards nothing is saved, no scope and no mark is open, and the output is
+    /// empty. Reserved memory stays.
     pub fn clear(&mut self)
         ensures no_saved { saved self.new ≡ [] }
         ensures no_scopes { scopes self.new ≡ [] }
@@ -103,9 +103,9 @@ impl Buffer {
     }
 
     /// Closes the innermost mark. The piece keeps its shape and becomes all of the output since the mark. It counts as
-    /// made under the mark outside. The other pieces made since the mark end. After `AllocError` all pieces and marks
-    /// made before are lost: no clause says which pieces live, which mark is innermost, or what the output and both
-    /// lists are. Calls that require nothing, such as `clear`, `open` and `push`, keep their contracts.
+    /// made under the mark outside. Invalidates the other pieces made since the mark. After `AllocError` all pieces
+    /// and marks made before are lost: no clause says which pieces live, which mark is innermost, or what the output
+    /// and both lists are. Calls that require nothing, such as `clear`, `open` and `push`, keep their contracts.
     #[inline(always)]
     pub fn close(&mut self, mark: Mark, piece: Piece) -> Result<Piece, AllocError>
         requires innermost { frame self.old ≡ inside mark }
@@ -208,9 +208,9 @@ impl Buffer {
         Ok(())
     }
 
-    /// Appends the bytes to the piece's text. The other pieces made since the innermost mark end. If the piece ends
-    /// the output, and begins at the innermost mark or later, it stays in place. Otherwise its text is copied to the
-    /// end of the output first. After `AllocError` nothing has changed.
+    /// Appends the bytes to the piece's text. Invalidates the other pieces made since the innermost mark. If the piece
+    /// ends the output, and begins at the innermost mark or later, it stays in place. Otherwise its text is copied to
+    /// the end of the output first. After `AllocError` nothing has changed.
     #[inline(always)]
     pub fn append(&mut self, piece: Piece, bytes: &[u8]) -> Result<Piece, AllocError>
         requires living { IsLiving self.old piece }
@@ -229,8 +229,8 @@ impl Buffer {
     }
 
     /// Appends two texts to the piece, and makes it plain. The second text is its base name, and both flags are off.
-    /// The piece must end the output, and begin at the innermost mark or later; it stays in place. The other pieces
-    /// made since that mark end. After `AllocError` nothing has changed.
+    /// The piece must end the output, and begin at the innermost mark or later; it stays in place. Invalidates the
+    /// other pieces made since that mark. After `AllocError` nothing has changed.
     #[inline(always)]
     pub fn append_name(
         &mut self,
@@ -260,8 +260,8 @@ impl Buffer {
         Ok(())
     }
 
-    /// Appends the bytes and then the piece's own base name to the piece's text. What `append` says of other pieces, of
-    /// copying and of `AllocError` holds here too.
+    /// Appends the bytes and then the piece's own base name to the piece's text. What `append` says of other pieces,
+    /// of copying and of `AllocError` holds here too.
     #[inline(always)]
     pub fn append_own(&mut self, piece: Piece, between: &[u8]) -> Result<Piece, AllocError>
         requires living { IsLiving self.old piece }
@@ -341,7 +341,8 @@ impl Buffer {
     }
 
     /// Cuts the last n bytes off a plain piece. The base name loses those of its bytes that were cut. The output stays
-    /// as it is, with those bytes. What `append` says of other pieces and of `AllocError` holds here too.
+    /// as it is, with those bytes. What `append` says of other pieces holds here too. The body allocates nothing and
+    /// always returns `Ok`; the `Result` has the form of the other changes.
     #[inline(always)]
     pub fn cut(&mut self, piece: Piece, n: usize) -> Result<Piece, AllocError>
         requires living { IsLiving self.old piece }

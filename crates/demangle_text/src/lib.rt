@@ -5,17 +5,18 @@
 //! `after` them. A shape also has its base name as a range of its text, and two flags.
 //!
 //! The methods of a `Buffer` return pieces. A piece is a small value that stands for a text in the buffer, with its
-//! shape. `open` returns a mark, and `close` takes it back. An edit is a call that changes a text, such as `append`.
-//! It ends every piece made since the innermost mark, except the one that it returns. Older pieces keep their shapes.
-//! No clause says anything of a piece that has ended. A buffer also keeps the substitution table and a list of scopes,
-//! each of which is a list of shapes.
+//! shape. `open` returns a mark, and `close` takes it back. A change is a call that changes a text, such as `append`.
+//! It invalidates every piece made since the innermost mark, except the one that it returns. Older pieces keep their
+//! shapes. No clause says anything of an invalid piece. A buffer also keeps the substitution table and a list of
+//! scopes, each of which is a list of shapes.
 //!
 //! New text goes to the end of one output, which `main_bytes` lends. If a piece ends the output, and begins at the
-//! innermost mark or later, it is edited in place. `close` leaves nothing but its piece after the mark. Both may move
+//! innermost mark or later, it is changed in place. `close` leaves nothing but its piece after the mark. Both may move
 //! bytes. Saved pieces and arguments that a move shifts as a whole get new places. Those that it would split or
 //! overwrite are copied to a second text first, the spill.
 //!
-//! The texts are those of `growing_text`. Begin with `specs/Shape` and `shape.rt`, and then read `buffer.rt`.
+//! The texts are those of `growing_text`. Begin with `shape.rt`, then read `buffer.rt`, and then the definitions in
+//! `specs/Shape`.
 #![tactic(auto)]
 
 mod buffer;

@@ -11,8 +11,8 @@ use std::marker::Model;
 // The number of pieces for which the first allocation has capacity.
 const FIRST_ROOM: usize = 16;
 
-// A piece, and its reach: a byte of the output at which, or before which, this piece and all earlier ones of the list
-// end, as far as they are in the output. The reach may be greater than needed.
+// A piece and its `reach`: an upper bound on the end offsets of this and all earlier pieces that are in the output.
+// Pieces in the spill don't count.
 #[derive(Clone, Copy)]
 pub(crate) struct Entry {
     piece: Piece,
@@ -64,7 +64,7 @@ impl PieceList {
         self.count
     }
 
-    // Returns a byte of the output by which the first n pieces end.
+    // Returns an upper bound on the end offsets of those of the first n pieces that are in the output.
     #[inline(always)]
     fn reach(&self, n: usize) -> usize
         requires within { n ≤ length self.now }
@@ -115,7 +115,8 @@ impl PieceList {
         }
     }
 
-    // Replaces the piece with the index `i`. The new piece ends by each byte by which the old one ends.
+    // Replaces the piece with the index `i`. The new piece must not end after the old one. A piece in the spill ends
+    // after none.
     pub(crate) fn set(&mut self, i: usize, piece: Piece)
         requires within { i < length self.old }
         requires ends { (end : ℕ) → HoldsAt (EndsBy end) self.old i → EndsBy end piece }

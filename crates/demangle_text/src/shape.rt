@@ -18,7 +18,7 @@ pub enum Kind {
 pub enum Place {
     /// In front of the text.
     Start,
-    /// At the end of the group.
+    /// In front of the `)` of the group.
     Close,
     /// At the end of `before`, for a declarator without a group.
     Suffix,
@@ -26,7 +26,9 @@ pub enum Place {
     End,
 }
 
-/// A value that stands for a shape in a buffer, from the call of the buffer that returns it.
+/// A text in a `Buffer`: its byte range, where its parts begin, and two flags. It stands for a shape. It is valid
+/// until the next call that changes a text, or the next `close`, unless it is older than the innermost mark. `clear`
+/// invalidates every piece.
 #[derive(Clone, Copy)]
 pub struct Piece {
     // The range of the text in the output or in the spill, in bytes.

@@ -64,8 +64,8 @@ fn begin_answer(buffer: &mut Buffer) -> Mark
 }
 
 /// Completes the result. Tests the printing in `found` for UTF-8, and returns `false` if it isn't. Then drops the
-/// scopes, so that closing the mark moves no argument. Then appends the suffix, which is all from a dot on if a dot is
-/// next. At last closes the mark, so that the output is the result alone.
+/// scopes, so that `close` neither copies an argument to the spill nor adjusts its range. Then appends the suffix,
+/// which is all from a dot on if a dot is next. At last closes the mark, so that the output is the result alone.
 #[inline(always)]
 fn end_answer(reader: &mut Reader, mark: Mark) -> Result<bool, AllocError>
     requires innermost { frame reader.old.buffer.value ≡ inside mark }
@@ -194,9 +194,9 @@ impl Demangler {
     ///
     /// A text without such a prefix has no reading. For such a text nothing is allocated, and both counts are 0.
     ///
-    /// No limit applies to the bytes from the dot on, nor to the words of a special name that isn't a thunk. The
-    /// result has at most 2,097,180 bytes, and those from the dot on: two types of `MAX_TEXT` bytes each, and the 28
-    /// bytes of `construction vtable for ` and `-in-`.
+    /// No limit applies to the bytes from the dot on, nor to the words of a special name that isn't a thunk. Without
+    /// the bytes from the dot on, the result has at most 2 · `MAX_TEXT` + 28 = 2,097,180 bytes: two types,
+    /// `construction vtable for ` and `-in-`.
     ///
     /// Returns an error if an allocation fails. Then the value has no result, and it can be used again.
     #[inline(always)]
@@ -229,8 +229,8 @@ impl Demangler {
     /// A signature is a counted production itself: at most `MAX_DEPTH` counted productions nest, the signature
     /// included, and none of them prints more than `MAX_TEXT` bytes. The result has at most `MAX_TEXT` bytes and those
     /// from the dot on, if it is a signature. Counts and components are those of the reading whose printing was kept.
-    /// If there is no result, the counts are those of the second reading, as a name. For a symbol of n bytes, `entered`
-    /// is at most 2 · n then, and `most_saved` at most n.
+    /// If there is no result, the counts are those of the second reading, as a name. For a symbol of n bytes,
+    /// `entered` is at most 2 · n then, and `most_saved` at most n.
     ///
     /// Returns an error if an allocation fails. Then the value has no result, and it can be used again.
     pub fn prepare_signature(&mut self, alloc: Global, symbol: &str) -> Result<bool, AllocError>

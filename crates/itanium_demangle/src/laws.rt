@@ -15,8 +15,8 @@ pub fn worked_symbols()
 
 /// States that the parser agrees with the grammar at every depth. If the parser returns a shape, a reading within the
 /// limits has that shape, and every other reading agrees with it. If the parser returns nothing, there is no reading
-/// within the limits. For a production that isn't counted, the last statement covers only readings whose text has at
-/// most `MAX_TEXT` bytes.
+/// within the limits. For encodings, arguments and literals, which aren't counted, the last statement covers only
+/// readings whose text has at most `MAX_TEXT` bytes.
 #[tactic(auto, using(crate::proofs::Readers::laws_of_readers))]
 pub fn laws_of_readers()
     ensures laws { LawsOfReaders }

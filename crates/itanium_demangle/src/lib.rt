@@ -25,8 +25,8 @@
 //! ```
 //!
 //! The name is borrowed until the next call. Use one `Demangler` for many symbols: each keeps its buffer from one
-//! symbol to the next. `demangle_signature` returns the name with the parameters of the function, such as `Foo::bar()`.
-//! If a symbol has no signature, it returns what `demangle` returns.
+//! symbol to the next. `demangle_signature` returns the name with the parameters of the function, such as
+//! `Foo::bar()`. If a symbol has no signature, it returns what `demangle` returns.
 //!
 //! `prepare` and `prepare_signature` read a symbol. Then `text` returns the result, and `is_signature` says which it
 //! is. `entered` and `most_saved` return counts, `component` a text of the substitution table, `buffer` its shapes.

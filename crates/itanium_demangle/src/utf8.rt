@@ -37,7 +37,8 @@ fn is_ascii_by_two<const N: usize>(bytes: &[u8]) -> bool
     !(has_non_ascii::<N>(bytes, 0) | has_non_ascii::<N>(bytes, bytes.len() - N))
 }
 
-/// Returns `true` only if all bytes are ASCII. Fewer than 8 bytes aren't tested, and the result is `false`.
+/// Returns `true` only if all bytes are ASCII. `false` doesn't mean that a byte isn't ASCII: fewer than 8 bytes aren't
+/// tested, and the result is `false`.
 #[inline(always)]
 fn is_ascii(bytes: &[u8]) -> bool
     ensures all { result ≡ true → AreAscii bytes.now 0 (length bytes.now) }

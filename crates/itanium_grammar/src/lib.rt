@@ -1,9 +1,9 @@
-//! Defines the result of a symbol: which first bytes of a mangled C++ symbol are which tree, and what a tree prints
-//! (Itanium C++ ABI 5.1). `itanium_demangle` is proved against these definitions.
+//! Defines the result of a symbol: how the bytes of a mangled C++ symbol are read as a tree, and how that tree is
+//! printed (Itanium C++ ABI 5.1). `itanium_demangle` is proved against these definitions.
 //!
-//! The code of this crate is two functions, for the text that follows `_Z` or `__Z`, and for what follows a dot. The
-//! functions in `laws.rt` do nothing: their contracts are statements that other crates use, such as that two readings
-//! agree.
+//! The code of this crate is two functions. `after_prefix` returns what follows `_Z` or `__Z`. `suffix` returns all
+//! from a dot on, the dot included. The functions in `laws.rt` do nothing: their contracts are statements that other
+//! crates use, such as that two readings agree.
 //!
 //! The definitions cite those of `itanium_syntax` and `demangle_edit`. Begin with `specs/Answer`, and then read
 //! `specs/Grammar` and `specs/Tree`.

@@ -7,8 +7,8 @@
 //! `itanium_reader`. Only `itanium_demangle` uses this crate. `itanium_demangle` proves that the parser agrees with
 //! the grammar.
 //!
-//! The readers call the methods of `itanium_reader`. Begin with `read_name` in `names.rt`, and then read `read_type` in
-//! `types.rt`. `read_encoding` in `encodings.rt` is for signatures, thunks, local names and external names.
+//! The readers call the methods of `itanium_reader`. Begin with `read_name` in `names.rt`, and then read `read_type`
+//! in `types.rt`. `read_encoding` in `encodings.rt` is for signatures, thunks, local names and external names.
 #![tactic(auto)]
 
 mod args;

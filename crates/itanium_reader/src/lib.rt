@@ -1,7 +1,7 @@
 //! The type `Reader`, which the readers of productions share. A `Reader` has the bytes that are left, the buffer with
-//! the substitution table, and the piece that was read last. Its methods read productions that contain no other
-//! counted production, such as `<source-name>`, and parts of others. They call none of the mutually recursive readers,
-//! which are in `itanium_productions`.
+//! the substitution table, and the piece that was read last. Its methods read the leaves of the grammar, such as
+//! `<source-name>`, and parts of larger productions. They call none of the mutually recursive readers, which are in
+//! `itanium_productions`.
 //!
 //! Only `itanium_demangle` and `itanium_productions` use this crate. Its `specs/Parser` defines the parser as
 //! functions over shapes, without a buffer. Each reader is proved to equal its function there.

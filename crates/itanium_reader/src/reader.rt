@@ -53,9 +53,9 @@ pub struct Reader<'a> {
     pub quals: Option<Quals>,
     /// The number of counted productions that were entered.
     pub entered: usize,
-    /// The largest length that the table would have had at the `E` of a nested name if its last segment had been
-    /// saved, as the grammar does. This code never saves it. The method `most_saved` returns the maximum of this field
-    /// and the length of the table.
+    /// The peak length of the table at the `E` of a nested name, its last segment counted. The grammar saves that
+    /// segment and removes it again at the `E`; this code only records the length. The method `most_saved` returns the
+    /// maximum of this field and the length of the table.
     pub most_noted: usize,
 }
 
@@ -174,7 +174,7 @@ impl<'a> Reader<'a> {
     }
 
     /// Skips the `E` of a `<nested-name>`. The grammar saves the last segment and removes it at the `E`. This code
-    /// never saves that segment, and only notes in `most_noted` how long the table would have been.
+    /// never saves that segment, and only records in `most_noted` how long the table would have been.
     #[inline(always)]
     pub fn end_nested_name(&mut self, unsaved: bool)
         requires living { IsLiving self.old.buffer.value self.old.found }

@@ -7,8 +7,9 @@ use std::alloc::{AllocError, AllocFailed};
 /// Why a reader stops before its production has ended.
 #[derive(Clone, Copy, Debug, PartialEq, Eq)]
 pub enum Stop {
-    /// The bytes aren't the production within the limits: they begin another one, too many productions nest, or the
-    /// text is longer than `MAX_TEXT` bytes.
+    /// The bytes aren't read as the production within the limits: they begin another one, or end early; an index is
+    /// past the end of the table or of the scope; a type has no such form, as an array of functions; a literal isn't
+    /// UTF-8; too many productions nest; or the text is longer than `MAX_TEXT` bytes.
     Unread,
     /// An allocation failed.
     Memory,

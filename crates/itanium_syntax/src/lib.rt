@@ -6,7 +6,8 @@
 //! that of an operator. No function here composes a text, or calls a reader of `itanium_reader` or
 //! `itanium_productions`. The contracts are equations with definitions of `specs/`, and bounds.
 //!
-//! The qualifiers are those of `demangle_quals`. Begin with `scalar.rt` and `names.rt`.
+//! The qualifiers are those of `demangle_quals`. Begin with `names.rt`. `scalar.rt` is the public module of readers
+//! for single items.
 #![tactic(auto)]
 
 pub mod abbreviations;

@@ -233,8 +233,8 @@ pub fn source_text(name: &[u8]) -> &[u8]
     }
 }
 
-/// Reads the qualifiers of a `<nested-name>`: `<CV-qualifiers>` and a `<ref-qualifier>`, or an `H`, which stands for no
-/// qualifier. Returns the qualifiers and the bytes after them. After `None` there are none, and no byte is skipped.
+/// Reads the qualifiers of a `<nested-name>`: `<CV-qualifiers>` and a `<ref-qualifier>`, or an `H`, which stands for
+/// no qualifier. Returns the qualifiers and the bytes after them. After `None` there are none, and no byte is skipped.
 #[inline(always)]
 pub fn name_quals(bytes: &[u8]) -> Option<(Quals, &[u8])>
     ensures quals { IfSome result (λ found. found.0 ≡ spec.name_quals bytes.now) }

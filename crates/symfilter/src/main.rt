@@ -1,5 +1,6 @@
-//! Copies lines from standard input to standard output. A line that is a mangled C++ symbol is written demangled, and
-//! every other line as it is.
+//! Copies lines from standard input to standard output. Each line is taken as one mangled C++ symbol: its name is
+//! written, or the line itself if it has none. A line that begins with a symbol is one: `_Z3foo at main.c` becomes
+//! `foo`.
 //!
 //! The program takes no arguments. After a fault it writes to standard error what failed, and ends with status 1.
 //!

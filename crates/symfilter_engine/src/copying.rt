@@ -99,8 +99,8 @@ fn read_more<R: Source>(
 }
 
 /// Writes the text for these bytes, up to a last line that isn't whole or a last word that may hold a symbol. Returns
-/// the number of bytes that were written, and whether they end inside a word that holds no symbol. If `inside` is true,
-/// the bytes begin inside such a word. The first `seen` bytes were kept.
+/// how many of the bytes were consumed, and whether they stop in the middle of a word that holds no symbol. If
+/// `inside` is true, the bytes begin inside such a word. The first `seen` bytes were kept.
 fn write_chunk<W: Sink>(
     alloc: Global,
     demangler: &mut Demangler,

@@ -11,8 +11,9 @@ use super::symbols::{Placement, Printing};
 use std::alloc::Global;
 
 /// Reads to the end, and writes each line demangled. A line is written as it is if `Demangler::demangle` has no result
-/// for it, or if it isn't UTF-8. A line goes up to the next line feed or the end of the input. If it has a line feed,
-/// that is written too. Before each read, all whole lines that were read are written.
+/// for it, or if it isn't UTF-8. A line that begins with a symbol is one: `_Z3foo at main.c` becomes `foo`. A line
+/// goes up to the next line feed or the end of the input. If it has a line feed, that is written too. Before each
+/// read, all whole lines that were read are written.
 ///
 /// Returns at the first fault, and calls neither source nor sink after it. The fault is `Read` if the source has
 /// failed, `Write` if the sink has failed, and `Memory` if an allocation has failed. What was written is then a
@@ -48,9 +49,10 @@ pub fn filter<R: Source, W: Sink>(
 }
 
 /// Reads to the end, and writes for each line what is printed for it as a symbol: its demangled name, or its
-/// signature. A line is written as it is if it has neither, or if it isn't UTF-8. A line goes up to the next line feed
-/// or the end of the input. If it has a line feed, that is written too. Before each read, all whole lines that were
-/// read are written.
+/// signature. A line is written as it is if it has neither, or if it isn't UTF-8. A line that begins with a symbol is
+/// one: with `Printing::Names`, `_Z3foo at main.c` becomes `foo`. A line goes up to the next line feed or the end of
+/// the input. If it has a line feed, that is written too. Before each read, all whole lines that were read are
+/// written.
 ///
 /// Returns at the first fault, and calls neither source nor sink after it. The fault is `Read` if the source has
 /// failed, `Write` if the sink has failed, and `Memory` if an allocation has failed. What was written is then a

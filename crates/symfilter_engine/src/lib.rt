@@ -1,8 +1,9 @@
 //! The engine of the programs: copies text from a source to a sink, and demangles symbols on the way.
 //!
-//! `filter` demangles each line that is a symbol. `filter_by` does the same, and prints either names or signatures.
-//! `replace` demangles each symbol in a word. Before each read, `filter` has written all whole lines. `replace` has
-//! written all but a last word that may hold a symbol.
+//! `filter` takes each line as one symbol, and writes its name, or the line itself if it has none. A line that begins
+//! with a symbol is one: `_Z3foo at main.c` becomes `foo`. `filter_by` does the same, and prints either names or
+//! signatures. `replace` demangles each symbol in a word. Before each read, `filter` has written all whole lines.
+//! `replace` has written all but a last word that may hold a symbol.
 //!
 //! `Source` and `Sink` are the traits of what is read and written. A `Tally` makes one of a reader or a writer of std.
 //! A `FilterFault` says why the copying ended early.

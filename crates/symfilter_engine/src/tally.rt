@@ -7,7 +7,7 @@ use super::streams::{Failed, Sink, Source};
 use std::io::{Read, Write};
 
 /// Adapts a reader or a writer of std, and keeps whether a call has failed. A call fails if the inner call returns an
-/// error. A write also fails if it takes 0 bytes of some. Each read after the first 2^64 - 1 fails.
+/// error. A write also fails if it takes no byte although some were given. Each read after the first 2^64 - 1 fails.
 #[derive(Drop)]
 pub struct Tally<D> {
     inner: D,

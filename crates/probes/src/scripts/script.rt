@@ -180,7 +180,7 @@ impl Script {
         }
     }
 
-    /// Forgets the pieces that an edit ended, and gives its result this name.
+    /// Forgets the pieces that an edit invalidated, and gives its result this name.
     fn put_edited(&mut self, name: &str, piece: Piece) -> Outcome
         requires living { IsLiving self.old.buf piece }
         requires marked { IsMarked self.old.buf self.old.mark self.old.a }
