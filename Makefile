@@ -1,5 +1,7 @@
-# Builds and installs the programs, the libraries for C, their headers and the manual page. The builds are proved ones, by
-# the Rattle toolchain. `make install` builds what is missing, or older than its sources, too.
+# Builds and installs the programs, the libraries for C, their headers and the manual page. The builds are proved ones,
+# by the Rattle toolchain. Build first, and then install. `make install` alone builds what is missing, or older than
+# its sources, one crate after another. After `make -j4 all libcosvigle.so.0` it needs no toolchain: run it by sudo if
+# PREFIX needs that.
 #
 #     make -j4                                 twenty to sixty minutes where nothing is proved yet
 #     make -j4 cosvigle                        the program alone

@@ -8,8 +8,8 @@
  * - Each pointer is valid for as many bytes as its length says, and aligned for its type.
  * - The memory that a call writes to (a text, *needed, a handle) overlaps nothing else that the call is given. No
  *   other thread touches what a call is given until it returns.
- * - malloc, realloc and free belong to the same allocator. A block whose size is a multiple of 2, 4, 8 or 16 must be
- *   aligned to that number.
+ * - malloc, realloc and free belong to the same allocator. malloc and realloc align a block to each power of two up to
+ *   16 that divides its size: a block of 24 bytes to 8, and one of 32 bytes to 16.
  * - No call is made from a signal handler, or in the forked child of a process with threads.
  * - A handle begins as COSVIGLE_NONE, and only the calls change it. It is used in one call at a time, and with one
  *   copy of the library. It may be handed to another thread, if the two threads are synchronised by a lock, or by the
@@ -19,6 +19,12 @@
  * NULL: these pointers may be NULL: a text or symbol of length 0, memory of 0 bytes, needed, and the handle of
  * cosvigle_free. Any other NULL gives COSVIGLE_BAD_CALL. This holds for callers that include this header. The exported
  * calls themselves, as a program reaches them by dlsym or from another language, take no NULL.
+ *
+ * Memory: a symbol that was made to be costly can take much of it. The worst one that was found has 9,772 bytes, and
+ * takes 835 MB and 0.7 s. So check the length of an untrusted symbol before the call.
+ *
+ * Compatibility: the shared library has the soname libcosvigle.so.0. The names of the calls stay. Later versions may
+ * have more statuses.
  *
  * Stack: for the deepest symbols that have a name or a signature, a call needs at most 96 KiB of its thread's stack.
  * This is measured, and not proved.
