@@ -87,7 +87,7 @@ pub record CostBounds (least slack : ℕ) (before after : ParserState) : Type 0 
   pub taken : length after.rest + least ≤ length before.rest
   -- it enters at most two counted productions for each byte that it takes, less the slack
   pub counted : after.entered + 2 * length after.rest + slack ≤ before.entered + 2 * length before.rest
-  -- it drops no scope that stood before
+  -- at least as many scopes are open as before
   pub scopes_stand : length before.scopes ≤ length after.scopes
 
 -- What a call costs. A run that fails enters at most two productions for each byte that was left, and `more`. After an
