@@ -2,8 +2,8 @@
 //! printed (Itanium C++ ABI 5.1). `itanium_demangle` is proved against these definitions.
 //!
 //! The code of this crate is two functions. `after_prefix` returns what follows `_Z` or `__Z`. `suffix` returns the
-//! bytes if a dot is first, and otherwise none. The functions in `laws.rt` do nothing: their contracts are statements that other
-//! crates use, such as that two readings agree.
+//! bytes if a dot is first, and otherwise none. The functions in `laws.rt` do nothing: their contracts are statements
+//! that other crates use, such as that two readings agree.
 //!
 //! The definitions cite those of `itanium_syntax` and `demangle_edit`. Begin with `specs/Answer`, and then read
 //! `specs/Grammar` and `specs/Tree`.
