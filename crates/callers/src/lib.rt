@@ -11,7 +11,7 @@ ghost use denote.Follow.{follows_so};
 ghost use Rattle.itanium_demangle.specs.contracts.demangler.Demangler.{the_row};
 ghost use Rattle.itanium_grammar.specs.Answer.{IsAnswer};
 ghost use Rattle.itanium_demangle.specs.Demangler.{IsPrepared};
-ghost use Rattle.itanium_demangle.specs.LastRun.{no_run};
+ghost use Rattle.itanium_demangle.specs.LastResult.{no_result};
 ghost use Rattle.callers.specs.Component.{IsComponent};
 ghost use Rattle.callers.specs.Lengths.{IsAnswerLen};
 
@@ -26,7 +26,7 @@ mod tests;
 pub fn ask(demangler: &mut Demangler, alloc: Global, symbol: &str) -> Result<(), AllocError>
     ensures answer { OnOk result (IsAnswer symbol.now demangler.new.text) }
     ensures prepared { OnOk result (IsPrepared symbol.now demangler.new) }
-    ensures nothing { OnErr result (demangler.new ≡ no_run) }
+    ensures nothing { OnErr result (demangler.new ≡ no_result) }
 {
     demangler.demangle(alloc, symbol)?;
     Ok(())
@@ -42,7 +42,7 @@ pub fn entered_by(
     ensures kept { IfOk result (λ entered. entered ≡ demangler.new.entered) }
     ensures prepared { OnOk result (IsPrepared symbol.now demangler.new) }
     ensures bound { IfOk result (λ entered. entered ≤ 2 * length symbol.now) }
-    ensures nothing_kept { OnErr result (demangler.new ≡ no_run) }
+    ensures nothing_kept { OnErr result (demangler.new ≡ no_result) }
 {
     demangler.demangle(alloc, symbol)?;
     Ok(demangler.entered())
@@ -65,7 +65,7 @@ pub fn answer_after<'a>(
     ensures* kept { sem 𝓛 (follows_so the_row the_row demangler.entry.ghost_name none (λ _ _. ⊤)
         (λ last. MatchResult result.1
         (λ found. (last.text ≡ option_map (λ text. text.now) found) × IsPrepared symbol.now last)
-        (λ _. last ≡ no_run))) }
+        (λ _. last ≡ no_result))) }
 {
     let len = match ask(demangler, alloc, before) {
         Ok(_) => Ok(demangler.text().map(str::len)),
@@ -88,7 +88,7 @@ pub fn component_of<'a>(
     ensures* kept { sem 𝓛 (follows_so the_row the_row demangler.entry.ghost_name none (λ _ _. ⊤)
         (λ last. MatchResult result
         (λ _. IsAnswer symbol.now last.text × IsPrepared symbol.now last)
-        (λ _. last ≡ no_run))) }
+        (λ _. last ≡ no_result))) }
 {
     demangler.demangle(alloc, symbol)?;
     Ok(demangler.component(i))

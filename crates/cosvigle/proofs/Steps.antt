@@ -65,7 +65,7 @@ valued_value flags next letter len bytes more is =
     ap (λ t. if t then after_letter flags letter else with_value (after_letter flags letter) (drop (len + 1) bytes)) (ne_eqb len (length bytes) more)
     ∙ ap (λ s. with_value s (drop (len + 1) bytes)) is
 
-no_value : (step : OptionState) (value : List ℕ) → ((next : Flags) → step ≡ Value next → ⊥) → with_value step value ≡ Stopping instead.UnexpectedValue
+no_value : (state : OptionState) (value : List ℕ) → ((next : Flags) → state ≡ Value next → ⊥) → with_value state value ≡ Stopping instead.UnexpectedValue
 no_value (Go flags) value none = refl
 no_value (Value flags) value none = absurd (none flags refl)
 no_value (Stopping by) value none = refl

@@ -25,38 +25,38 @@ turned arguments at none all state inside so_far =
     ∙ ap (λ n. read (next state (get_or arguments at none).now) (drop n (texts arguments))) place
 
 -- it is a value
-pub value_turn : (arguments : List (Bor (List ℕ))) (at : ℕ) (none : Bor (List ℕ)) (all : State) (step result : OptionState) (flags : Flags) (symbols : List (List ℕ)) (word : List ℕ)
-    → at < length arguments → step ≡ Value flags → result ≡ after_format flags (get_or arguments at none).now
-    → all ≡ read (reading step symbols word) (drop at (texts arguments))
+pub value_turn : (arguments : List (Bor (List ℕ))) (at : ℕ) (none : Bor (List ℕ)) (all : State) (state result : OptionState) (flags : Flags) (symbols : List (List ℕ)) (last : List ℕ)
+    → at < length arguments → state ≡ Value flags → result ≡ after_format flags (get_or arguments at none).now
+    → all ≡ read (reading state symbols last) (drop at (texts arguments))
     → all ≡ read (reading result symbols (get_or arguments at none).now) (drop (at + 1) (texts arguments))
-value_turn arguments at none all step result flags symbols word inside is result_is so_far =
+value_turn arguments at none all state result flags symbols last inside is result_is so_far =
     let argument : List ℕ = (get_or arguments at none).now in
-    turned arguments at none all (reading step symbols word) inside so_far
-    ∙ ap (λ s. read (next (reading s symbols word) argument) (drop (at + 1) (texts arguments))) is
+    turned arguments at none all (reading state symbols last) inside so_far
+    ∙ ap (λ s. read (next (reading s symbols last) argument) (drop (at + 1) (texts arguments))) is
     ∙ ap (λ s. read (reading s symbols argument) (drop (at + 1) (texts arguments))) (sym result_is)
 
 -- it is none
-pub go_turn : (arguments : List (Bor (List ℕ))) (at : ℕ) (none : Bor (List ℕ)) (all : State) (step : OptionState) (flags : Flags) (symbols : List (List ℕ)) (word : List ℕ) (kind : Kind)
-    → at < length arguments → step ≡ Go flags → kind_of (get_or arguments at none).now ≡ kind
-    → all ≡ read (reading step symbols word) (drop at (texts arguments))
-    → all ≡ read (of_kind kind flags symbols word (get_or arguments at none).now) (drop (at + 1) (texts arguments))
-go_turn arguments at none all step flags symbols word kind inside is kind_is so_far =
+pub go_turn : (arguments : List (Bor (List ℕ))) (at : ℕ) (none : Bor (List ℕ)) (all : State) (state : OptionState) (flags : Flags) (symbols : List (List ℕ)) (last : List ℕ) (kind : Kind)
+    → at < length arguments → state ≡ Go flags → kind_of (get_or arguments at none).now ≡ kind
+    → all ≡ read (reading state symbols last) (drop at (texts arguments))
+    → all ≡ read (of_kind kind flags symbols last (get_or arguments at none).now) (drop (at + 1) (texts arguments))
+go_turn arguments at none all state flags symbols last kind inside is kind_is so_far =
     let argument : List ℕ = (get_or arguments at none).now in
-    turned arguments at none all (reading step symbols word) inside so_far
-    ∙ ap (λ s. read (next (reading s symbols word) argument) (drop (at + 1) (texts arguments))) is
-    ∙ ap (λ k. read (of_kind k flags symbols word argument) (drop (at + 1) (texts arguments))) kind_is
+    turned arguments at none all (reading state symbols last) inside so_far
+    ∙ ap (λ s. read (next (reading s symbols last) argument) (drop (at + 1) (texts arguments))) is
+    ∙ ap (λ k. read (of_kind k flags symbols last argument) (drop (at + 1) (texts arguments))) kind_is
 
 -- nothing is read after a stop
-read_stopped : (stop : EarlyExit) (word : List ℕ) (arguments : List (List ℕ)) → read (stopped stop word) arguments ≡ stopped stop word
-read_stopped stop word [] = refl
-read_stopped stop word (argument ∷ arguments) = read_stopped stop word arguments
+read_stopped : (stop : EarlyExit) (last : List ℕ) (arguments : List (List ℕ)) → read (stopped stop last) arguments ≡ stopped stop last
+read_stopped stop last [] = refl
+read_stopped stop last (argument ∷ arguments) = read_stopped stop last arguments
 
-pub stop_turn : (arguments : List (Bor (List ℕ))) (at : ℕ) (none : Bor (List ℕ)) (all : State) (step : OptionState) (stop : EarlyExit) (symbols : List (List ℕ)) (word : List ℕ)
-    → at < length arguments → step ≡ Stopping stop → all ≡ read (reading step symbols word) (drop at (texts arguments)) → all ≡ stopped stop word
-stop_turn arguments at none all step stop symbols word inside is so_far =
-    turned arguments at none all (reading step symbols word) inside so_far
-    ∙ ap (λ s. read (next (reading s symbols word) (get_or arguments at none).now) (drop (at + 1) (texts arguments))) is
-    ∙ read_stopped stop word (drop (at + 1) (texts arguments))
+pub stop_turn : (arguments : List (Bor (List ℕ))) (at : ℕ) (none : Bor (List ℕ)) (all : State) (state : OptionState) (stop : EarlyExit) (symbols : List (List ℕ)) (last : List ℕ)
+    → at < length arguments → state ≡ Stopping stop → all ≡ read (reading state symbols last) (drop at (texts arguments)) → all ≡ stopped stop last
+stop_turn arguments at none all state stop symbols last inside is so_far =
+    turned arguments at none all (reading state symbols last) inside so_far
+    ∙ ap (λ s. read (next (reading s symbols last) (get_or arguments at none).now) (drop (at + 1) (texts arguments))) is
+    ∙ read_stopped stop last (drop (at + 1) (texts arguments))
 
 -- all are symbols after the end
 pub read_ended : (flags : Flags) (symbols arguments : List (List ℕ)) → read (ended flags symbols) arguments ≡ ended flags (symbols ++ arguments)

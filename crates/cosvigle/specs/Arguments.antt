@@ -2,7 +2,7 @@
 use Rattle.std.specs.Prelude.{ℕ, List, ◌++◌, Bool, ◌&&◌, IsUtf8, Some, None, codes, take, drop, if◌then◌else◌}
 use Rattle.itanium_syntax.specs.Bytes.{begins}
 use Rattle.symfilter_engine.specs.declared.symbols.Replacement.{Replacement}
-use Rattle.symfilter_engine.specs.Shown.{IsShown}
+use Rattle.symfilter_engine.specs.Printed.{IsPrintedAs}
 
 -- the byte that ends a line
 abbrev pub line_feed : ℕ
@@ -28,11 +28,11 @@ symbol_of strip argument = stripped strip (drop (import_len argument) argument)
 pub data IsArgumentAnswer (options : Replacement) (argument : List ℕ) : List ℕ → Type 0 where
   -- what stands in front of its symbol, and what is printed for that
   answered : {text : List ℕ} → IsUtf8 (symbol_of options.strip argument)
-      → IsShown options.printing (symbol_of options.strip argument) (Some text)
+      → IsPrintedAs options.printing (symbol_of options.strip argument) (Some text)
       → IsArgumentAnswer options argument (take (import_len argument) argument ++ text)
   -- the argument itself, where nothing is printed for its symbol
   unanswered : IsUtf8 (symbol_of options.strip argument)
-      → IsShown options.printing (symbol_of options.strip argument) None
+      → IsPrintedAs options.printing (symbol_of options.strip argument) None
       → IsArgumentAnswer options argument argument
   -- or isn't UTF-8
   not_utf8 : ¬ (IsUtf8 (symbol_of options.strip argument)) → IsArgumentAnswer options argument argument

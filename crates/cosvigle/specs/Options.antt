@@ -9,12 +9,12 @@ use Rattle.cosvigle.specs.declared.options.OptionState.{OptionState}
 use Rattle.cosvigle.specs.declared.options.OptionState.TheVariants.{Go, Value, Stop as Stopping}
 use Rattle.cosvigle.specs.declared.options.Kind.{Kind}
 use Rattle.cosvigle.specs.declared.options.Kind.TheVariants.{End, Name, Letters, Symbol}
-use Rattle.cosvigle.specs.declared.options.Asked.{Asked}
-use Rattle.cosvigle.specs.declared.options.Asked.TheVariants.{Symbols, Stopped}
+use Rattle.cosvigle.specs.declared.options.Request.{Request}
+use Rattle.cosvigle.specs.declared.options.Request.TheVariants.{Symbols, Stopped}
 use Rattle.symfilter_engine.specs.declared.symbols.Printing.{Printing}
 use Rattle.symfilter_engine.specs.declared.symbols.Printing.TheVariants.{Names, Signatures}
 use Rattle.cosvigle.specs.declared.option_names.Found.{Found}
-use Rattle.cosvigle.specs.declared.option_names.Found.TheVariants.{Nothing, Front, Several, Whole}
+use Rattle.cosvigle.specs.declared.option_names.Found.TheVariants.{Nothing, Prefix, Several, Exact}
 
 -- the texts are the same
 abbrev pub same : List ℕ → List ℕ → Bool
@@ -30,8 +30,8 @@ with_strip on flags = record flags { strip = on }
 abbrev pub with_lines : Bool → Flags → Flags
 with_lines on flags = record flags { lines = on }
 
-abbrev pub with_plain : Bool → Flags → Flags
-with_plain on flags = record flags { plain = on }
+abbrev pub with_pass_through : Bool → Flags → Flags
+with_pass_through on flags = record flags { pass_through = on }
 
 abbrev pub with_printing : Printing → Flags → Flags
 with_printing printing flags = record flags { printing = printing }
@@ -39,8 +39,8 @@ with_printing printing flags = record flags { printing = printing }
 -- what a format asks for
 abbrev pub after_format : Flags → List ℕ → OptionState
 after_format flags format =
-    if same (codes "auto") format || same (codes "gnu-v3") format then Go (with_plain false flags) else
-    if same (codes "none") format then Go (with_plain true flags) else
+    if same (codes "auto") format || same (codes "gnu-v3") format then Go (with_pass_through false flags) else
+    if same (codes "none") format then Go (with_pass_through true flags) else
     Stopping instead.UnknownFormat
 
 -- what the option with a letter asks for
@@ -72,15 +72,15 @@ after_letters flags argument = letters (Go flags) (drop 1 argument)
 
 -- one more option whose name begins with the bytes
 abbrev pub with_match : Found → ℕ → Found
-with_match Nothing letter = Front letter
-with_match (Front first) letter = if first == letter then Front first else Several
+with_match Nothing letter = Prefix letter
+with_match (Prefix first) letter = if first == letter then Prefix first else Several
 with_match Several letter = Several
-with_match (Whole first) letter = Whole first
+with_match (Exact first) letter = Exact first
 
 -- an option's name, and its letter
 abbrev pub match_name : Found → List ℕ → List ℕ → ℕ → Found
 match_name found bytes name letter =
-    if begins bytes name then (if length name == length bytes then Whole letter else with_match found letter) else found
+    if begins bytes name then (if length name == length bytes then Exact letter else with_match found letter) else found
 
 -- the options whose names begin with the bytes: a whole name counts alone
 abbrev pub find_option : List ℕ → Found
@@ -123,8 +123,8 @@ after_valued flags letter len bytes =
 abbrev pub after_found : Flags → Found → ℕ → List ℕ → OptionState
 after_found flags Nothing len bytes = Stopping instead.UnknownOption
 after_found flags Several len bytes = Stopping instead.AmbiguousOption
-after_found flags (Front letter) len bytes = after_valued flags letter len bytes
-after_found flags (Whole letter) len bytes = after_valued flags letter len bytes
+after_found flags (Prefix letter) len bytes = after_valued flags letter len bytes
+after_found flags (Exact letter) len bytes = after_valued flags letter len bytes
 
 -- what follows `--`: a name, and a value after `=`
 abbrev pub after_name : Flags → List ℕ → OptionState
@@ -154,18 +154,18 @@ pub data State : Type 0 where
 
 -- one argument more, of this kind, after these flags
 abbrev pub of_kind : Kind → Flags → List (List ℕ) → List ℕ → List ℕ → State
-of_kind End flags symbols word argument = ended flags symbols
-of_kind Name flags symbols word argument = reading (after_name flags (drop 2 argument)) symbols argument
-of_kind Letters flags symbols word argument = reading (after_letters flags argument) symbols argument
-of_kind Symbol flags symbols word argument = reading (Go flags) (symbols ++ argument ∷ []) word
+of_kind End flags symbols last argument = ended flags symbols
+of_kind Name flags symbols last argument = reading (after_name flags (drop 2 argument)) symbols argument
+of_kind Letters flags symbols last argument = reading (after_letters flags argument) symbols argument
+of_kind Symbol flags symbols last argument = reading (Go flags) (symbols ++ argument ∷ []) last
 
 -- one argument more
 abbrev pub next : State → List ℕ → State
-next (reading (Go flags) symbols word) argument = of_kind (kind_of argument) flags symbols word argument
-next (reading (Value flags) symbols word) argument = reading (after_format flags argument) symbols argument
-next (reading (Stopping stop) symbols word) argument = stopped stop word
+next (reading (Go flags) symbols last) argument = of_kind (kind_of argument) flags symbols last argument
+next (reading (Value flags) symbols last) argument = reading (after_format flags argument) symbols argument
+next (reading (Stopping stop) symbols last) argument = stopped stop last
 next (ended flags symbols) argument = ended flags (symbols ++ argument ∷ [])
-next (stopped stop word) argument = stopped stop word
+next (stopped stop last) argument = stopped stop last
 
 -- all arguments
 abbrev pub read : State → List (List ℕ) → State
@@ -174,25 +174,25 @@ read state (argument ∷ arguments) = read (next state argument) arguments
 
 -- no option
 abbrev pub no_flags : Flags
-no_flags = record { strip = false; lines = false; plain = false; printing = Names }
+no_flags = record { strip = false; lines = false; pass_through = false; printing = Names }
 
 -- the bytes of texts
 abbrev pub texts : List (Bor (List ℕ)) → List (List ℕ)
 texts arguments = map (λ argument. argument.now) arguments
 
 -- what is asked after these were read
-abbrev pub Asks : State → Asked → Type 0
-Asks (reading (Go flags) symbols word) (Symbols chosen given) = (chosen ≡ flags) × (texts given.items ≡ symbols)
-Asks (reading (Value flags) symbols word) (Stopped by argument) = (by ≡ instead.MissingValue) × (argument.now ≡ word)
-Asks (reading (Stopping stop) symbols word) (Stopped by argument) = (by ≡ stop) × (argument.now ≡ word)
-Asks (ended flags symbols) (Symbols chosen given) = (chosen ≡ flags) × (texts given.items ≡ symbols)
-Asks (stopped stop word) (Stopped by argument) = (by ≡ stop) × (argument.now ≡ word)
-Asks (reading (Go flags) symbols word) (Stopped by argument) = ⊥
-Asks (reading (Value flags) symbols word) (Symbols chosen given) = ⊥
-Asks (reading (Stopping stop) symbols word) (Symbols chosen given) = ⊥
-Asks (ended flags symbols) (Stopped by argument) = ⊥
-Asks (stopped stop word) (Symbols chosen given) = ⊥
+abbrev pub IsRequestAfter : State → Request → Type 0
+IsRequestAfter (reading (Go flags) symbols last) (Symbols chosen given) = (chosen ≡ flags) × (texts given.items ≡ symbols)
+IsRequestAfter (reading (Value flags) symbols last) (Stopped by argument) = (by ≡ instead.MissingValue) × (argument.now ≡ last)
+IsRequestAfter (reading (Stopping stop) symbols last) (Stopped by argument) = (by ≡ stop) × (argument.now ≡ last)
+IsRequestAfter (ended flags symbols) (Symbols chosen given) = (chosen ≡ flags) × (texts given.items ≡ symbols)
+IsRequestAfter (stopped stop last) (Stopped by argument) = (by ≡ stop) × (argument.now ≡ last)
+IsRequestAfter (reading (Go flags) symbols last) (Stopped by argument) = ⊥
+IsRequestAfter (reading (Value flags) symbols last) (Symbols chosen given) = ⊥
+IsRequestAfter (reading (Stopping stop) symbols last) (Symbols chosen given) = ⊥
+IsRequestAfter (ended flags symbols) (Stopped by argument) = ⊥
+IsRequestAfter (stopped stop last) (Symbols chosen given) = ⊥
 
 -- all arguments, and what they ask
-abbrev pub IsAsked : List (List ℕ) → Asked → Type 0
-IsAsked arguments asked = Asks (read (reading (Go no_flags) [] []) arguments) asked
+abbrev pub IsRequest : List (List ℕ) → Request → Type 0
+IsRequest arguments request = IsRequestAfter (read (reading (Go no_flags) [] []) arguments) request

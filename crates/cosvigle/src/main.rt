@@ -23,14 +23,14 @@ use arguments::{Printed, answer_of, set_line};
 use files::{file_name, is_text, words_in};
 use help::{HELP, VERSION};
 use itanium_demangle::Demangler;
-use options::{Asked, EarlyExit, Flags, read_arguments};
+use options::{EarlyExit, Flags, Request, read_arguments};
 use output::{Output, reported};
 use std::alloc::AllocError;
 use std::env::{Env, FillError};
 use std::io::{ErrorKind, Read, Stdout, Write};
 use std::process::ExitCode;
 use std::{fs, str};
-use symfilter_engine::{FilterFault, Replacement, Tally, filter_by, replace};
+use symfilter_engine::{FilterFault, Replacement, Tally, filter_with, replace};
 
 /// The exit status if the arguments can't be read, and nothing is done.
 const USAGE_ERROR: u8 = 2;
@@ -63,14 +63,14 @@ fn replacement(flags: Flags) -> Replacement
     }
 }
 
-/// Returns what is printed for an argument. If `plain` is set, that is the argument itself.
+/// Returns what is printed for an argument. If `pass_through` is set, that is the argument itself.
 fn output_of<'a>(
     rt: &HostRuntime,
     demangler: &'a mut Demangler,
     flags: Flags,
     argument: &'a [u8],
 ) -> Result<Printed<'a>, AllocError> {
-    if flags.plain {
+    if flags.pass_through {
         return Ok(Printed {
             front: b"",
             text: argument,
@@ -111,20 +111,20 @@ fn copy_input(rt: &HostRuntime, output: &mut Output<Stdout>) -> Result<(), Filte
     Err(FilterFault::Read)
 }
 
-/// Copies standard input to standard output, and replaces symbols by names. If `plain` is set, nothing is replaced.
+/// Copies standard input to standard output, and replaces symbols by names. If `pass_through` is set, nothing is replaced.
 fn replace_input(
     rt: &HostRuntime,
     output: &mut Output<Stdout>,
     flags: Flags,
 ) -> Result<(), FilterFault> {
-    if flags.plain {
+    if flags.pass_through {
         return copy_input(rt, output);
     }
     // Neither the source nor the sink has a buffer: the engine reads and writes whole chunks.
     let mut source = Tally::new(rt.stdin());
     let mut sink = Tally::new(output);
     if flags.lines {
-        return filter_by(rt.alloc(), flags.printing, &mut source, &mut sink);
+        return filter_with(rt.alloc(), flags.printing, &mut source, &mut sink);
     }
     replace(rt.alloc(), replacement(flags), &mut source, &mut sink)
 }
@@ -175,12 +175,14 @@ fn exit_early(
 fn execute(
     rt: &HostRuntime,
     output: &mut Output<Stdout>,
-    asked: &Asked,
+    request: &Request,
 ) -> Result<u8, FilterFault> {
-    match asked {
-        Asked::Stopped(by, argument) => return exit_early(rt, output, *by, argument),
-        Asked::Symbols(flags, symbols) if symbols.is_empty() => replace_input(rt, output, *flags)?,
-        Asked::Symbols(flags, symbols) => print_symbols(rt, output, *flags, symbols)?,
+    match request {
+        Request::Stopped(by, argument) => return exit_early(rt, output, *by, argument),
+        Request::Symbols(flags, symbols) if symbols.is_empty() => replace_input(
+            rt, output, *flags,
+        )?,
+        Request::Symbols(flags, symbols) => print_symbols(rt, output, *flags, symbols)?,
     }
     Ok(0)
 }
@@ -272,8 +274,8 @@ fn run(rt: &HostRuntime, output: &mut Output<Stdout>) -> Result<u8, FilterFault>
         return Ok(refuse(rt, "too many files stand as @FILE", b"", ""));
     };
     let arguments = slices_of(rt, &words)?;
-    let asked = read_arguments(rt.alloc(), &arguments)?;
-    execute(rt, output, &asked)
+    let request = read_arguments(rt.alloc(), &arguments)?;
+    execute(rt, output, &request)
 }
 
 fn main(rt: HostRuntime) -> ExitCode {

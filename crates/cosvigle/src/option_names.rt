@@ -9,11 +9,11 @@ pub enum Found {
     /// No option.
     Nothing,
     /// One option, one or more of whose names begin with the bytes.
-    Front(u8),
+    Prefix(u8),
     /// Several options.
     Several,
     /// One option, whose whole name the bytes are.
-    Whole(u8),
+    Exact(u8),
 }
 
 /// Adds an option whose name begins with the bytes to the options found.
@@ -21,8 +21,8 @@ fn with_match(found: Found, letter: u8) -> Found
     ensures value { result ≡ spec.with_match found letter }
 {
     match found {
-        Found::Nothing => Found::Front(letter),
-        Found::Front(first) if first != letter => Found::Several,
+        Found::Nothing => Found::Prefix(letter),
+        Found::Prefix(first) if first != letter => Found::Several,
         _ => found,
     }
 }
@@ -50,7 +50,7 @@ fn match_name(found: Found, bytes: &[u8], name: &[u8], letter: u8) -> Found
         return found;
     }
     if name.len() == bytes.len() {
-        return Found::Whole(letter);
+        return Found::Exact(letter);
     }
     with_match(found, letter)
 }

@@ -1,7 +1,7 @@
 //! Reads what the arguments ask.
 ghost use Rattle.std.specs.Prelude.{◌≡◌, ◌≤◌, length, IfOk};
 ghost use Rattle.cosvigle.specs.Options as spec;
-ghost use Rattle.cosvigle.specs.Options.{reading, texts, Asks, IsAsked};
+ghost use Rattle.cosvigle.specs.Options.{reading, texts, IsRequestAfter, IsRequest};
 
 use super::option_names::{Found, find_option};
 use std::alloc::{AllocError, Global};
@@ -15,7 +15,7 @@ pub struct Flags {
     /// Whether each line of standard input is a symbol, rather than a text with symbols in it.
     pub lines: bool,
     /// Whether no symbol is read, and all stays as it is.
-    pub plain: bool,
+    pub pass_through: bool,
     /// What is printed for a symbol.
     pub printing: Printing,
 }
@@ -54,7 +54,7 @@ pub enum OptionState {
 
 /// What the arguments ask.
 #[derive(Drop)]
-pub enum Asked<'a> {
+pub enum Request<'a> {
     /// Print what is printed for each of these symbols. If there are none, replace the symbols of standard input.
     Symbols(Flags, Vec<&'a [u8]>),
     /// Stop, because of this argument.
@@ -69,13 +69,13 @@ fn after_format(flags: Flags, format: &[u8]) -> OptionState
         [b'a', b'u', b't', b'o'] | [b'g', b'n', b'u', b'-', b'v', b'3'] => OptionState::Go(Flags {
             strip: flags.strip,
             lines: flags.lines,
-            plain: false,
+            pass_through: false,
             printing: flags.printing,
         }),
         [b'n', b'o', b'n', b'e'] => OptionState::Go(Flags {
             strip: flags.strip,
             lines: flags.lines,
-            plain: true,
+            pass_through: true,
             printing: flags.printing,
         }),
         _ => OptionState::Stop(EarlyExit::UnknownFormat),
@@ -90,31 +90,31 @@ fn after_letter(flags: Flags, letter: u8) -> OptionState
         b'_' => OptionState::Go(Flags {
             strip: true,
             lines: flags.lines,
-            plain: flags.plain,
+            pass_through: flags.pass_through,
             printing: flags.printing,
         }),
         b'n' => OptionState::Go(Flags {
             strip: false,
             lines: flags.lines,
-            plain: flags.plain,
+            pass_through: flags.pass_through,
             printing: flags.printing,
         }),
         b'l' => OptionState::Go(Flags {
             strip: flags.strip,
             lines: true,
-            plain: flags.plain,
+            pass_through: flags.pass_through,
             printing: flags.printing,
         }),
         b'p' => OptionState::Go(Flags {
             strip: flags.strip,
             lines: flags.lines,
-            plain: flags.plain,
+            pass_through: flags.pass_through,
             printing: Printing::Names,
         }),
         b'P' => OptionState::Go(Flags {
             strip: flags.strip,
             lines: flags.lines,
-            plain: flags.plain,
+            pass_through: flags.pass_through,
             printing: Printing::Signatures,
         }),
         b'i' | b'r' | b'R' => OptionState::Go(flags),
@@ -138,7 +138,7 @@ fn after_letters(flags: Flags, argument: &[u8]) -> OptionState
             OptionState::Value(next) if at + 1 < argument.len() => {
                 return after_format(next, &argument[at + 1..]);
             }
-            step => return step,
+            state => return state,
         }
     }
     OptionState::Go(flags)
@@ -163,11 +163,11 @@ fn after_valued(flags: Flags, letter: u8, len: usize, bytes: &[u8]) -> OptionSta
     requires { len ≤ length bytes.now }
     ensures value { result ≡ spec.after_valued flags letter len bytes.now }
 {
-    let step = after_letter(flags, letter);
+    let state = after_letter(flags, letter);
     if len == bytes.len() {
-        return step;
+        return state;
     }
-    match step {
+    match state {
         OptionState::Value(next) => after_format(next, &bytes[len + 1..]),
         _ => OptionState::Stop(EarlyExit::UnexpectedValue),
     }
@@ -180,8 +180,8 @@ fn after_name(flags: Flags, bytes: &[u8]) -> OptionState
 {
     let len = name_len(bytes);
     match find_option(&bytes[..len]) {
-        Found::Whole(letter) => after_valued(flags, letter, len, bytes),
-        Found::Front(letter) => after_valued(flags, letter, len, bytes),
+        Found::Exact(letter) => after_valued(flags, letter, len, bytes),
+        Found::Prefix(letter) => after_valued(flags, letter, len, bytes),
         Found::Several => OptionState::Stop(EarlyExit::AmbiguousOption),
         Found::Nothing => OptionState::Stop(EarlyExit::UnknownOption),
     }
@@ -212,57 +212,57 @@ fn kind_of(argument: &[u8]) -> Kind
     }
 }
 
-/// Returns what the arguments ask after the last of them. `step` is the state, and `word` the argument that was read
-/// last.
-fn asked_at_end<'a>(step: OptionState, symbols: Vec<&'a [u8]>, word: &'a [u8]) -> Asked<'a>
-    ensures asked { Asks (reading step (texts symbols.entry.items) word.now) result }
+/// Returns what the arguments ask, once all have been read. `state` is the state then, and `last` the last argument
+/// that was an option or the value of one.
+fn request_at_end<'a>(state: OptionState, symbols: Vec<&'a [u8]>, last: &'a [u8]) -> Request<'a>
+    ensures request { IsRequestAfter (reading state (texts symbols.entry.items) last.now) result }
 {
-    match step {
-        OptionState::Go(flags) => Asked::Symbols(flags, symbols),
-        OptionState::Value(_) => Asked::Stopped(EarlyExit::MissingValue, word),
-        OptionState::Stop(stop) => Asked::Stopped(stop, word),
+    match state {
+        OptionState::Go(flags) => Request::Symbols(flags, symbols),
+        OptionState::Value(_) => Request::Stopped(EarlyExit::MissingValue, last),
+        OptionState::Stop(stop) => Request::Stopped(stop, last),
     }
 }
 
 /// Returns what the arguments ask. Returns an error if an allocation fails.
-pub fn read_arguments<'a>(alloc: Global, arguments: &[&'a [u8]]) -> Result<Asked<'a>, AllocError>
-    ensures asked { IfOk result (IsAsked (texts arguments.now)) }
+pub fn read_arguments<'a>(alloc: Global, arguments: &[&'a [u8]]) -> Result<Request<'a>, AllocError>
+    ensures request { IfOk result (IsRequest (texts arguments.now)) }
 {
-    let mut step = OptionState::Go(Flags {
+    let mut state = OptionState::Go(Flags {
         strip: false,
         lines: false,
-        plain: false,
+        pass_through: false,
         printing: Printing::Names,
     });
     let mut symbols = Vec::new(alloc);
     // The last argument that was an option or the value of one.
-    let mut word: &'a [u8] = b"";
+    let mut last: &'a [u8] = b"";
     for at in 0..arguments.len() {
         let argument = arguments[at];
-        let flags = match step {
+        let flags = match state {
             OptionState::Go(flags) => flags,
             OptionState::Value(flags) => {
-                step = after_format(flags, argument);
-                word = argument;
+                state = after_format(flags, argument);
+                last = argument;
                 continue;
             }
-            OptionState::Stop(stop) => return Ok(Asked::Stopped(stop, word)),
+            OptionState::Stop(stop) => return Ok(Request::Stopped(stop, last)),
         };
         match kind_of(argument) {
             Kind::End => {
                 symbols.extend_from_slice(&arguments[at + 1..])?;
-                return Ok(Asked::Symbols(flags, symbols));
+                return Ok(Request::Symbols(flags, symbols));
             }
             Kind::Name => {
-                step = after_name(flags, &argument[2..]);
-                word = argument;
+                state = after_name(flags, &argument[2..]);
+                last = argument;
             }
             Kind::Letters => {
-                step = after_letters(flags, argument);
-                word = argument;
+                state = after_letters(flags, argument);
+                last = argument;
             }
             Kind::Symbol => symbols.push(argument)?,
         }
     }
-    Ok(asked_at_end(step, symbols, word))
+    Ok(request_at_end(state, symbols, last))
 }

@@ -4,7 +4,7 @@ use Rattle.itanium_grammar.specs.Answer.{IsAnswer}
 use Rattle.itanium_demangle.specs.Demangler.{IsPrepared, IsPreparedSignature}
 use Rattle.symfilter_engine.specs.declared.symbols.Printing.{Printing}
 use Rattle.symfilter_engine.specs.declared.symbols.Printing.TheVariants.{Names, Signatures}
-use Rattle.itanium_demangle.specs.LastRun.{LastRun}
+use Rattle.itanium_demangle.specs.LastResult.{LastResult}
 use Rattle.cosvigle_c.specs.declared.kept.Kept.{Kept}
 
 -- the text that is still to be taken, which is empty where there is none
@@ -13,12 +13,12 @@ text_of (Some kept) = kept.text.items
 text_of None = []
 
 -- what the demangler keeps of its last symbol, where there is a demangler
-abbrev pub run_of : Option Kept → Option LastRun
+abbrev pub run_of : Option Kept → Option LastResult
 run_of (Some kept) = Some kept.demangler
 run_of None = None
 
 -- what the demangler keeps of a symbol that it was asked for
-abbrev pub HasRead : Printing → List ℕ → LastRun → Type 0
+abbrev pub HasRead : Printing → List ℕ → LastResult → Type 0
 HasRead Names symbol run = IsAnswer symbol run.text × IsPrepared symbol run
 HasRead Signatures symbol run = IsPreparedSignature symbol run
 

@@ -1,6 +1,6 @@
 //! What a handle keeps between calls.
 ghost use Rattle.std.specs.Prelude.{◌≡◌, [], OnOk};
-ghost use Rattle.itanium_demangle.specs.LastRun.{no_run};
+ghost use Rattle.itanium_demangle.specs.LastResult.{no_result};
 ghost use Rattle.cosvigle_c.specs.Calls.{IsAsked};
 ghost use Rattle.cosvigle_c.specs.Kept.{HasRead};
 
@@ -18,7 +18,7 @@ pub struct Kept {
 impl Kept {
     /// Returns a new demangler, and no text. Allocates nothing.
     pub fn new(alloc: Global) -> Kept
-        ensures demangler { result.demangler ≡ no_run }
+        ensures demangler { result.demangler ≡ no_result }
         ensures text { result.text.items ≡ [] }
     {
         Kept {

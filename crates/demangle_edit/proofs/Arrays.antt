@@ -1,8 +1,8 @@
 -- Arrays, put together step by step.
 use Rattle.std.proofs.Common.{◌≡◌, ℕ, ◌+◌, ◌-◌, min, Bool, true, false, if◌then◌else◌, Option, Some, None, List, [], ◌++◌, length, take, drop, codes, sym, ap, ◌∙◌, refl, arith, append_assoc, is_some, subst, ◌≤◌}
 use Rattle.std.proofs.lemmas.List.{length-append, length-take, take-append-drop, append-nil}
-use Rattle.demangle_text.specs.declared.shape.Kind.TheVariants.{Array, Function}
-use Rattle.demangle_text.specs.declared.shape.Place.TheVariants.{Suffix, End}
+use Rattle.demangle_text.specs.declared.pieces.Kind.TheVariants.{Array, Function}
+use Rattle.demangle_text.specs.declared.pieces.Place.TheVariants.{Suffix, End}
 use Rattle.demangle_text.specs.Shape.{Form, Plain, Declared, Shape, form_text, inserted, declared_at, flattened, text_len, moved}
 use Rattle.demangle_text.specs.Calls.{IsPlain, kind_of, group_of, after_of}
 use Rattle.demangle_edit.specs.Types.{dimension_text, array_shape, may_be_element}

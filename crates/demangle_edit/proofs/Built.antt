@@ -9,9 +9,9 @@ use Rattle.std.proofs.lemmas.List.{append-nil, length-append, length-map, length
 use Rattle.std.proofs.lemmas.List.Elements.{All-get_or}
 use Rattle.demangle_quals.specs.declared.quals.Quals.{Quals}
 use Rattle.demangle_quals.specs.Quals.{quals_text}
-use Rattle.demangle_text.specs.declared.shape.Piece.{Piece}
-use Rattle.demangle_text.specs.declared.shape.Mark.{Mark}
-use Rattle.demangle_text.specs.declared.shape.Place.TheVariants.{End}
+use Rattle.demangle_text.specs.declared.pieces.Piece.{Piece}
+use Rattle.demangle_text.specs.declared.pieces.Mark.{Mark}
+use Rattle.demangle_text.specs.declared.pieces.Place.TheVariants.{End}
 use Rattle.demangle_text.specs.declared.buffer.Buffer.{Buffer}
 use Rattle.demangle_text.specs.Shape.{Shape, Form, Plain, Declared, form_text, form_with, grouped, text, plain_shape, whole_shape, appended, flattened, flagged, moved}
 use Rattle.demangle_text.specs.Calls.{IsPlain}

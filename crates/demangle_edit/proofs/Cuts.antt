@@ -4,8 +4,8 @@ use Rattle.std.proofs.Math.Seq.{take-append_seam, drop-append_seam}
 use Rattle.std.proofs.lemmas.Bool.Decides.{nat_tests}
 use Rattle.std.specs.Prelude.{min, nat_le}
 use Rattle.std.proofs.lemmas.List.{length-append, take_all, drop_all}
-use Rattle.demangle_text.specs.declared.shape.Kind.TheVariants.{Function}
-use Rattle.demangle_text.specs.declared.shape.Place.TheVariants.{End}
+use Rattle.demangle_text.specs.declared.pieces.Kind.TheVariants.{Function}
+use Rattle.demangle_text.specs.declared.pieces.Place.TheVariants.{End}
 use Rattle.demangle_text.specs.Shape.{Form, Plain, Declared, Shape, form_text, form_with, text, text_len, plain_shape, appended, declared_at, is_plain}
 use Rattle.demangle_text.specs.Calls.{joined, kind_of}
 use Rattle.demangle_quals.specs.declared.quals.Quals.{Quals}

@@ -8,8 +8,8 @@ use Rattle.std.proofs.lemmas.Slice.Eq.{ends_is}
 use Rattle.demangle_quals.specs.declared.quals.Pointer.{Pointer}
 use Rattle.demangle_quals.specs.declared.quals.Pointer.TheVariants.{Star, Left, Right}
 use Rattle.std.specs.Prelude.{is_some}
-use Rattle.demangle_text.specs.declared.shape.Kind.TheVariants.{Array, Function}
-use Rattle.demangle_text.specs.declared.shape.Place.TheVariants.{Close, Suffix, End}
+use Rattle.demangle_text.specs.declared.pieces.Kind.TheVariants.{Array, Function}
+use Rattle.demangle_text.specs.declared.pieces.Place.TheVariants.{Close, Suffix, End}
 use Rattle.demangle_text.specs.Shape.{Shape, Form, Plain, Declared, is_plain, text, shortened, appended, inserted, opened_group}
 use Rattle.demangle_text.specs.Calls.{kind_of, group_of, CanInsert, IsPlain, IsDeclared}
 use Rattle.demangle_edit.specs.Types.{pointed_in, cv_place, collapse_step}

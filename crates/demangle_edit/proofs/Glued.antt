@@ -3,13 +3,13 @@ use Rattle.std.proofs.Common.{◌≡◌, ℕ, ◌+◌, ◌<◌, List, [], ◌∷
 use Rattle.std.specs.List.{concat}
 use Rattle.std.proofs.lemmas.List.{map_more, append-nil}
 use Rattle.std.proofs.lemmas.List.Elements.{All-get_or}
-use Rattle.demangle_text.specs.declared.shape.Piece.{Piece}
-use Rattle.demangle_text.specs.declared.shape.Mark.{Mark}
+use Rattle.demangle_text.specs.declared.pieces.Piece.{Piece}
+use Rattle.demangle_text.specs.declared.pieces.Mark.{Mark}
 use Rattle.demangle_text.specs.declared.buffer.Buffer.{Buffer}
 use Rattle.demangle_text.specs.Shape.{Shape, text, plain_shape, whole_shape, appended}
 use Rattle.demangle_text.specs.State.{shape, Lives, Opens}
-use Rattle.demangle_edit.specs.declared.parts.Glue.{Glue}
-use Rattle.demangle_edit.specs.declared.parts.Glue.TheVariants.{Text, Piece as Part}
+use Rattle.demangle_edit.specs.declared.glue.Glue.{Glue}
+use Rattle.demangle_edit.specs.declared.glue.Glue.TheVariants.{Text, Piece as Part}
 use Rattle.demangle_edit.specs.Lists.{glued}
 use Rattle.demangle_edit.specs.Calls.{part_text, IsLivingPart}
 

@@ -2,9 +2,9 @@
 use Rattle.std.proofs.Common.{◌≡◌, ℕ, ◌+◌, ◌-◌, ◌<◌, ◌≤◌, List, [], ◌++◌, length, ap, ◌∙◌, refl, arith, append_assoc, Bool, None, Some}
 use Rattle.std.proofs.lemmas.Bool.Decides.{nat_tests}
 use Rattle.std.proofs.lemmas.List.{length-append}
-use Rattle.demangle_text.specs.declared.shape.Kind.TheVariants.{Array, Function}
-use Rattle.demangle_text.specs.declared.shape.Place.{Place}
-use Rattle.demangle_text.specs.declared.shape.Place.TheVariants.{Start, Close, Suffix, End}
+use Rattle.demangle_text.specs.declared.pieces.Kind.TheVariants.{Array, Function}
+use Rattle.demangle_text.specs.declared.pieces.Place.{Place}
+use Rattle.demangle_text.specs.declared.pieces.Place.TheVariants.{Start, Close, Suffix, End}
 use Rattle.demangle_text.specs.Shape.{Shape, Form, Plain, Declared, form_text, form_with, moved, grouped, appended, inserted, flattened, flagged, with_own, text, text_len}
 use Rattle.demangle_text.specs.Calls.{joined, CanInsert}
 

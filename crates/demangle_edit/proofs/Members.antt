@@ -2,17 +2,17 @@
 use Rattle.std.proofs.Common.{◌≡◌, ℕ, ◌+◌, ◌-◌, ◌<◌, ◌≤◌, Bool, true, Option, Some, None, if◌then◌else◌, List, [], ◌∷◌, ◌++◌, length, take, drop, codes, sym, ap, ◌∙◌, refl, arith, append_assoc}
 use Rattle.std.specs.Prelude.{slice_range, slice_index}
 use Rattle.std.proofs.lemmas.List.{length-append, append-nil, get_or_at}
-use Rattle.demangle_text.specs.declared.shape.Kind.TheVariants.{Array, Function}
+use Rattle.demangle_text.specs.declared.pieces.Kind.TheVariants.{Array, Function}
 use Rattle.demangle_text.specs.Shape.{Form, Plain, Declared, Shape, form_text, text, text_len, plain_shape, appended, flattened, grouped, gap_after, flagged}
-use Rattle.demangle_text.specs.declared.shape.Piece.{Piece}
-use Rattle.demangle_text.specs.declared.shape.Mark.{Mark}
+use Rattle.demangle_text.specs.declared.pieces.Piece.{Piece}
+use Rattle.demangle_text.specs.declared.pieces.Mark.{Mark}
 use Rattle.demangle_text.specs.declared.buffer.Buffer.{Buffer}
 use Rattle.demangle_text.specs.State.{shape, IsLiving, IsEdit, Opens}
 use Rattle.demangle_text.proofs.Laws.{Opens-edit}
 use Rattle.demangle_text.specs.Calls.{joined, IsDeclared, IsPlain, front_text, kind_of, after_of, declared_group}
 use Rattle.demangle_edit.specs.Types.{member_gap, may_be_member, member_pointer_shape}
 use Rattle.demangle_edit.specs.Calls.{after_text, member_pointer_step}
-use Rattle.demangle_text.specs.declared.shape.Place.TheVariants.{End}
+use Rattle.demangle_text.specs.declared.pieces.Place.TheVariants.{End}
 use Rattle.demangle_edit.proofs.Insertions.{inserted_twice}
 use Rattle.demangle_edit.proofs.Cuts.{take_front, drop_front}
 

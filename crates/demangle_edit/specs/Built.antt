@@ -1,10 +1,10 @@
 -- What is built as it is read: what opens a name or a list, what each text adds, and what closes it.
 use Rattle.std.specs.Prelude.{ℕ, ◌+◌, List, [], ◌∷◌, ◌++◌, codes, decimal, nat_eq, Bool, true, false, if◌then◌else◌}
 use Rattle.std.specs.List.{ends_with}
-use Rattle.demangle_text.specs.declared.shape.Place.TheVariants.{Start}
+use Rattle.demangle_text.specs.declared.pieces.Place.TheVariants.{Start}
 use Rattle.demangle_quals.specs.declared.quals.Quals.{Quals}
 use Rattle.demangle_quals.specs.Quals.{quals_text}
-use Rattle.demangle_text.specs.declared.shape.Kind.TheVariants.{Function}
+use Rattle.demangle_text.specs.declared.pieces.Kind.TheVariants.{Function}
 use Rattle.demangle_text.specs.Shape.{Shape, text, plain_shape, whole_shape, inserted, appended, flattened, flagged, declared_at}
 use Rattle.demangle_edit.specs.Names.{angle_gap}
 

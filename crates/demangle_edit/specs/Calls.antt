@@ -8,15 +8,15 @@ use Rattle.demangle_quals.specs.declared.quals.Pointer.{Pointer}
 use Rattle.demangle_quals.specs.declared.quals.Pointer.TheVariants.{Star, Left, Right}
 use Rattle.demangle_edit.specs.Types.{array_shape, may_be_element, may_be_member, member_pointer_shape, function_shape}
 use Rattle.demangle_edit.specs.Built.{function_opened}
-use Rattle.demangle_text.specs.declared.shape.Piece.{Piece}
+use Rattle.demangle_text.specs.declared.pieces.Piece.{Piece}
 use Rattle.demangle_text.specs.declared.buffer.Buffer.{Buffer}
 use Rattle.demangle_text.specs.State.{StaysInPlace, JoinsInPlace, Appends}
 use Rattle.demangle_edit.specs.declared.expressions.LiteralForm.{LiteralForm}
 use Rattle.demangle_edit.specs.declared.expressions.LiteralForm.TheVariants.{Boolean, Null, Integer, Float, Cast}
 use Rattle.demangle_edit.specs.Expressions.{literal_shape, has_literal, sign_text, digits_text}
 use Rattle.demangle_text.specs.State.{IsLiving}
-use Rattle.demangle_edit.specs.declared.parts.Glue.{Glue}
-use Rattle.demangle_edit.specs.declared.parts.Glue.TheVariants.{Text, Piece as Part}
+use Rattle.demangle_edit.specs.declared.glue.Glue.{Glue}
+use Rattle.demangle_edit.specs.declared.glue.Glue.TheVariants.{Text, Piece as Part}
 
 -- whether that reference takes a byte of the type away
 abbrev pub is_cut : Bool → Shape → Bool

@@ -2,7 +2,7 @@
 use Rattle.std.specs.Prelude.{ℕ, List, [], ◌++◌, drop, codes, nat_eq, bytes_eq}
 use Rattle.std.specs.Prelude.{Bool, true, not, ◌&&◌, ◌||◌, if◌then◌else◌}
 use Rattle.std.specs.List.{starts_with}
-use Rattle.demangle_text.specs.declared.shape.Place.TheVariants.{Start}
+use Rattle.demangle_text.specs.declared.pieces.Place.TheVariants.{Start}
 use Rattle.demangle_text.specs.Shape.{Shape, text, plain_shape, inserted}
 use Rattle.demangle_edit.specs.declared.expressions.LiteralForm.{LiteralForm}
 use Rattle.demangle_edit.specs.declared.expressions.LiteralForm.TheVariants.{Boolean, Null, Integer, Float, Cast}

@@ -1,7 +1,7 @@
 -- The shapes of names.
 use Rattle.std.specs.Prelude.{ℕ, List, [], ◌++◌, length, codes, decimal, Bool, true, false, if◌then◌else◌, nat_eq}
 use Rattle.std.specs.List.{ends_with}
-use Rattle.demangle_text.specs.declared.shape.Place.TheVariants.{Start}
+use Rattle.demangle_text.specs.declared.pieces.Place.TheVariants.{Start}
 use Rattle.demangle_text.specs.Shape.{Shape, Plain, text, flattened, inserted, appended, own_shape, flagged}
 use Rattle.demangle_quals.specs.declared.quals.Quals.{Quals}
 use Rattle.demangle_quals.specs.Quals.{words_text, reference_text, has_quals}

@@ -2,9 +2,9 @@
 use Rattle.std.specs.Prelude.{ℕ, List, [], ◌++◌, length, take, drop, codes, nat_eq, decimal}
 use Rattle.std.specs.Prelude.{Bool, true, false, not, ◌&&◌, ◌||◌, if◌then◌else◌, Option, Some, None, unwrap_or}
 use Rattle.std.specs.List.{ends_with}
-use Rattle.demangle_text.specs.declared.shape.Kind.TheVariants.{Array, Function}
-use Rattle.demangle_text.specs.declared.shape.Place.{Place}
-use Rattle.demangle_text.specs.declared.shape.Place.TheVariants.{Close, Suffix, End}
+use Rattle.demangle_text.specs.declared.pieces.Kind.TheVariants.{Array, Function}
+use Rattle.demangle_text.specs.declared.pieces.Place.{Place}
+use Rattle.demangle_text.specs.declared.pieces.Place.TheVariants.{Close, Suffix, End}
 use Rattle.demangle_text.specs.Shape.{Shape, Form, Plain, Declared, text, moved, whole_shape, is_plain}
 use Rattle.demangle_text.specs.Shape.{appended, inserted, shortened, opened_group, declared_at}
 use Rattle.demangle_quals.specs.declared.quals.Quals.{Quals}

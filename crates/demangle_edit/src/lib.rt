@@ -22,13 +22,14 @@
 mod appends;
 mod dimensions;
 mod expressions;
+mod glue;
 mod lists;
 mod names;
-mod parts;
 mod types;
 
 pub use crate::appends::append_piece;
 pub use crate::expressions::{address, subexpr, write_literal, write_opened_literal};
+pub use crate::glue::Glue;
 pub use crate::lists::{
     append_number, close_arguments, close_lambda, close_params, glue, open_arguments, open_params,
 };
@@ -36,7 +37,6 @@ pub use crate::names::{
     apply_name_qualifiers, attach_template_args, close_opened, default_arg, format_params,
     open_default_arg, open_parent, qualify, qualify_ctor, qualify_text, tag,
 };
-pub use crate::parts::Glue;
 pub use crate::types::{
     close_function, collapse_ref, expand, function_type, open_function, wrap_array, wrap_cv,
     wrap_member_pointer, wrap_pointer,

@@ -4,7 +4,7 @@ use Rattle.std.proofs.lemmas.Bool.{leb-true, leb-false}
 use Rattle.std.proofs.lemmas.List.{length-append, length-map, length-take-le, length-drop, take_at, drop_at, take_all}
 use Rattle.std.proofs.lemmas.List.Edits.{length-between}
 use Rattle.std.proofs.lemmas.List.Elements.{All-head, All-tail, All-nil, All-cons}
-use Rattle.demangle_text.specs.declared.shape.Piece.{Piece}
+use Rattle.demangle_text.specs.declared.pieces.Piece.{Piece}
 use Rattle.demangle_text.specs.Pieces.{Store, IsStore, IsPiece, IsApart, outline_of, shape_of, shape_in, home_bytes, IsSpilled, carried, carried_from}
 use Rattle.demangle_text.specs.State.{IsLiving, shape, Lives, IsOlder, Frame, frame, frame_start, main_bytes, IsEdit, saved, scopes, parts_at, KeepsAll}
 use Rattle.demangle_text.proofs.States.{KeepsAll-elsewhere}

@@ -2,9 +2,9 @@
 use Rattle.std.proofs.Common.{◌≡◌, ℕ, ◌+◌, ◌≤◌, Bool, true, false, if◌then◌else◌, List, ◌∷◌, ◌++◌, length, take, drop, Some, None, refl, sym, ap, ◌∙◌, arith, append_assoc, add_comm, leb}
 use Rattle.std.proofs.lemmas.Bool.Decides.{nat_tests}
 use Rattle.std.proofs.lemmas.List.{length-append, take_at, drop_at, append-nil, take_all, drop_all, take-append-drop}
-use Rattle.demangle_text.specs.declared.shape.Kind.TheVariants.{Array, Function}
-use Rattle.demangle_text.specs.declared.shape.Place.{Place}
-use Rattle.demangle_text.specs.declared.shape.Place.TheVariants.{Start, Close, Suffix, End}
+use Rattle.demangle_text.specs.declared.pieces.Kind.TheVariants.{Array, Function}
+use Rattle.demangle_text.specs.declared.pieces.Place.{Place}
+use Rattle.demangle_text.specs.declared.pieces.Place.TheVariants.{Start, Close, Suffix, End}
 use Rattle.demangle_text.specs.Pieces.{Layout}
 use Rattle.demangle_text.specs.Pieces.{Cut}
 use Rattle.demangle_text.specs.Pieces.{Outline}

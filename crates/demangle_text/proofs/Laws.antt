@@ -2,8 +2,8 @@
 -- stands at one place.
 use Rattle.std.proofs.Common.{◌≡◌, ◌≤◌, ℕ, List, ◌++◌, length, take, sym, ap, refl, ◌∙◌, subst, arith, Result, Ok, Err, IfOk, OnOk}
 use Rattle.std.proofs.lemmas.List.{take-take, take_at, take_all}
-use Rattle.demangle_text.specs.declared.shape.Piece.{Piece}
-use Rattle.demangle_text.specs.declared.shape.Mark.{Mark}
+use Rattle.demangle_text.specs.declared.pieces.Piece.{Piece}
+use Rattle.demangle_text.specs.declared.pieces.Mark.{Mark}
 use Rattle.demangle_text.specs.Shape.{Shape, text}
 use Rattle.demangle_text.specs.Pieces.{Store}
 use Rattle.demangle_text.specs.State.{Frame, frame, frame_start, inside, main_bytes, IsLiving, IsOlder, IsAsOld, shape}

@@ -1,6 +1,6 @@
 -- A piece that ends the output, and two texts that were put after it, the second of which is its base name.
 use Rattle.std.proofs.Common.{◌≡◌, ◌-◌, ◌++◌, ℕ, List, None, false, length, refl, ap, arith}
-use Rattle.demangle_text.specs.declared.shape.Piece.{Piece}
+use Rattle.demangle_text.specs.declared.pieces.Piece.{Piece}
 use Rattle.demangle_text.specs.Pieces.{Store, IsStore, IsTail, IsSplice}
 use Rattle.demangle_text.specs.Calls.{IsLast, named}
 use Rattle.demangle_text.specs.State.{IsLiving, shape, Lives, IsEdit, Stands, frame, frame_start, main_bytes}

@@ -3,7 +3,7 @@ use Rattle.std.proofs.Common.{◌≡◌, ℕ, ◌+◌, ◌-◌, ◌<◌, ◌≤�
 use Rattle.std.proofs.lemmas.List.{length-append, drop-append-le, drop-take, take_all, drop_all, length-drop, length-map, length-take-le, map_push, take-map, drop-map}
 use Rattle.std.proofs.lemmas.List.Elements.{All-push, All-take, All-drop}
 use Rattle.std.proofs.lemmas.Option.{slice_get-map}
-use Rattle.demangle_text.specs.declared.shape.Piece.{Piece}
+use Rattle.demangle_text.specs.declared.pieces.Piece.{Piece}
 use Rattle.demangle_text.specs.Shape.{Shape}
 use Rattle.demangle_text.specs.Pieces.{AreStarts, Store, IsStore, IsPiece, shape_in}
 use Rattle.demangle_text.specs.State.{IsLiving, shape, scopes, parts_at, last_args, with_arg}

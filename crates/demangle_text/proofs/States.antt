@@ -7,8 +7,8 @@ use Rattle.std.proofs.Math.Seq.{map-set_same}
 use Rattle.std.proofs.lemmas.Bool.{leb-true, leb-false}
 use Rattle.std.proofs.lemmas.List.Elements.{All-set, All-get_or, All-weaker}
 use Rattle.std.proofs.lemmas.List.{length-append, length-drop, append-nil, drop_at, drop_all, take_all, take-append-le, drop-append-le, drop-drop, take-append-drop}
-use Rattle.demangle_text.specs.declared.shape.Piece.{Piece}
-use Rattle.demangle_text.specs.declared.shape.Mark.{Mark}
+use Rattle.demangle_text.specs.declared.pieces.Piece.{Piece}
+use Rattle.demangle_text.specs.declared.pieces.Mark.{Mark}
 use Rattle.demangle_text.specs.Shape.{text}
 use Rattle.demangle_text.specs.Pieces.{Store, IsStore, IsPiece, IsAt, IsOutlined, outline_of, shape_of, shape_in, piece_text, home_bytes, Extends}
 use Rattle.demangle_text.specs.State.{IsLiving, shape, saved, scopes, main_bytes, Stands, StandsBefore, frame}
@@ -162,10 +162,10 @@ KeepsAll-elsewhere s t by_main by_side by_saved by_args by_starts by_marked_len 
     }
 
 -- a piece of the output that ends it, by its text
-pub Lives-at_end : (s : Store) (p : Piece) (t : List ℕ) → IsAt p p.from_byte (length s.output_text) → p.from_byte ≤ length s.output_text
+pub Lives-ensure_at_end : (s : Store) (p : Piece) (t : List ℕ) → IsAt p p.from_byte (length s.output_text) → p.from_byte ≤ length s.output_text
     → drop p.from_byte s.output_text ≡ t → IsOutlined t (outline_of p) → Lives s p (shape_of t (outline_of p))
 unfolding IsLiving shape
-Lives-at_end s p t stands within is outlined =
+Lives-ensure_at_end s p t stands within is outlined =
     let home : piece_text s.output_text s.spill_text p ≡ slice_range s.output_text p.from_byte p.to_byte =
     ap (λ (h : Bool). slice_range (home_bytes s.output_text s.spill_text h) p.from_byte p.to_byte) stands.in_main in
     let here : piece_text s.output_text s.spill_text p ≡ t =
@@ -179,7 +179,7 @@ Lives-at_end s p t stands within is outlined =
 pub Lives-grown : (s : Store) (t : List ℕ) (p : Piece) → IsAt p (length s.output_text) (length (s.output_text ++ t)) → IsOutlined t (outline_of p) → Lives (longer s t) p (shape_of t (outline_of p))
 Lives-grown s t p stands outlined =
     let there : IsAt p p.from_byte (length (s.output_text ++ t)) = record { in_main = stands.in_main; begins = refl; ends = stands.ends } in
-    Lives-at_end (longer s t) p t there (omega (arith, stands.begins, length-append s.output_text t)) (drop_at s.output_text t p.from_byte (sym stands.begins)) outlined
+    Lives-ensure_at_end (longer s t) p t there (omega (arith, stands.begins, length-append s.output_text t)) (drop_at s.output_text t p.from_byte (sym stands.begins)) outlined
 
 -- what lives in the output lies before its end
 below_end : (output spill : List ℕ) (end n : ℕ) (h : Bool) → end ≡ length output → n ≤ length (home_bytes output spill h) → h ≡ false → n ≤ end

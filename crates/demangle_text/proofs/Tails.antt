@@ -5,18 +5,18 @@ use Rattle.std.proofs.lemmas.List.{length-append, length-drop, length-take-le, d
 use Rattle.std.proofs.lemmas.List.{drop-append-le, drop-drop, drop-take, take_all, drop_all, append-nil, take-append-le}
 use Rattle.std.proofs.lemmas.List.{take-take}
 use Rattle.std.proofs.lemmas.List.Edits.{length-between}
-use Rattle.demangle_text.specs.declared.shape.Piece.{Piece}
+use Rattle.demangle_text.specs.declared.pieces.Piece.{Piece}
 use Rattle.demangle_text.specs.Pieces.{Store, IsTail, IsAdjacent, IsSplice, IsJoint, EndsBy, piece_text, own_text, home_bytes}
 use Rattle.demangle_text.specs.Shape.{Shape, text, text_len, plain_shape, inserted, own_shape, opened_group, moved}
 use Rattle.demangle_text.specs.Calls.{joined, named, CanInsert, IsDeclared, IsInner, text_after}
 use Rattle.demangle_text.specs.Pieces.{Layout, Flat, Cut, Outline, IsLayout, IsAt, IsOutlined, outline_of, whole_outline, shape_of, place_at, layout_with, layout_opened, layout_end, own_at}
 use Rattle.demangle_text.specs.State.{IsLiving, shape, Lives, IsEditOf, IsJoinOf, main_bytes, frame, frame_start, Frame, Stands}
-use Rattle.demangle_text.specs.declared.shape.Place.{Place}
-use Rattle.demangle_text.specs.declared.shape.Place.TheVariants.{Suffix}
+use Rattle.demangle_text.specs.declared.pieces.Place.{Place}
+use Rattle.demangle_text.specs.declared.pieces.Place.TheVariants.{Suffix}
 use Rattle.demangle_text.proofs.Inserts.{Inserts, length-inserted, shape-inserted, IsOutlined-inserted}
 use Rattle.demangle_text.proofs.Groups.{Groups, group_text, layout_end_within, shape-opened, IsOutlined-opened}
 use Rattle.demangle_text.proofs.Texts.{part-part, front_below}
-use Rattle.demangle_text.proofs.States.{Lives-at_end, text_is, inner_text}
+use Rattle.demangle_text.proofs.States.{Lives-ensure_at_end, text_is, inner_text}
 
 -- the text from a place on, with bytes inserted in it
 tail_inserted : (output bytes : List ℕ) (from at : ℕ) → from + at ≤ length output
@@ -245,8 +245,8 @@ module _ (b n : Store) (p : Piece) (at : ℕ) (bytes : List ℕ) (from : ℕ) (l
     there : IsAt q q.from_byte (length n.output_text)
     there = record { in_main = stands.in_main; begins = refl; ends = stands.ends }
 
-    at_end : IsOutlined u (outline_of q) → Lives n q (shape_of u (outline_of q))
-    at_end outlined = Lives-at_end n q u there (omega (arith, i.within, stands.begins)) (ap (λ (k : ℕ). drop k n.output_text) stands.begins) outlined
+    ensure_at_end : IsOutlined u (outline_of q) → Lives n q (shape_of u (outline_of q))
+    ensure_at_end outlined = Lives-ensure_at_end n q u there (omega (arith, i.within, stands.begins)) (ap (λ (k : ℕ). drop k n.output_text) stands.begins) outlined
 
     -- the bytes at a place
     pub Lives-inserted : (place : Place) → CanInsert place (shape b p).form → at ≡ place_at place (outline_of p).layout (p.to_byte - p.from_byte)
@@ -265,7 +265,7 @@ module _ (b n : Store) (p : Piece) (at : ℕ) (bytes : List ℕ) (from : ℕ) (l
           templ = templ;
           ctor = ctor;
         } in
-        rw (← shape-inserted place bytes t u m w lies.outlined can k) (at_end (IsOutlined-inserted place bytes t u m w lies.outlined can k))
+        rw (← shape-inserted place bytes t u m w lies.outlined can k) (ensure_at_end (IsOutlined-inserted place bytes t u m w lies.outlined can k))
 
     -- bytes and a name at the end, which is the base name then
     pub Lives-named : (between name : List ℕ) → bytes ≡ between ++ name → at ≡ p.to_byte - p.from_byte → (outline_of q).layout ≡ Flat
@@ -289,7 +289,7 @@ module _ (b n : Store) (p : Piece) (at : ℕ) (bytes : List ℕ) (from : ℕ) (l
         let own_is : (outline_of q).own ≡ (length before, length all) = own ∙ (λ j. (starts j, ends j)) in
         let outline : outline_of q ≡ m = λ j. record { layout = layout j; own = own_is j; templ = templ j; ctor = ctor j } in
         let outlined : IsOutlined all m = record { layout = tt; own_ordered = omega (arith, n_all); own_within = omega arith; own_whole = tt } in
-        let lives = at_end (subst (λ (v : List ℕ). IsOutlined v (outline_of q)) (sym whole) (subst (IsOutlined all) (sym outline) outlined)) in
+        let lives = ensure_at_end (subst (λ (v : List ℕ). IsOutlined v (outline_of q)) (sym whole) (subst (IsOutlined all) (sym outline) outlined)) in
         let shape_is : shape_of u (outline_of q) ≡ named between name (shape b p) =
         (λ j. shape_of (whole j) (outline j)) ∙ ap (λ (v : List ℕ). shape_of ((v ++ between) ++ name) (record {
           layout = Flat;
@@ -317,7 +317,7 @@ module _ (b n : Store) (p : Piece) (at : ℕ) (bytes : List ℕ) (from : ℕ) (l
           templ = templ;
           ctor = ctor;
         } in
-        rw (← shape-opened group t u m w at lies.outlined declared k) (at_end (IsOutlined-opened group t u m w at lies.outlined declared k))
+        rw (← shape-opened group t u m w at lies.outlined declared k) (ensure_at_end (IsOutlined-opened group t u m w at lies.outlined declared k))
 
     -- by how much its text grows
     pub opened-longer : (group : List ℕ) → Lives n q (opened_group group (shape b p)) → length bytes ≡ text_len (opened_group group (shape b p)) - text_len (shape b p)
@@ -340,7 +340,7 @@ Lives-joined b n first second q bytes from one two i stands outline =
     let outline_is : outline_of q ≡ whole_outline (length u) = outline ∙ ap whole_outline n_is in
     let whole : IsOutlined u (whole_outline (length u)) = record { layout = tt; own_ordered = omega arith; own_within = omega arith; own_whole = tt } in
     let there : IsAt q q.from_byte (length n.output_text) = record { in_main = stands.in_main; begins = refl; ends = stands.ends } in
-    let lives = Lives-at_end n q u there (omega (arith, i.within, stands.begins)) (ap (λ (k : ℕ). drop k n.output_text) stands.begins ∙ i.text) (subst (IsOutlined u) (sym outline_is) whole) in
+    let lives = Lives-ensure_at_end n q u there (omega (arith, i.within, stands.begins)) (ap (λ (k : ℕ). drop k n.output_text) stands.begins ∙ i.text) (subst (IsOutlined u) (sym outline_is) whole) in
     record {
       living = lives.living;
       shape_is = lives.shape_is ∙ ap (shape_of u) outline_is ∙ ap plain_shape texts;
@@ -355,7 +355,7 @@ Lives-kept_only b n p q at lies within is stands outline =
     let low = length-take-le at b.output_text within in
     let there : IsAt q q.from_byte (length n.output_text) = record { in_main = stands.in_main; begins = refl; ends = stands.ends } in
     let text : drop q.from_byte n.output_text ≡ t = ap (λ (k : ℕ). drop k n.output_text) stands.begins ∙ ap (drop at) is ∙ drop_at (take at b.output_text) t at low in
-    let lives = Lives-at_end n q t there (omega (arith, ap length is, length-append (take at b.output_text) t, stands.begins)) text (subst (IsOutlined t) (sym outline) lies.outlined) in
+    let lives = Lives-ensure_at_end n q t there (omega (arith, ap length is, length-append (take at b.output_text) t, stands.begins)) text (subst (IsOutlined t) (sym outline) lies.outlined) in
     record { living = lives.living; shape_is = lives.shape_is ∙ ap (shape_of t) outline }
 
 -- a text that stands there already

@@ -2,11 +2,11 @@
 -- the fields of a form, and those steps on shapes that the grammar doesn't use.
 use Rattle.std.specs.Prelude.{ℕ, ◌+◌, ◌-◌, ◌≤◌, List, ◌++◌, length}
 use Rattle.std.specs.Prelude.{take, drop, slice_range, false, Option, Some, None}
-use Rattle.demangle_text.specs.declared.shape.Kind.{Kind}
-use Rattle.demangle_text.specs.declared.shape.Kind.TheVariants.{Array, Function}
-use Rattle.demangle_text.specs.declared.shape.Place.{Place}
-use Rattle.demangle_text.specs.declared.shape.Place.TheVariants.{Start, Close, Suffix, End}
-use Rattle.demangle_text.specs.declared.shape.Piece.{Piece}
+use Rattle.demangle_text.specs.declared.pieces.Kind.{Kind}
+use Rattle.demangle_text.specs.declared.pieces.Kind.TheVariants.{Array, Function}
+use Rattle.demangle_text.specs.declared.pieces.Place.{Place}
+use Rattle.demangle_text.specs.declared.pieces.Place.TheVariants.{Start, Close, Suffix, End}
+use Rattle.demangle_text.specs.declared.pieces.Piece.{Piece}
 use Rattle.demangle_text.specs.Shape.{Form, Plain, Declared, Shape, grouped, text, plain_shape, own_in}
 use Rattle.demangle_text.specs.Pieces.{Store}
 use Rattle.demangle_text.specs.State.{Stands, frame, frame_start, main_bytes}

@@ -3,7 +3,7 @@ use Rattle.std.specs.Prelude.{◌≡◌, ℕ, ◌+◌, ◌≤◌, List, ◌++◌
 use Rattle.demangle_text.specs.Pieces.{Store, IsStore, IsSplice, Extends}
 use Rattle.growing_text.specs.Room.{HasRoom}
 use Rattle.demangle_text.specs.State.{IsEdit}
-use Rattle.demangle_text.specs.declared.shape.Piece.{Piece}
+use Rattle.demangle_text.specs.declared.pieces.Piece.{Piece}
 
 -- the store where bytes stand at a place of this output
 abbrev pub with_gap_filled : List ℕ → ℕ → List ℕ → Store → Store

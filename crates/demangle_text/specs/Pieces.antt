@@ -2,11 +2,11 @@
 use Rattle.std.specs.Prelude.{◌≡◌, ℕ, Bool, min, max, true, false, ◌+◌, ◌-◌, ◌<◌, ◌≤◌, List, [], ◌∷◌, ◌++◌, length}
 use Rattle.std.specs.Prelude.{take, drop, slice_range, slice_index, nat_le, Option, Some, None, All, map}
 use Rattle.std.specs.List.{AllWithin}
-use Rattle.demangle_text.specs.declared.shape.Kind.{Kind}
-use Rattle.demangle_text.specs.declared.shape.Kind.TheVariants.{Array, Function}
-use Rattle.demangle_text.specs.declared.shape.Place.{Place}
-use Rattle.demangle_text.specs.declared.shape.Place.TheVariants.{Start, Close, Suffix, End}
-use Rattle.demangle_text.specs.declared.shape.Piece.{Piece}
+use Rattle.demangle_text.specs.declared.pieces.Kind.{Kind}
+use Rattle.demangle_text.specs.declared.pieces.Kind.TheVariants.{Array, Function}
+use Rattle.demangle_text.specs.declared.pieces.Place.{Place}
+use Rattle.demangle_text.specs.declared.pieces.Place.TheVariants.{Start, Close, Suffix, End}
+use Rattle.demangle_text.specs.declared.pieces.Piece.{Piece}
 use Rattle.demangle_text.specs.declared.piece_list.Entry.{Entry}
 use Rattle.demangle_text.specs.Shape.{Form, Plain, Declared, Shape}
 

@@ -3,10 +3,10 @@ use Rattle.std.specs.Prelude.{ℕ, ◌+◌, ◌-◌, ◌==◌, ◌||◌, Bool, t
 use Rattle.std.specs.Prelude.{take, drop, slice_range, nat_le, min, codes, Option, Some, None}
 use Rattle.std.specs.Prelude.{nat_eq}
 use Rattle.std.specs.List.{ends_with}
-use Rattle.demangle_text.specs.declared.shape.Kind.{Kind}
-use Rattle.demangle_text.specs.declared.shape.Kind.TheVariants.{Array, Function}
-use Rattle.demangle_text.specs.declared.shape.Place.{Place}
-use Rattle.demangle_text.specs.declared.shape.Place.TheVariants.{Start, Close, End}
+use Rattle.demangle_text.specs.declared.pieces.Kind.{Kind}
+use Rattle.demangle_text.specs.declared.pieces.Kind.TheVariants.{Array, Function}
+use Rattle.demangle_text.specs.declared.pieces.Place.{Place}
+use Rattle.demangle_text.specs.declared.pieces.Place.TheVariants.{Start, Close, End}
 
 -- a plain text, or a declarator: what stands before, the group if there is one, what stands after
 pub data Form : Type 0 where

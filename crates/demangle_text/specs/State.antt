@@ -3,8 +3,8 @@ use Rattle.std.specs.Prelude.{◌≡◌, ℕ, ◌≤◌, ◌<◌, List, [], ◌�
 use Rattle.std.specs.Prelude.{slice_range, slice_index_or, slice_set, map}
 use Rattle.demangle_text.specs.Shape.{Shape, text_len}
 use Rattle.demangle_text.specs.Pieces.{Store, IsPiece, IsAt, EndsBy, shape_in}
-use Rattle.demangle_text.specs.declared.shape.Piece.{Piece}
-use Rattle.demangle_text.specs.declared.shape.Mark.{Mark}
+use Rattle.demangle_text.specs.declared.pieces.Piece.{Piece}
+use Rattle.demangle_text.specs.declared.pieces.Mark.{Mark}
 
 -- the piece lives in the buffer
 unfoldable pub IsLiving : Store → Piece → Type 0

@@ -4,9 +4,9 @@ ghost use Rattle.std.specs.Prelude.{OnOk, OnErr, slice_range, slice_index, is_so
 ghost use Rattle.demangle_text.specs.Shape.{gap_after};
 
 use crate::moves::KeptPieces;
-use crate::parts::{add_text, at_end, truncated_on_err};
+use crate::output_end::{add_text, ensure_at_end, truncated_on_err};
 use crate::piece_list::PieceList;
-use crate::shape::{Kind, Mark, Piece, Place};
+use crate::pieces::{Kind, Mark, Piece, Place};
 use growing_text::Text;
 use std::alloc::{AllocError, Global};
 use std::marker::Model;
@@ -183,14 +183,14 @@ impl Buffer {
         ensures stands { IfOk result (λ p. Stands p (length (main_bytes self.old)) (length (main_bytes self.new))) }
     {
         let mut copied = piece;
-        self.bring_to_end(&mut copied)?;
+        self.copy_to_end(&mut copied)?;
         Ok(copied)
     }
 
     /// Appends a copy of the piece's text to the output, and moves the piece there. The other pieces stay as they are.
     /// After `AllocError` nothing has changed.
     #[inline(never)]
-    pub fn bring_to_end(&mut self, piece: &mut Piece) -> Result<(), AllocError>
+    pub fn copy_to_end(&mut self, piece: &mut Piece) -> Result<(), AllocError>
         requires living { IsLiving self.old piece.old }
         ensures shape { OnOk result (Lives self.new piece.new (shape self.old piece.old)) }
         ensures kept { KeepsAll self.old self.new }
@@ -221,7 +221,7 @@ impl Buffer {
         ensures main_err { OnErr result (main_bytes self.new ≡ main_bytes self.old) }
     {
         let len = self.output.len();
-        let from = at_end(&mut self.output, &self.kept.spill, self.marked_len, piece)?;
+        let from = ensure_at_end(&mut self.output, &self.kept.spill, self.marked_len, piece)?;
         let added = self.output.add(bytes);
         truncated_on_err(&mut self.output, len, added)?;
         let (at, n) = (piece.text_len(), bytes.len());

@@ -20,12 +20,12 @@
 #![tactic(auto)]
 
 mod buffer;
-mod lists;
 mod moves;
-mod parts;
+mod output_end;
 mod piece_list;
-mod shape;
+mod pieces;
 mod splices;
+mod tables;
 
 pub use crate::buffer::Buffer;
-pub use crate::shape::{Kind, Mark, Piece, Place};
+pub use crate::pieces::{Kind, Mark, Piece, Place};

@@ -3,7 +3,7 @@ ghost use Rattle.std.specs.Prelude.{◌≡◌, ◌<◌, ◌≤◌, length, All, 
 ghost use Rattle.demangle_text.specs.Pieces.{IsPiece, IsApart, IsSpilled, Extends, shape_in};
 
 use crate::piece_list::{Block, PieceList};
-use crate::shape::Piece;
+use crate::pieces::Piece;
 use growing_text::Text;
 use std::alloc::AllocError;
 

@@ -4,7 +4,7 @@ ghost use Rattle.std.specs.Prelude.{OnOk, OnErr, All, map, slice_set, slice_inde
 ghost use Rattle.std.specs.List.{AllWithin, HoldsAt};
 ghost use Rattle.demangle_text.specs.Pieces.{EndsBy, IsApart, AreReached, carried, pieces_of, reaches_of};
 
-use crate::shape::Piece;
+use crate::pieces::Piece;
 use std::alloc::{AllocError, Global};
 use std::marker::Model;
 
@@ -35,7 +35,7 @@ pub(crate) struct Block {
 
 impl Model for PieceList {
     ghost use Rattle.std.specs.Prelude.{List, take};
-    ghost use Rattle.demangle_text.specs.declared.shape.Piece.{Piece};
+    ghost use Rattle.demangle_text.specs.declared.pieces.Piece.{Piece};
 
     ghost Value = { List Piece };
 

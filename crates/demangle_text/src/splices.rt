@@ -4,9 +4,9 @@ ghost use Rattle.std.specs.Prelude.{◌≡◌, ◌+◌, ◌-◌, ◌^◌, ◌<�
 
 use crate::buffer::Buffer;
 use crate::moves::torn_len;
-use crate::parts::{add_text, at_end, truncated_on_err};
+use crate::output_end::{add_text, ensure_at_end, truncated_on_err};
 use crate::piece_list::Block;
-use crate::shape::Piece;
+use crate::pieces::Piece;
 use std::alloc::AllocError;
 
 #[tactic(auto, using(crate::proofs::States::states), unfolding(crate::proofs::States::internals))]
@@ -146,7 +146,7 @@ impl Buffer {
         ensures main_err { OnErr result (self.new.output_text ≡ self.old.output_text) }
     {
         let len = self.output.len();
-        let from = at_end(&mut self.output, &self.kept.spill, self.marked_len, piece)?;
+        let from = ensure_at_end(&mut self.output, &self.kept.spill, self.marked_len, piece)?;
         let added = self.output.add(bytes);
         truncated_on_err(&mut self.output, len, added)?;
         let added = add_text(&mut self.output, &self.kept.spill, other);

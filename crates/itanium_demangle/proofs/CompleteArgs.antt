@@ -6,13 +6,13 @@ use Rattle.demangle_edit.specs.Built.{listed_each, listed_more}
 use Rattle.demangle_edit.proofs.Built.{arguments_alone, pack_built}
 use Rattle.itanium_syntax.specs.declared.context.Context.{Context}
 use Rattle.itanium_syntax.specs.Context.{opens_scope}
-use Rattle.itanium_syntax.specs.Args.{args_case}
+use Rattle.itanium_syntax.specs.Args.{argument_list_case}
 use Rattle.itanium_syntax.proofs.Fronts.{after_drop, after-le}
 use Rattle.itanium_grammar.specs.Tree.{Tree, shape_of, pack_of, trees}
 use Rattle.itanium_grammar.specs.Grammar.{Position, Cost, skip, within_list, ArgumentListAs, PackedAs, args, end_of_arguments, one_more_argument, pack, end_of_pack, one_more_packed}
 use Rattle.itanium_grammar.proofs.Progress.{argument_takes}
 use Rattle.itanium_grammar.proofs.Scopes.{argument_keeps}
-use Rattle.itanium_grammar.specs.Cases.{ArgsCase}
+use Rattle.itanium_grammar.specs.Cases.{ArgumentListCase}
 use Rattle.itanium_reader.specs.Parser.{after_turn, loop, add_argument, add_nowhere, ◌>>=◌, parse_argument}
 use Rattle.itanium_reader.specs.Parser.{parse_primary, parse_encoding, parse_special, parse_name, next_item, list_as}
 use Rattle.itanium_reader.specs.Parser.{list_turn, parse_list, parse_packed, parse_args, parse_pack}
@@ -26,13 +26,13 @@ use Rattle.itanium_demangle.proofs.Readings.{Small, reached, ArgsComplete, Packs
 -- arguments put onto a list, in n turns
 abbrev TurnsMet : ℕ → ℕ → Type 0
 TurnsMet d n = (x : Context) (o : Bool) (k : ℕ) (outer : List (List Tree)) (own : Option (List Tree)) (p q : Position) (list : List Tree) (c : Cost)
-    → ArgumentListAs (args_case p.rest) x outer own p list q c → IsInside o k outer own → Small d c
+    → ArgumentListAs (argument_list_case p.rest) x outer own p list q c → IsInside o k outer own → Small d c
     → (e m : ℕ) (first : Bool) (front : Shape) → length p.rest < n
     → Met text_len (loop (list_turn (add_argument o k) (parse_argument d x)) n (first, front) (state_at (within_list outer own p) e m)) (reached (λ us. listed_each first front (map shape_of us)) list q c e m)
 
 -- a pack's arguments put onto a list, in n turns
 abbrev PackedMet : ℕ → ℕ → Type 0
-PackedMet d n = (x : Context) (p q : Position) (list : List Tree) (c : Cost) → PackedAs (args_case p.rest) x p list q c → Small d c
+PackedMet d n = (x : Context) (p q : Position) (list : List Tree) (c : Cost) → PackedAs (argument_list_case p.rest) x p list q c → Small d c
     → (e m : ℕ) (first : Bool) (front : Shape) → length p.rest < n
     → Met text_len (loop (list_turn add_nowhere (parse_argument d x)) n (first, front) (state_at p e m)) (reached (λ us. listed_each first front (map shape_of us)) list q c e m)
 
@@ -44,7 +44,7 @@ turn_longer first front item rest =
     omega arith
 
 module _ (d : ℕ) (each : ArgumentsComplete d) where
-  arguments_as_met : (n : ℕ) → TurnsMet d n → {case : ArgsCase} {x : Context} {o : Bool} {k : ℕ} {outer : List (List Tree)} {own : Option (List Tree)} {p q : Position} {list : List Tree} {c : Cost}
+  arguments_as_met : (n : ℕ) → TurnsMet d n → {case : ArgumentListCase} {x : Context} {o : Bool} {k : ℕ} {outer : List (List Tree)} {own : Option (List Tree)} {p q : Position} {list : List Tree} {c : Cost}
       → ArgumentListAs case x outer own p list q c → IsInside o k outer own → Small d c
       → (e m : ℕ) (first : Bool) (front : Shape) → length p.rest < suc n
       → Met text_len (list_as case (add_argument o k) (parse_argument d x) (first, front) (state_at (within_list outer own p) e m)
@@ -66,7 +66,7 @@ module _ (d : ℕ) (each : ArgumentsComplete d) where
   arguments_met zero x o k outer own p q list c a inside deep e m first front room = absurd (omega arith)
   arguments_met (suc n) x o k outer own p q list c a inside deep e m first front room = arguments_as_met n (arguments_met n) a inside deep e m first front room
 
-  packed_as_met : (n : ℕ) → PackedMet d n → {case : ArgsCase} {x : Context} {p q : Position} {list : List Tree} {c : Cost} → PackedAs case x p list q c → Small d c
+  packed_as_met : (n : ℕ) → PackedMet d n → {case : ArgumentListCase} {x : Context} {p q : Position} {list : List Tree} {c : Cost} → PackedAs case x p list q c → Small d c
       → (e m : ℕ) (first : Bool) (front : Shape) → length p.rest < suc n
       → Met text_len (list_as case add_nowhere (parse_argument d x) (first, front) (state_at p e m)
       >>= λ r. after_turn r.0 (loop (list_turn add_nowhere (parse_argument d x)) n) r.1)
@@ -87,7 +87,7 @@ module _ (d : ℕ) (each : ArgumentsComplete d) where
 
   -- a list from its I to its E
   pub list_met : {x : Context} (o : Bool) (p : Position) {q : Position} {list : List Tree} {c : Cost}
-      → ArgumentListAs (args_case (drop 1 p.rest)) x p.scopes (if o then Some [] else None) (skip 1 p) list q c → Small d c
+      → ArgumentListAs (argument_list_case (drop 1 p.rest)) x p.scopes (if o then Some [] else None) (skip 1 p) list q c → Small d c
       → (e m : ℕ)
       → Met text_len (parse_list (parse_argument d x) o (state_at p e m)) (reached shape_of_args list q c e m)
   list_met o p {list = list} a deep e m =
@@ -101,7 +101,7 @@ module _ (d : ℕ) (each : ArgumentsComplete d) where
       (met (same_read built refl refl refl refl)))
 
   -- a pack from its J to its E
-  pub pack_met : {x : Context} (p : Position) {q : Position} {list : List Tree} {c : Cost} → PackedAs (args_case (drop 1 p.rest)) x (skip 1 p) list q c → Small d c → (e m : ℕ)
+  pub pack_met : {x : Context} (p : Position) {q : Position} {list : List Tree} {c : Cost} → PackedAs (argument_list_case (drop 1 p.rest)) x (skip 1 p) list q c → Small d c → (e m : ℕ)
       → Met text_len (parse_packed (parse_argument d x) (state_at p e m)) (reached shape_of (pack_of (trees list)) q c e m)
   pack_met p {list = list} a deep e m =
       let built = pack_built (map shape_of list) ∙ sym (shape-pack_of list) in

@@ -20,7 +20,7 @@ use Rattle.itanium_demangle.proofs.Shapes.{shape-unary_of, shape-post_of, shape-
 use Rattle.itanium_demangle.proofs.Shapes.{shape-conditional_of}
 use Rattle.itanium_demangle.proofs.Fitting.{Met, met, met_then, met_as, met_fits}
 use Rattle.itanium_demangle.proofs.Readings.{Small, reached, given, TypesComplete, PacksComplete, BareNamesComplete, ThunksComplete, ExpressionsComplete, ArgumentsComplete}
-use Rattle.itanium_demangle.proofs.CompleteNames.{parameter_complete, encoding_met}
+use Rattle.itanium_demangle.proofs.CompleteNames.{template_param_complete, encoding_met}
 
 module _ (d : ℕ) (kinds : TypesComplete d) (bares : BareNamesComplete d) (thunks : ThunksComplete d) where
   literal_met : {case : PrimaryCase} {x : Context} {p q : Position} {t : Tree} {c : Cost} → PrimaryAs case x p t q c → Small d c → (e m : ℕ)
@@ -62,7 +62,7 @@ module _ (d : ℕ) (kinds : TypesComplete d) (bares : BareNamesComplete d) (thun
         operand_complete g (omega arith) (e + c.count + f.count) (max (max m c.peak) f.peak),
       )
       (same_read (sym (shape-conditional_of o n k)) refl refl (omega arith) (omega arith)))
-  expression_as_met (parameter_expression a) deep e m = met (parameter_complete a e m ∙ same_read refl refl refl (omega arith) (omega arith))
+  expression_as_met (parameter_expression a) deep e m = met (template_param_complete a e m ∙ same_read refl refl refl (omega arith) (omega arith))
   expression_as_met (literal_expression a) deep e m = primary_met d kinds bares thunks a deep e m
 
   pub expressions_complete : ExpressionsComplete (suc d)

@@ -3,11 +3,11 @@ use Rattle.std.proofs.Common.{◌<◌, ℕ, zero, suc, ◌+◌, max, Bool, true,
 use Rattle.demangle_text.specs.Shape.{Shape, text_len}
 use Rattle.demangle_edit.specs.Built.{listed_each, listed_more}
 use Rattle.itanium_syntax.specs.declared.context.Context.{Context}
-use Rattle.itanium_syntax.specs.Types.{types_case}
+use Rattle.itanium_syntax.specs.Types.{type_list_case}
 use Rattle.itanium_grammar.specs.Tree.{Tree, shape_of}
 use Rattle.itanium_grammar.specs.Grammar.{Position, Cost, ParamsAs, TypeListAs, no_params, some_params, end_of_types, one_more_type}
 use Rattle.itanium_grammar.proofs.Progress.{type_takes}
-use Rattle.itanium_grammar.specs.Cases.{EncodingEnd, ParamsCase, TypesCase}
+use Rattle.itanium_grammar.specs.Cases.{EncodingEnd, ParamsCase, TypeListCase}
 use Rattle.itanium_reader.specs.Parser.{after_turn, loop, ◌>>=◌, next_item, typed_as, typed_turn, typed_params_as, parse_type}
 use Rattle.itanium_demangle.specs.Meaning.{state_at}
 use Rattle.itanium_demangle.proofs.Shapes.{same_read}
@@ -17,12 +17,12 @@ use Rattle.itanium_demangle.proofs.Readings.{Small, reached, TypesComplete}
 
 -- types put onto a list, in n turns
 abbrev TypedMet : ℕ → EncodingEnd → Bool → ℕ → Type 0
-TypedMet d end of_function n = (x : Context) (p q : Position) (ts : List Tree) (c : Cost) → TypeListAs (types_case end of_function p.rest) end of_function x p ts q c → Small d c
+TypedMet d end of_function n = (x : Context) (p q : Position) (ts : List Tree) (c : Cost) → TypeListAs (type_list_case end of_function p.rest) end of_function x p ts q c → Small d c
     → (e m : ℕ) (first : Bool) (front : Shape) → length p.rest < n
     → Met text_len (loop (typed_turn end of_function (parse_type d x)) n (first, front) (state_at p e m)) (reached (λ us. listed_each first front (map shape_of us)) ts q c e m)
 
 module _ (end : EncodingEnd) (of_function : Bool) (d : ℕ) (kinds : TypesComplete d) where
-  typed_as_met : (n : ℕ) → TypedMet d end of_function n → {case : TypesCase} {x : Context} {p q : Position} {ts : List Tree} {c : Cost} → TypeListAs case end of_function x p ts q c → Small d c
+  typed_as_met : (n : ℕ) → TypedMet d end of_function n → {case : TypeListCase} {x : Context} {p q : Position} {ts : List Tree} {c : Cost} → TypeListAs case end of_function x p ts q c → Small d c
       → (e m : ℕ) (first : Bool) (front : Shape) → length p.rest < suc n
       → Met text_len (typed_as case (parse_type d x) (first, front) (state_at p e m) >>= λ r. after_turn r.0 (loop (typed_turn end of_function (parse_type d x)) n) r.1)
       (reached (λ us. listed_each first front (map shape_of us)) ts q c e m)

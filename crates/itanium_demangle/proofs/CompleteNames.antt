@@ -12,20 +12,20 @@ use Rattle.itanium_syntax.specs.declared.offsets.ThunkOffsets.{ThunkOffsets}
 use Rattle.itanium_syntax.specs.Offsets.{thunk_offsets}
 use Rattle.itanium_syntax.specs.Specials.{special_case, special_text, special_close}
 use Rattle.itanium_syntax.specs.Names.{segment_case}
-use Rattle.itanium_syntax.specs.Names.{source_text, encoding_case, name_case, name_quals, tag_case}
+use Rattle.itanium_syntax.specs.Names.{source_text, name_case, name_quals, tag_case}
 use Rattle.itanium_reader.specs.Parser.{shows_words}
 use Rattle.itanium_syntax.specs.Context.{inside_lambda, showing_words, inside_encoding, inside_params}
-use Rattle.itanium_syntax.specs.Encodings.{ends_here}
+use Rattle.itanium_syntax.specs.Encodings.{ends_here, encoding_case}
 use Rattle.itanium_syntax.proofs.Fronts.{alone_after_name, initializer_after, after_drop, source_takes, after-le}
 use Rattle.itanium_grammar.specs.Tree.{Tree, bare_shape, own_quals, thunk_of, with_args, trees, unnamed_text, literal_operator_text, shape_of, name_printing}
 use Rattle.itanium_grammar.specs.Grammar.{Position, Cost, with_rest, SpecialAs, special_encoding}
 use Rattle.itanium_grammar.specs.Grammar.{type_special, name_special, temporary_special, construction_special}
 use Rattle.itanium_grammar.specs.Grammar.{thunk_special, thunk, name_encoding, past_initializer, last_of}
-use Rattle.itanium_grammar.specs.Grammar.{SubstitutionAs, Substitution, ArgumentNamed, Parameter, TaggedAs, UnqualifiedAs}
+use Rattle.itanium_grammar.specs.Grammar.{SubstitutionAs, Substitution, ArgumentNamed, TemplateParam, TaggedAs, UnqualifiedAs}
 use Rattle.itanium_grammar.specs.Grammar.{Unqualified, FirstAs, Name, NameAs, Local, EntityAs, EncodingAs}
 use Rattle.itanium_grammar.specs.Grammar.{ReturnAs, EncodingParamsAs, UnscopedAs, AttachedAs, Nested, SegmentsAs}
 use Rattle.itanium_grammar.specs.Grammar.{abbreviation_substitution, component_substitution}
-use Rattle.itanium_grammar.specs.Grammar.{auto_parameter, scope_parameter, parameter, no_tag, next_tag, OrdinaryAs}
+use Rattle.itanium_grammar.specs.Grammar.{auto_parameter, scope_parameter, template_param, no_tag, next_tag, OrdinaryAs}
 use Rattle.itanium_grammar.specs.Grammar.{ordinary_source, ordinary_unnamed_type, ordinary_lambda, ordinary_conversion}
 use Rattle.itanium_grammar.specs.Grammar.{ordinary_literal_operator, ordinary_operator, constructor_unqualified}
 use Rattle.itanium_grammar.specs.Grammar.{destructor_unqualified, ordinary_unqualified, unqualified, parameter_first}
@@ -39,8 +39,8 @@ use Rattle.itanium_grammar.specs.Cases.{EncodingEnd, AfterName, AtE, AtSymbolEnd
 use Rattle.itanium_grammar.specs.Cases.{SubstitutionCase, TagCase, UnqualifiedCase, OrdinaryCase, FirstCase, NameCase}
 use Rattle.itanium_grammar.specs.Cases.{UnscopedCase, AttachedCase, SegmentCase}
 use Rattle.itanium_reader.specs.Parser.{ParserState, after_turn, loop, ◌>>=◌, tag_as, tag_turn, parse_tags, ordinary_as}
-use Rattle.itanium_reader.specs.Parser.{parse_ordinary, parse_type, substitution_as, parse_substitution, parameter_as}
-use Rattle.itanium_reader.specs.Parser.{parse_parameter, unqualified_as, parse_unqualified, first_as, attached_by}
+use Rattle.itanium_reader.specs.Parser.{parse_ordinary, parse_type, substitution_as, parse_substitution, template_param_as}
+use Rattle.itanium_reader.specs.Parser.{parse_template_param, unqualified_as, parse_unqualified, first_as, attached_by}
 use Rattle.itanium_reader.specs.Parser.{attached_as, unscoped_as, segment_as, segment_turn, parse_nested, return_as}
 use Rattle.itanium_reader.specs.Parser.{signature_as, special_as, parse_special, encoding_by, thunk_by, at_symbol_end}
 use Rattle.itanium_reader.specs.Parser.{parse_thunk, encoding_as, parse_encoding, entity_as, parse_local, name_as}
@@ -70,13 +70,13 @@ pub substitution_complete : (p : Position) {q : Position} {t : Tree} → Substit
 unfolding parse_substitution
 substitution_complete p a e m = substitution_as_complete a e m
 
-parameter_as_complete : {lambda : Bool} {i : ℕ} {p : Position} {t : Tree} → ArgumentNamed lambda i p t → (e m : ℕ) → parameter_as lambda i (state_at p e m) ≡ Some (shape_of t)
-parameter_as_complete auto_parameter e m = ap Some (sym (shape-plain_text (codes "auto")))
-parameter_as_complete (scope_parameter {p = p} {i = i} there) e m = rw (last-map p.scopes, slice_get-map shape_of (last_of p.scopes) i, there) refl
+template_param_as_complete : {lambda : Bool} {i : ℕ} {p : Position} {t : Tree} → ArgumentNamed lambda i p t → (e m : ℕ) → template_param_as lambda i (state_at p e m) ≡ Some (shape_of t)
+template_param_as_complete auto_parameter e m = ap Some (sym (shape-plain_text (codes "auto")))
+template_param_as_complete (scope_parameter {p = p} {i = i} there) e m = rw (last-map p.scopes, slice_get-map shape_of (last_of p.scopes) i, there) refl
 
-pub parameter_complete : {x : Context} {p q : Position} {t : Tree} → Parameter x p t q → (e m : ℕ) → parse_parameter x (state_at p e m) ≡ Some (shape_of t, state_at q e m)
-unfolding parse_parameter
-parameter_complete (parameter found a) e m = rw (found, parameter_as_complete a e m) refl
+pub template_param_complete : {x : Context} {p q : Position} {t : Tree} → TemplateParam x p t q → (e m : ℕ) → parse_template_param x (state_at p e m) ≡ Some (shape_of t, state_at q e m)
+unfolding parse_template_param
+template_param_complete (template_param found a) e m = rw (found, template_param_as_complete a e m) refl
 
 -- tags up to their end, in n turns
 abbrev TagsComplete : ℕ → Type 0
@@ -137,7 +137,7 @@ module _ (d : ℕ) (lists : ArgsComplete d) (kinds : TypesComplete d) where
   pub first_met : {case : FirstCase} {x : Context} {p q : Position} {t : Tree} {c : Cost} → FirstAs case x p t q c → Small d c → (e m : ℕ)
       → Met text_len (first_as case (parse_unqualified (parse_type d x) (parse_type d (inside_lambda x))) x (state_at p e m)) (reached shape_of t q c e m)
   first_met (parameter_first {q = q} {t = t} a) deep e m =
-      met (rw (parameter_complete a e m) (same_read refl (one_more q.saved t) refl (omega arith) (omega (arith, length-map q.saved shape_of))))
+      met (rw (template_param_complete a e m) (same_read refl (one_more q.saved t) refl (omega arith) (omega (arith, length-map q.saved shape_of))))
   first_met std_first deep e m = met (same_read (sym (shape-plain_text (codes "std"))) refl refl (omega arith) (omega arith))
   first_met (substitution_first {p = p} a) deep e m = met (substitution_complete p a e m ∙ same_read refl refl refl (omega arith) (omega arith))
   first_met (name_first {q = q} {t = t} a) deep e m =
@@ -164,16 +164,16 @@ module _ (d : ℕ) (lists : ArgsComplete d) (kinds : TypesComplete d) where
 
   -- the segments after what stands, in n turns
   abbrev SegmentsMet : ℕ → Type 0
-  SegmentsMet n = (x : Context) (takes : Bool) (t u : Tree) (p q : Position) (c : Cost) → SegmentsAs (segment_case p.rest) takes x t p u q c → Small d c → (e m : ℕ) → length p.rest < n
+  SegmentsMet n = (x : Context) (candidate : Bool) (t u : Tree) (p q : Position) (c : Cost) → SegmentsAs (segment_case p.rest) candidate x t p u q c → Small d c → (e m : ℕ) → length p.rest < n
       → Met text_len (loop (segment_turn (parse_unqualified (parse_type d x) (parse_type d (inside_lambda x)))
-      (parse_args d x true)) n (takes, shape_of t) (state_at p e m)) (reached shape_of u q c e m)
+      (parse_args d x true)) n (candidate, shape_of t) (state_at p e m)) (reached shape_of u q c e m)
 
-  segment_met : (n : ℕ) → SegmentsMet n → {case : SegmentCase} {x : Context} {takes : Bool} {t u : Tree} {p q : Position} {c : Cost} → SegmentsAs case takes x t p u q c → Small d c → (e m : ℕ) → length p.rest < suc n
+  segment_met : (n : ℕ) → SegmentsMet n → {case : SegmentCase} {x : Context} {candidate : Bool} {t u : Tree} {p q : Position} {c : Cost} → SegmentsAs case candidate x t p u q c → Small d c → (e m : ℕ) → length p.rest < suc n
       → Met text_len (segment_as case (parse_unqualified (parse_type d x) (parse_type d (inside_lambda x)))
-      (parse_args d x true) (takes, shape_of t) (state_at p e m) >>= λ r. after_turn r.0
+      (parse_args d x true) (candidate, shape_of t) (state_at p e m) >>= λ r. after_turn r.0
       (loop (segment_turn (parse_unqualified (parse_type d x) (parse_type d (inside_lambda x)))
       (parse_args d x true)) n) r.1) (reached shape_of u q c e m)
-  segment_met n again (end_of_segments {takes = takes} {p = p}) deep e m room = met (same_read refl (taken-map takes p.saved) refl (omega arith) (omega arith))
+  segment_met n again (end_of_segments {candidate = candidate} {p = p}) deep e m room = met (same_read refl (taken-map candidate p.saved) refl (omega arith) (omega arith))
   segment_met n again (args_segment {x = x} {p = p} {q = q} {t = t} {ts = ts} {c = c} a b) deep e m room =
       let attached : attached_by (parse_args d x true) (shape_of t) (state_at p e m) ≡ given shape_of (with_args t (trees ts)) q c e m =
       rw (lists _ _ _ _ _ _ a (omega arith) e m, ← shape-with_args t ts) refl in
@@ -193,8 +193,8 @@ module _ (d : ℕ) (lists : ArgsComplete d) (kinds : TypesComplete d) where
 
   pub segments_met : (n : ℕ) → SegmentsMet n
   unfolding loop segment_turn
-  segments_met zero x takes t u p q c a deep e m room = absurd (omega arith)
-  segments_met (suc n) x takes t u p q c a deep e m room = segment_met n (segments_met n) a deep e m room
+  segments_met zero x candidate t u p q c a deep e m room = absurd (omega arith)
+  segments_met (suc n) x candidate t u p q c a deep e m room = segment_met n (segments_met n) a deep e m room
 
   nested_met : {x : Context} {p q : Position} {t : Tree} {c : Cost} → Nested x p t q c → Small d c → (e m : ℕ)
       → Met bare_len (parse_nested (parse_unqualified (parse_type d x) (parse_type d (inside_lambda x))) (parse_args d x true) x (state_at p e m)) (reached bare_of t q c e m)
@@ -225,7 +225,7 @@ signature_met d kinds (some_encoding_params {end = end} {t = t} {ts = ts} params
     (met (same_read whole refl refl refl refl))
 
 -- a name isn't longer than its reading is wide
-name_narrow : {waits : Bool} {x : Context} {p q : Position} {t : Tree} {c : Cost} → Name waits x p t q c → length (name_printing waits t) ≤ c.width
+name_narrow : {bare : Bool} {x : Context} {p q : Position} {t : Tree} {c : Cost} → Name bare x p t q c → length (name_printing bare t) ≤ c.width
 name_narrow (name a) = omega arith
 
 -- a name with its own qualifiers

@@ -10,8 +10,8 @@ use Rattle.itanium_syntax.specs.Names.{source_text}
 use Rattle.itanium_syntax.specs.Types.{builtin_text, elaborated_text, with_reference}
 use Rattle.itanium_grammar.specs.Tree.{Tree, plain_text, with_args, pointer_to, array_of, member_of, elaborated, expanded, trees, shape_of}
 use Rattle.itanium_grammar.specs.Grammar.{Position, Cost, TypeAs, CvAs, Function, TypeAttachedAs, type, builtin_type}
-use Rattle.itanium_grammar.specs.Grammar.{expansion_type, vendor_type, array_type, function_type, member_type}
-use Rattle.itanium_grammar.specs.Grammar.{pointer_type, cv_type, elaborated_type, parameter_type, substitution_type}
+use Rattle.itanium_grammar.specs.Grammar.{expansion_type, vendor_type, array_type, function_type, pointer_to_member_type}
+use Rattle.itanium_grammar.specs.Grammar.{pointer_type, cv_type, elaborated_type, template_param_type, substitution_type}
 use Rattle.itanium_grammar.specs.Grammar.{name_type, cv_function, cv_other, function, none_attached_to_type}
 use Rattle.itanium_grammar.specs.Grammar.{args_attached_to_type}
 use Rattle.itanium_grammar.specs.Cases.{AtE, TypeCase, CvCase, AttachedCase}
@@ -21,7 +21,7 @@ use Rattle.itanium_demangle.proofs.Shapes.{same_read, one_more, shape-plain_text
 use Rattle.itanium_demangle.proofs.Shapes.{shape-cv_of, shape-array_of, shape-member_of, shape-function_to}
 use Rattle.itanium_demangle.proofs.Shapes.{shape-elaborated, shape-expanded}
 use Rattle.itanium_demangle.proofs.CompleteLists.{typed_params_met}
-use Rattle.itanium_demangle.proofs.CompleteNames.{substitution_complete, parameter_complete}
+use Rattle.itanium_demangle.proofs.CompleteNames.{substitution_complete, template_param_complete}
 use Rattle.itanium_demangle.proofs.Fitting.{Met, met, met_then, met_as, met_fits}
 use Rattle.itanium_demangle.proofs.Grows.{function_longer}
 use Rattle.itanium_demangle.proofs.Readings.{Small, reached, given, NamesComplete, ArgsComplete, TypesComplete}
@@ -65,7 +65,7 @@ type_as_met d kinds names lists (array_type {q = q} {t = t} {dimension = n} foun
     (same_read refl (one_more q.saved (array_of n t)) refl (omega arith) (omega (arith, length-map q.saved shape_of))))
 type_as_met d kinds names lists (function_type {q = q} {t = t} a) deep e m =
     met_then _ (function_met d kinds a (omega arith) e m) (omega arith) (met (same_read refl (one_more q.saved t) refl (omega arith) (omega (arith, length-map q.saved shape_of))))
-type_as_met d kinds names lists (member_type {r = r} {t = t} {u = u} {c = c} a b there) deep e m =
+type_as_met d kinds names lists (pointer_to_member_type {r = r} {t = t} {u = u} {c = c} a b there) deep e m =
     met (rw (kinds _ _ _ _ _ a (omega arith) e m, kinds _ _ _ _ _ b (omega arith) (e + c.count) (max m c.peak), there, ← shape-member_of t u)
     (same_read refl (one_more r.saved (member_of t u)) refl (omega arith) (omega (arith, length-map r.saved shape_of))))
 type_as_met d kinds names lists (pointer_type {q = q} {t = t} {kind = kind} a) deep e m =
@@ -76,8 +76,8 @@ type_as_met d kinds names lists (cv_type {q = q} {t = t} a) deep e m =
 type_as_met d kinds names lists (elaborated_type {p = p} {q = q} {t = t} a) deep e m =
     met (rw (names _ _ _ _ _ a (omega arith) e m, ← shape-elaborated (elaborated_text p.rest) t)
     (same_read refl (one_more q.saved (elaborated (elaborated_text p.rest) t)) refl (omega arith) (omega (arith, length-map q.saved shape_of))))
-type_as_met d kinds names lists (parameter_type {q = q} {t = t} a b) deep e m =
-    met (rw (parameter_complete a e m, one_more q.saved t, type_attached_complete d lists b (omega arith) e (max m (length (map shape_of q.saved) + 1)))
+type_as_met d kinds names lists (template_param_type {q = q} {t = t} a b) deep e m =
+    met (rw (template_param_complete a e m, one_more q.saved t, type_attached_complete d lists b (omega arith) e (max m (length (map shape_of q.saved) + 1)))
     (same_read refl refl refl (omega arith) (omega (arith, length-map q.saved shape_of))))
 type_as_met d kinds names lists (substitution_type {p = p} a b) deep e m =
     met (rw (substitution_complete p a e m, type_attached_complete d lists b deep e m) refl)

@@ -11,7 +11,7 @@ use Rattle.itanium_grammar.specs.Answer.{after_prefix, start, suffix, max_depth,
 use Rattle.itanium_syntax.specs.Expressions.{literal_value}
 use Rattle.itanium_syntax.specs.Offsets.{thunk_offsets, past_base_offset}
 use Rattle.itanium_reader.specs.Parser.{ParserState, begun, loop, segment_turn, tag_turn, list_turn, typed_turn}
-use Rattle.itanium_reader.specs.Parser.{parse_unqualified, parse_substitution, parse_parameter, parse_nested}
+use Rattle.itanium_reader.specs.Parser.{parse_unqualified, parse_substitution, parse_template_param, parse_nested}
 use Rattle.itanium_reader.specs.Parser.{parse_bare_name, parse_encoding, parse_local, parse_thunk, parse_special}
 use Rattle.itanium_reader.specs.Parser.{parse_primary, parse_expression, parse_argument, parse_name, parse_signature}
 use Rattle.itanium_demangle.specs.Examples.{WorkedSymbols, e_acute}
@@ -57,7 +57,7 @@ not_text symbol inside answer prefix is = go (parse_mangled max_depth false (beg
 pub worked_symbols : WorkedSymbols
 unfolding max_text parse_signature parse_name parse_bare_name parse_encoding parse_local parse_thunk parse_special
     parse_primary parse_expression parse_argument literal_value thunk_offsets past_base_offset parse_nested loop
-    segment_turn tag_turn list_turn typed_turn parse_unqualified parse_substitution parse_parameter source_name number
+    segment_turn tag_turn list_turn typed_turn parse_unqualified parse_substitution parse_template_param source_name number
     index_of ordinal optional_number front_digits weighted digits is_utf8 chars lib.Utf8.encode
 worked_symbols = record {
   nested = some_answer (codes "_ZN3Foo3barEv") (codes "N3Foo3barEv") (codes "Foo::bar") refl refl;

@@ -3,7 +3,7 @@ use Rattle.std.proofs.Common.{◌≡◌, ◌≤◌, ℕ, ◌+◌, Bool, true, fa
 use Rattle.std.proofs.lemmas.List.{length-append, take-append-drop}
 use Rattle.std.specs.List.{ends_with}
 use Rattle.demangle_text.specs.Shape.{Shape, Form, Plain, Declared, text, text_len, form_text, form_with, grouped, appended, flattened, own_shape}
-use Rattle.demangle_text.specs.declared.shape.Place.TheVariants.{End}
+use Rattle.demangle_text.specs.declared.pieces.Place.TheVariants.{End}
 use Rattle.demangle_quals.specs.declared.quals.Quals.{Quals}
 use Rattle.demangle_quals.specs.Quals.{quals_text, words_text, reference_text, has_quals}
 use Rattle.demangle_edit.specs.Built.{arguments_closed}

@@ -110,7 +110,7 @@ pub attached_as_longer : {case : AttachedCase} {x : Context} {t u : Tree} {p q :
 attached_as_longer none_attached = omega arith
 attached_as_longer (args_attached {t = t} {ts = ts} a) = with_args_longer t ts
 
-pub segment_longer : {case : SegmentCase} {x : Context} {takes : Bool} {t u : Tree} {p q : Position} {c : Cost} → SegmentsAs case takes x t p u q c → text_len (shape_of t) ≤ text_len (shape_of u)
+pub segment_longer : {case : SegmentCase} {x : Context} {candidate : Bool} {t u : Tree} {p q : Position} {c : Cost} → SegmentsAs case candidate x t p u q c → text_len (shape_of t) ≤ text_len (shape_of u)
 segment_longer end_of_segments = omega arith
 segment_longer (args_segment {t = t} {ts = ts} a b) = let here = with_args_longer t ts in let more = segment_longer b in omega arith
 segment_longer (name_segment a b) = let here = unqualified_longer a in let more = segment_longer b in omega arith

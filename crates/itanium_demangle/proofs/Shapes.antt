@@ -189,8 +189,8 @@ same_state q w r s = cc
 pub one_more : (ts : List Tree) (t : Tree) → map shape_of ts ++ shape_of t ∷ [] ≡ map shape_of (ts ++ t ∷ [])
 one_more ts t = sym (map-append shape_of ts (t ∷ []))
 
-pub taken-map : (takes : Bool) (ts : List Tree)
-    → (if takes then take (length (map shape_of ts) - 1) (map shape_of ts) else map shape_of ts) ≡ map shape_of (if takes then take (length ts - 1) ts else ts)
+pub taken-map : (candidate : Bool) (ts : List Tree)
+    → (if candidate then take (length (map shape_of ts) - 1) (map shape_of ts) else map shape_of ts) ≡ map shape_of (if candidate then take (length ts - 1) ts else ts)
 taken-map true ts = rw (length-map ts shape_of) (take-map shape_of (length ts - 1) ts)
 taken-map false ts = refl
 

@@ -5,7 +5,7 @@ use Rattle.std.specs.Prelude.{option_map, List, Option, None, if◌then◌else�
 use Rattle.demangle_text.specs.Shape.{Shape, plain_shape}
 use Rattle.itanium_syntax.specs.declared.context.Context.{Context}
 use Rattle.itanium_syntax.specs.Context.{opens_scope, hiding_dots}
-use Rattle.itanium_syntax.specs.Args.{args_case}
+use Rattle.itanium_syntax.specs.Args.{argument_list_case}
 use Rattle.itanium_syntax.proofs.Fronts.{after_drop, after-le}
 use Rattle.itanium_grammar.specs.Tree.{Tree, shape_of}
 use Rattle.itanium_grammar.specs.Grammar.{Position, within_list, skip, both, Args, ArgumentListAs, Pack}
@@ -13,7 +13,7 @@ use Rattle.itanium_grammar.specs.Grammar.{PackedAs, args, end_of_arguments, one_
 use Rattle.itanium_grammar.specs.Grammar.{one_more_packed}
 use Rattle.itanium_grammar.proofs.Progress.{argument_takes}
 use Rattle.itanium_grammar.proofs.Scopes.{argument_keeps}
-use Rattle.itanium_grammar.specs.Cases.{ArgsCase, EndOfArguments, NextArgument}
+use Rattle.itanium_grammar.specs.Cases.{ArgumentListCase, EndOfArguments, NextArgument}
 use Rattle.itanium_reader.specs.Parser as parser
 use Rattle.itanium_reader.specs.Parser.{ParserState, Turn, after_turn, loop, parse_loop, add_nowhere, ◌>>=◌}
 use Rattle.itanium_reader.specs.Parser.{parse_argument, parse_primary, parse_encoding, parse_special, parse_name}
@@ -30,15 +30,15 @@ abbrev TurnsSound : ℕ → ℕ → Type 0
 TurnsSound d n = (x : Context) (o : Bool) (k : ℕ) (outer : List (List Tree)) (own : Option (List Tree)) (first : Bool) (front : Shape) (p : Position) (e m : ℕ) (y : Shape × ParserState)
     → IsInside o k outer own → length p.rest < n
     → loop (list_turn (parser.add_argument o k) (parse_argument d x)) n (first, front) (state_at (within_list outer own p) e m) ≡ Some y
-    → Within (ArgumentListAs (args_case p.rest) x outer own p) d
+    → Within (ArgumentListAs (argument_list_case p.rest) x outer own p) d
 
 -- a pack's arguments after what stands of its list, in n turns
 abbrev PackedSound : ℕ → ℕ → Type 0
 PackedSound d n = (x : Context) (first : Bool) (front : Shape) (p : Position) (e m : ℕ) (y : Shape × ParserState) → length p.rest < n
-    → loop (list_turn add_nowhere (parse_argument d x)) n (first, front) (state_at p e m) ≡ Some y → Within (PackedAs (args_case p.rest) x p) d
+    → loop (list_turn add_nowhere (parse_argument d x)) n (first, front) (state_at p e m) ≡ Some y → Within (PackedAs (argument_list_case p.rest) x p) d
 
 module _ (d : ℕ) (each : ArgumentsSound d) where
-  arguments_as_sound : (n : ℕ) → TurnsSound d n → (case : ArgsCase) (x : Context) (o : Bool) (k : ℕ) (outer : List (List Tree)) (own : Option (List Tree)) (first : Bool) (front : Shape) (p : Position) (e m : ℕ) (y : Shape × ParserState)
+  arguments_as_sound : (n : ℕ) → TurnsSound d n → (case : ArgumentListCase) (x : Context) (o : Bool) (k : ℕ) (outer : List (List Tree)) (own : Option (List Tree)) (first : Bool) (front : Shape) (p : Position) (e m : ℕ) (y : Shape × ParserState)
       → IsInside o k outer own → length p.rest < suc n
       → (list_as case (parser.add_argument o k) (parse_argument d x) (first, front) (state_at (within_list outer own p) e m)
       >>= λ r. after_turn r.0 (loop (list_turn (parser.add_argument o k) (parse_argument d x)) n) r.1) ≡ Some y
@@ -66,9 +66,9 @@ module _ (d : ℕ) (each : ArgumentsSound d) where
   arguments_sound : (n : ℕ) → TurnsSound d n
   unfolding loop list_turn
   arguments_sound zero x o k outer own first front p e m y inside room is = cc
-  arguments_sound (suc n) x o k outer own first front p e m y inside room is = arguments_as_sound n (arguments_sound n) (args_case p.rest) x o k outer own first front p e m y inside room is
+  arguments_sound (suc n) x o k outer own first front p e m y inside room is = arguments_as_sound n (arguments_sound n) (argument_list_case p.rest) x o k outer own first front p e m y inside room is
 
-  packed_as_sound : (n : ℕ) → PackedSound d n → (case : ArgsCase) (x : Context) (first : Bool) (front : Shape) (p : Position) (e m : ℕ) (y : Shape × ParserState)
+  packed_as_sound : (n : ℕ) → PackedSound d n → (case : ArgumentListCase) (x : Context) (first : Bool) (front : Shape) (p : Position) (e m : ℕ) (y : Shape × ParserState)
       → length p.rest < suc n
       → (list_as case add_nowhere (parse_argument d x) (first, front) (state_at p e m)
       >>= λ r. after_turn r.0 (loop (list_turn add_nowhere (parse_argument d x)) n) r.1) ≡ Some y
@@ -94,7 +94,7 @@ module _ (d : ℕ) (each : ArgumentsSound d) where
   packed_sound : (n : ℕ) → PackedSound d n
   unfolding loop list_turn
   packed_sound zero x first front p e m y room is = cc
-  packed_sound (suc n) x first front p e m y room is = packed_as_sound n (packed_sound n) (args_case p.rest) x first front p e m y room is
+  packed_sound (suc n) x first front p e m y room is = packed_as_sound n (packed_sound n) (argument_list_case p.rest) x first front p e m y room is
 
 pub args_sound : (d : ℕ) → ArgumentsComplete d → ArgumentsSound d → ArgsSound (suc d)
 unfolding parse_args parse_argument parse_primary parse_encoding parse_special parse_name

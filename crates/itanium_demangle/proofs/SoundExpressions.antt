@@ -16,10 +16,10 @@ use Rattle.itanium_grammar.specs.Grammar.{address_expression, unary_expression, 
 use Rattle.itanium_grammar.specs.Grammar.{greater_expression, conditional_expression, parameter_expression}
 use Rattle.itanium_grammar.specs.Grammar.{literal_expression, expression_argument, pack_argument, literal_argument}
 use Rattle.itanium_grammar.specs.Grammar.{type_argument}
-use Rattle.itanium_grammar.specs.Cases.{AtE, PrimaryCase, ExternalName, ValueLiteral, UnreadPrimary, ExpressionCase}
+use Rattle.itanium_grammar.specs.Cases.{AtE, PrimaryCase, ExternalName, ValueLiteral, UnreadablePrimary, ExpressionCase}
 use Rattle.itanium_grammar.specs.Cases.{PreExpression, AddressExpression, UnaryExpression, PostExpression}
 use Rattle.itanium_grammar.specs.Cases.{BinaryExpression, GreaterExpression, ConditionalExpression}
-use Rattle.itanium_grammar.specs.Cases.{ParameterExpression, PrimaryExpression, UnreadExpression, ArgumentCase}
+use Rattle.itanium_grammar.specs.Cases.{TemplateParamExpression, PrimaryExpression, UnreadableExpression, ArgumentCase}
 use Rattle.itanium_grammar.specs.Cases.{ExpressionArgument, PackArgument, PrimaryArgument, ConstraintArgument}
 use Rattle.itanium_grammar.specs.Cases.{TypeArgument}
 use Rattle.itanium_reader.specs.Parser.{ParserState, parse_type, parse_name, parse_special, parse_pack, parse_encoding}
@@ -31,7 +31,7 @@ use Rattle.itanium_demangle.proofs.Readings.{Within, Found, TypesComplete, Packs
 use Rattle.itanium_demangle.proofs.Readings.{ThunksComplete, ExpressionsComplete, TypesSound, PacksSound}
 use Rattle.itanium_demangle.proofs.Readings.{BareNamesSound, ThunksSound, ExpressionsSound, ArgumentsSound}
 use Rattle.itanium_demangle.proofs.CompleteExpressions.{operand_complete, expression_as_met, expressions_complete, each_argument_met}
-use Rattle.itanium_demangle.proofs.SoundNames.{parameter_sound, encoding_sound}
+use Rattle.itanium_demangle.proofs.SoundNames.{template_param_sound, encoding_sound}
 
 -- an E stands there
 end_sound : (p : Position) (e m : ℕ) (after : ParserState) → past_end (state_at p e m) ≡ Some after → begins (codes "E") p.rest ≡ true
@@ -59,7 +59,7 @@ module _ (d : ℕ) (complete : TypesComplete d) (bares_are : BareNamesComplete d
       option_and_then_some _ (literal_value i.next.rest) y there (λ v value made.
       option_and_then_some _ (literal_step (shape_of i.tree) v.0) y made (λ w literal _.
       record { tree = _; next = _; cost = _; reading = value_literal i.reading value (value_sound (shape_of i.tree) v.0 w literal); deep = i.deep })))
-  literal_sound UnreadPrimary x p e m y is = cc
+  literal_sound UnreadablePrimary x p e m y is = cc
 
   pub primary_sound : (x : Context) (p : Position) (e m : ℕ) (y : Shape × ParserState) → parse_primary d x (state_at p e m) ≡ Some y → Within (PrimaryAs (primary_case p.rest) x p) d
   unfolding parse_primary
@@ -121,11 +121,11 @@ module _ (d : ℕ) (complete : TypesComplete d) (bares_are : BareNamesComplete d
       option_and_then_some _ (operand_by (parse_expression d x) (state_at o.next (e + i.cost.count + o.cost.count) (max (max m i.cost.peak) o.cost.peak))) y here (λ v third _.
       let l = (operand_sound x o.next (e + i.cost.count + o.cost.count) (max (max m i.cost.peak) o.cost.peak) v third).within in
       record { tree = _; next = _; cost = _; reading = conditional_expression i.reading o.reading l.reading; deep = omega (arith, i.deep, o.deep, l.deep) })))
-  expression_as_sound ParameterExpression x p e m y is =
-      let i = parameter_sound x p e m y is in record { tree = _; next = _; cost = _; reading = parameter_expression i.reading; deep = omega arith }
+  expression_as_sound TemplateParamExpression x p e m y is =
+      let i = template_param_sound x p e m y is in record { tree = _; next = _; cost = _; reading = parameter_expression i.reading; deep = omega arith }
   expression_as_sound PrimaryExpression x p e m y is =
       let i = primary_sound d complete bares_are thunks_are kinds bares thunks x p e m y is in record { tree = _; next = _; cost = _; reading = literal_expression i.reading; deep = i.deep }
-  expression_as_sound UnreadExpression x p e m y is = cc
+  expression_as_sound UnreadableExpression x p e m y is = cc
 
   pub expressions_sound : ExpressionsSound (suc d)
   unfolding parse_expression parse_primary parse_encoding parse_special parse_name

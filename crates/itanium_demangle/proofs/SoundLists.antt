@@ -4,11 +4,11 @@ use Rattle.std.proofs.lemmas.Option.{same_Some, option_and_then_some}
 use Rattle.demangle_text.specs.Shape.{Shape}
 use Rattle.demangle_edit.specs.Built.{listed_each, listed_more}
 use Rattle.itanium_syntax.specs.declared.context.Context.{Context}
-use Rattle.itanium_syntax.specs.Types.{types_case}
+use Rattle.itanium_syntax.specs.Types.{type_list_case}
 use Rattle.itanium_grammar.specs.Tree.{shape_of}
 use Rattle.itanium_grammar.specs.Grammar.{Position, ParamsAs, TypeListAs, no_params, some_params, end_of_types, one_more_type}
 use Rattle.itanium_grammar.proofs.Progress.{type_takes}
-use Rattle.itanium_grammar.specs.Cases.{EncodingEnd, ParamsCase, NoParams, SomeParams, TypesCase, EndOfTypes, NextType}
+use Rattle.itanium_grammar.specs.Cases.{EncodingEnd, ParamsCase, NoParams, SomeParams, TypeListCase, EndOfTypes, NextType}
 use Rattle.itanium_reader.specs.Parser.{ParserState, after_turn, loop, ◌>>=◌, next_item, typed_as, typed_turn, typed_params_as, parse_type}
 use Rattle.itanium_demangle.specs.Meaning.{state_at}
 use Rattle.itanium_demangle.proofs.Fitting.{met_is, past_fitting}
@@ -18,10 +18,10 @@ use Rattle.itanium_demangle.proofs.CompleteLists.{typed_params_met}
 -- types put onto a list, in n turns
 abbrev TypedSound : ℕ → EncodingEnd → Bool → ℕ → Type 0
 TypedSound d end of_function n = (x : Context) (first : Bool) (front : Shape) (p : Position) (e m : ℕ) (y : Shape × ParserState) → length p.rest < n
-    → loop (typed_turn end of_function (parse_type d x)) n (first, front) (state_at p e m) ≡ Some y → Within (TypeListAs (types_case end of_function p.rest) end of_function x p) d
+    → loop (typed_turn end of_function (parse_type d x)) n (first, front) (state_at p e m) ≡ Some y → Within (TypeListAs (type_list_case end of_function p.rest) end of_function x p) d
 
 module _ (end : EncodingEnd) (of_function : Bool) (d : ℕ) (complete : TypesComplete d) (kinds : TypesSound d) where
-  typed_as_sound : (n : ℕ) → TypedSound d end of_function n → (case : TypesCase) (x : Context) (first : Bool) (front : Shape) (p : Position) (e m : ℕ) (y : Shape × ParserState) → length p.rest < suc n
+  typed_as_sound : (n : ℕ) → TypedSound d end of_function n → (case : TypeListCase) (x : Context) (first : Bool) (front : Shape) (p : Position) (e m : ℕ) (y : Shape × ParserState) → length p.rest < suc n
       → (typed_as case (parse_type d x) (first, front) (state_at p e m) >>= λ r. after_turn r.0
       (loop (typed_turn end of_function (parse_type d x)) n) r.1) ≡ Some y → Within (TypeListAs case end of_function x p) d
   typed_as_sound n again EndOfTypes x first front p e m y room is = record { tree = _; next = _; cost = _; reading = end_of_types; deep = omega arith }
@@ -39,7 +39,7 @@ module _ (end : EncodingEnd) (of_function : Bool) (d : ℕ) (complete : TypesCom
   typed_sound : (n : ℕ) → TypedSound d end of_function n
   unfolding loop typed_turn
   typed_sound zero x first front p e m y room is = cc
-  typed_sound (suc n) x first front p e m y room is = typed_as_sound n (typed_sound n) (types_case end of_function p.rest) x first front p e m y room is
+  typed_sound (suc n) x first front p e m y room is = typed_as_sound n (typed_sound n) (type_list_case end of_function p.rest) x first front p e m y room is
 
   -- parameters, and the answer y is their list
   pub typed_params_sound : (case : ParamsCase) (x : Context) (front : Shape) (p : Position) (e m : ℕ) (y : Shape × ParserState)

@@ -9,21 +9,21 @@ use Rattle.itanium_syntax.specs.Scalars.{source_name, index_of, ordinal}
 use Rattle.itanium_syntax.specs.Abbreviations.{abbreviation_of}
 use Rattle.itanium_syntax.specs.Offsets.{thunk_offsets, past_base_offset}
 use Rattle.itanium_syntax.specs.Specials.{special_case}
-use Rattle.itanium_syntax.specs.Names.{source_text, encoding_case, name_case, unscoped_case, first_case, segment_case}
+use Rattle.itanium_syntax.specs.Names.{source_text, name_case, unscoped_case, first_case, segment_case}
 use Rattle.itanium_syntax.specs.Names.{unqualified_case, ordinary_case, tag_case, substitution_case, past_internal}
-use Rattle.itanium_syntax.specs.Names.{past_name_quals, saves_first}
+use Rattle.itanium_syntax.specs.Names.{past_name_quals, first_is_candidate}
 use Rattle.itanium_syntax.specs.Args.{attached_case}
 use Rattle.itanium_syntax.proofs.Fronts.{initializer_after, after_drop, source_takes, after-le}
 use Rattle.itanium_grammar.specs.Tree.{Tree, bare_shape, own_quals, plain_text, abbreviation, ctor_dtor_of, tagged_with, with_args, trees, shape_of}
 use Rattle.itanium_grammar.specs.Grammar.{Position, Cost, with_rest, skip, save, last_of, past_initializer, both}
-use Rattle.itanium_grammar.specs.Grammar.{saving, SubstitutionAs, Substitution, ArgumentNamed, Parameter, TaggedAs}
+use Rattle.itanium_grammar.specs.Grammar.{saving, SubstitutionAs, Substitution, ArgumentNamed, TemplateParam, TaggedAs}
 use Rattle.itanium_grammar.specs.Grammar.{OrdinaryAs, UnqualifiedAs, Unqualified, FirstAs, NameAs, Name, nothing, SpecialAs}
 use Rattle.itanium_grammar.specs.Grammar.{Signature, signature, Thunk, special_encoding, type_special, name_special}
 use Rattle.itanium_grammar.specs.Grammar.{temporary_special, construction_special, thunk_special, thunk, name_encoding}
 use Rattle.itanium_grammar.specs.Grammar.{Local, EntityAs, EncodingAs, ReturnAs, EncodingParamsAs}
 use Rattle.itanium_grammar.specs.Grammar.{UnscopedAs, AttachedAs, Nested, SegmentsAs, Args}
 use Rattle.itanium_grammar.specs.Grammar.{abbreviation_substitution, component_substitution}
-use Rattle.itanium_grammar.specs.Grammar.{auto_parameter, scope_parameter, parameter, no_tag, next_tag, ordinary_source}
+use Rattle.itanium_grammar.specs.Grammar.{auto_parameter, scope_parameter, template_param, no_tag, next_tag, ordinary_source}
 use Rattle.itanium_grammar.specs.Grammar.{ordinary_unnamed_type, ordinary_lambda, ordinary_conversion, ordinary_literal_operator}
 use Rattle.itanium_grammar.specs.Grammar.{ordinary_operator, constructor_unqualified, destructor_unqualified}
 use Rattle.itanium_grammar.specs.Grammar.{ordinary_unqualified, unqualified, parameter_first, std_first, substitution_first}
@@ -34,18 +34,18 @@ use Rattle.itanium_grammar.specs.Grammar.{substitution_name, plain_name, none_at
 use Rattle.itanium_grammar.specs.Grammar.{end_of_segments, args_segment, name_segment}
 use Rattle.itanium_grammar.proofs.Progress.{unqualified_takes, args_takes}
 use Rattle.itanium_grammar.specs.Cases.{EncodingEnd, AtE, AtSymbolEnd, EncodingCase, SpecialEncoding, NameEncoding, FullEncoding, SpecialCase, TypeSpecial, NameSpecial}
-use Rattle.itanium_grammar.specs.Cases.{TemporarySpecial, ConstructionSpecial, ThunkSpecial, UnreadSpecial, ReturnCase}
+use Rattle.itanium_grammar.specs.Cases.{TemporarySpecial, ConstructionSpecial, ThunkSpecial, UnreadableSpecial, ReturnCase}
 use Rattle.itanium_grammar.specs.Cases.{NoReturnType, SomeReturnType, EncodingParamsCase, NoEncodingParams, SomeEncodingParams}
-use Rattle.itanium_grammar.specs.Cases.{EntityCase, StringLiteralEntity, DefaultArgumentEntity, NameEntity, UnreadEntity}
+use Rattle.itanium_grammar.specs.Cases.{EntityCase, StringLiteralEntity, DefaultArgumentEntity, NameEntity, UnreadableEntity}
 use Rattle.itanium_grammar.specs.Cases.{SubstitutionCase, AbbreviationSubstitution, ComponentSubstitution, TagCase}
 use Rattle.itanium_grammar.specs.Cases.{NoTag, NextTag, UnqualifiedCase, ConstructorName, DestructorName, OrdinaryName}
 use Rattle.itanium_grammar.specs.Cases.{OrdinaryCase, SourceName, UnnamedTypeName, LambdaName, ConversionName}
-use Rattle.itanium_grammar.specs.Cases.{LiteralOperatorName, OperatorName, UnreadName, FirstCase, ParameterFirst, StdFirst}
+use Rattle.itanium_grammar.specs.Cases.{LiteralOperatorName, OperatorName, UnreadableName, FirstCase, TemplateParamFirst, StdFirst}
 use Rattle.itanium_grammar.specs.Cases.{SubstitutionFirst, NameFirst, NameCase, NestedName, LocalName, UnscopedName}
 use Rattle.itanium_grammar.specs.Cases.{UnscopedCase, StdName, SubstitutionName, PlainName, AttachedCase, NoneAttached}
 use Rattle.itanium_grammar.specs.Cases.{ArgsAttached, SegmentCase, EndOfSegments, ArgsSegment, NameSegment}
 use Rattle.itanium_reader.specs.Parser.{ParserState, after_turn, loop, ◌>>=◌, next_segment, substitution_as}
-use Rattle.itanium_reader.specs.Parser.{parse_substitution, parameter_as, parse_parameter, tag_as, tag_turn, parse_tags}
+use Rattle.itanium_reader.specs.Parser.{parse_substitution, template_param_as, parse_template_param, tag_as, tag_turn, parse_tags}
 use Rattle.itanium_reader.specs.Parser.{typed_params_as, ordinary_as, parse_ordinary, ctor_dtor_as, unqualified_as}
 use Rattle.itanium_reader.specs.Parser.{parse_unqualified, first_as, fitting, attached_by, attached_as, template_as}
 use Rattle.itanium_reader.specs.Parser.{unscoped_as, segment_as, segment_turn, parse_segments, parse_nested, return_as}
@@ -61,13 +61,13 @@ use Rattle.itanium_demangle.proofs.Readings.{ThunksComplete, ThunksSound}
 use Rattle.itanium_demangle.proofs.Waiting.{same_return, whole_name}
 use Rattle.itanium_demangle.proofs.Whole.{with_own_quals}
 use Rattle.itanium_demangle.proofs.Fitting.{Met, met_is, met_passed, met_passed_bare, passed}
-use Rattle.itanium_demangle.proofs.CompleteNames.{substitution_complete, parameter_complete, ordinary_met, unqualified_met}
+use Rattle.itanium_demangle.proofs.CompleteNames.{substitution_complete, template_param_complete, ordinary_met, unqualified_met}
 use Rattle.itanium_demangle.proofs.CompleteNames.{first_met, segments_met, encoding_met, thunk_by_met, signature_by_met, name_as_met}
 use Rattle.itanium_demangle.proofs.CompleteNames.{bare_names_complete, names_complete, thunks_complete}
 use Rattle.itanium_syntax.specs.Types.{params_case}
 use Rattle.itanium_syntax.specs.Operators.{operator_here}
 use Rattle.itanium_syntax.specs.Context.{inside_lambda, showing_words, inside_encoding, inside_params}
-use Rattle.itanium_syntax.specs.Encodings.{ends_here, for_thunk, return_case, encoding_params_case, entity_case}
+use Rattle.itanium_syntax.specs.Encodings.{ends_here, for_thunk, return_case, encoding_params_case, entity_case, encoding_case}
 use Rattle.itanium_reader.specs.Parser.{shows_words}
 use Rattle.demangle_quals.specs.declared.quals.Quals.{Quals}
 use Rattle.demangle_edit.specs.Built.{params_opened}
@@ -117,22 +117,22 @@ record Named (lambda : Bool) (i : ℕ) (p : Position) : Type 0 where
   tree : Tree
   reading : ArgumentNamed lambda i p tree
 
-parameter_as_sound : (lambda : Bool) (i : ℕ) (p : Position) (e m : ℕ) (v : Shape) → parameter_as lambda i (state_at p e m) ≡ Some v → Named lambda i p
+parameter_as_sound : (lambda : Bool) (i : ℕ) (p : Position) (e m : ℕ) (v : Shape) → template_param_as lambda i (state_at p e m) ≡ Some v → Named lambda i p
 parameter_as_sound true i p e m v is = record { tree = plain_text (codes "auto"); reading = auto_parameter }
 parameter_as_sound false i p e m v is =
     let t = saved_tree (last_of p.scopes) i v (ap (λ (ts : List Shape). slice_get ts i) (sym (last-map p.scopes)) ∙ is) in record { tree = t.tree; reading = scope_parameter t.there }
 
-pub parameter_sound : (x : Context) (p : Position) (e m : ℕ) (y : Shape × ParserState) → parse_parameter x (state_at p e m) ≡ Some y → Free (Parameter x p) e m y
-unfolding parse_parameter
-parameter_sound x p e m y is =
+pub template_param_sound : (x : Context) (p : Position) (e m : ℕ) (y : Shape × ParserState) → parse_template_param x (state_at p e m) ≡ Some y → Free (TemplateParam x p) e m y
+unfolding parse_template_param
+template_param_sound x p e m y is =
     option_and_then_some _ (index_of Decimal (drop 1 p.rest)) y is (λ found number named.
-    option_and_then_some _ (parameter_as x.lambda found.0 (state_at p e m)) y named (λ v got _.
+    option_and_then_some _ (template_param_as x.lambda found.0 (state_at p e m)) y named (λ v got _.
     let t = parameter_as_sound x.lambda found.0 p e m v got in
-    let r : Parameter x p t.tree (with_rest found.1 p) = parameter number t.reading in
+    let r : TemplateParam x p t.tree (with_rest found.1 p) = template_param number t.reading in
     record { tree = t.tree; next = with_rest found.1 p; reading = r; is = same_Some _ _ (sym is ∙ whole r) }))
   where
-    whole : {t : Tree} {q : Position} → Parameter x p t q → parse_parameter x (state_at p e m) ≡ Some (shape_of t, state_at q e m)
-    whole r = parameter_complete r e m
+    whole : {t : Tree} {q : Position} → TemplateParam x p t q → parse_template_param x (state_at p e m) ≡ Some (shape_of t, state_at q e m)
+    whole r = template_param_complete r e m
 
 -- tags up to their end, in n turns
 record Tagged (case : TagCase) (t : Tree) (p : Position) : Type 0 where
@@ -178,7 +178,7 @@ ctor_dtor_sound destructor parent p e m y is = parse_tags_sound (ctor_dtor_of pa
 module _ (d : ℕ) (complete : TypesComplete d) (lists_are : ArgsComplete d) (kinds : TypesSound d) where
   ordinary_sound : (case : OrdinaryCase) (x : Context) (p : Position) (e m : ℕ) (y : Shape × ParserState)
       → ordinary_as case (parse_type d x) (parse_type d (inside_lambda x)) (state_at p e m) ≡ Some y → Found (OrdinaryAs case x p) shape_of d e m y
-  ordinary_sound UnreadName x p e m y is = cc
+  ordinary_sound UnreadableName x p e m y is = cc
   ordinary_sound SourceName x p e m y is =
       option_and_then_some _ (source_name p.rest) y is (λ b found _.
       let w : Within (OrdinaryAs SourceName x p) d = record { tree = _; next = _; cost = _; reading = ordinary_source found; deep = omega arith } in
@@ -240,9 +240,9 @@ module _ (d : ℕ) (complete : TypesComplete d) (lists_are : ArgsComplete d) (ki
   first_sound : (case : FirstCase) (x : Context) (p : Position) (e m : ℕ) (y : Shape × ParserState)
       → first_as case (parse_unqualified (parse_type d x) (parse_type d (inside_lambda x))) x (state_at p e m) ≡ Some y
       → Within (FirstAs case x p) d
-  first_sound ParameterFirst x p e m y is =
-      option_and_then_some _ (parse_parameter x (state_at p e m)) y is (λ z found _.
-      let i = parameter_sound x p e m z found in record { tree = _; next = _; cost = _; reading = parameter_first i.reading; deep = omega arith })
+  first_sound TemplateParamFirst x p e m y is =
+      option_and_then_some _ (parse_template_param x (state_at p e m)) y is (λ z found _.
+      let i = template_param_sound x p e m z found in record { tree = _; next = _; cost = _; reading = parameter_first i.reading; deep = omega arith })
   first_sound SubstitutionFirst x p e m y is =
       let i = substitution_sound p e m y is in record { tree = _; next = _; cost = _; reading = substitution_first i.reading; deep = omega arith }
   first_sound StdFirst x p e m y is = record { tree = _; next = _; cost = _; reading = std_first; deep = omega arith }
@@ -303,19 +303,19 @@ module _ (d : ℕ) (complete : TypesComplete d) (lists_are : ArgsComplete d) (ki
 
 -- the segments after what stands, in n turns
 abbrev SegmentsSound : ℕ → ℕ → Type 0
-SegmentsSound d n = (x : Context) (takes : Bool) (t : Tree) (p : Position) (e m : ℕ) (y : Shape × ParserState) → length p.rest < n
+SegmentsSound d n = (x : Context) (candidate : Bool) (t : Tree) (p : Position) (e m : ℕ) (y : Shape × ParserState) → length p.rest < n
     → loop (segment_turn (parse_unqualified (parse_type d x) (parse_type d (inside_lambda x))) (parse_args d x true))
-    n (takes, shape_of t) (state_at p e m) ≡ Some y → Found (SegmentsAs (segment_case p.rest) takes x t p) shape_of d e m y
+    n (candidate, shape_of t) (state_at p e m) ≡ Some y → Found (SegmentsAs (segment_case p.rest) candidate x t p) shape_of d e m y
 
 module _ (d : ℕ) (complete : TypesComplete d) (lists_are : ArgsComplete d) (kinds : TypesSound d) (lists : ArgsSound d) where
-  segment_sound : (n : ℕ) → SegmentsSound d n → (case : SegmentCase) (x : Context) (takes : Bool) (t : Tree) (p : Position) (e m : ℕ) (y : Shape × ParserState) → length p.rest < suc n
+  segment_sound : (n : ℕ) → SegmentsSound d n → (case : SegmentCase) (x : Context) (candidate : Bool) (t : Tree) (p : Position) (e m : ℕ) (y : Shape × ParserState) → length p.rest < suc n
       → (segment_as case (parse_unqualified (parse_type d x) (parse_type d (inside_lambda x))) (parse_args d x true)
-      (takes, shape_of t) (state_at p e m) >>= λ r. after_turn r.0
+      (candidate, shape_of t) (state_at p e m) >>= λ r. after_turn r.0
       (loop (segment_turn (parse_unqualified (parse_type d x) (parse_type d (inside_lambda x))) (parse_args d x true))
       n) r.1) ≡ Some y
-      → Within (SegmentsAs case takes x t p) d
-  segment_sound n again EndOfSegments x takes t p e m y room is = record { tree = _; next = _; cost = _; reading = end_of_segments; deep = omega arith }
-  segment_sound n again ArgsSegment x takes t p e m y room is =
+      → Within (SegmentsAs case candidate x t p) d
+  segment_sound n again EndOfSegments x candidate t p e m y room is = record { tree = _; next = _; cost = _; reading = end_of_segments; deep = omega arith }
+  segment_sound n again ArgsSegment x candidate t p e m y room is =
       option_and_then_some _ (attached_by (parse_args d x true) (shape_of t) (state_at p e m) >>= fitting >>= next_segment) y is (λ v turned rest.
       option_and_then_some _ (attached_by (parse_args d x true) (shape_of t) (state_at p e m) >>= fitting) v turned (λ u fitted next.
       option_and_then_some _ (attached_by (parse_args d x true) (shape_of t) (state_at p e m)) u fitted (λ z list through.
@@ -334,7 +334,7 @@ module _ (d : ℕ) (complete : TypesComplete d) (lists_are : ArgsComplete d) (ki
         reading = args_segment {r = o.next} {v = o.tree} {d = o.cost} i.reading o.reading;
         deep = omega (arith, i.deep, o.deep);
       })))
-  segment_sound n again NameSegment x takes t p e m y room is =
+  segment_sound n again NameSegment x candidate t p e m y room is =
       option_and_then_some _ (parse_unqualified (parse_type d x) (parse_type d (inside_lambda x)) (Some (shape_of t)) (state_at p e m) >>= fitting >>= next_segment) y is (λ v turned rest.
       option_and_then_some _ (parse_unqualified (parse_type d x) (parse_type d (inside_lambda x)) (Some (shape_of t)) (state_at p e m) >>= fitting) v turned (λ u fitted next.
       option_and_then_some _ (parse_unqualified (parse_type d x) (parse_type d (inside_lambda x)) (Some (shape_of t)) (state_at p e m)) u fitted (λ z named through.
@@ -355,9 +355,9 @@ module _ (d : ℕ) (complete : TypesComplete d) (lists_are : ArgsComplete d) (ki
 
   segments_sound : (n : ℕ) → SegmentsSound d n
   unfolding loop segment_turn
-  segments_sound zero x takes t p e m y room is = cc
-  segments_sound (suc n) x takes t p e m y room is =
-      let w = segment_sound n (segments_sound n) (segment_case p.rest) x takes t p e m y room is in
+  segments_sound zero x candidate t p e m y room is = cc
+  segments_sound (suc n) x candidate t p e m y room is =
+      let w = segment_sound n (segments_sound n) (segment_case p.rest) x candidate t p e m y room is in
       record { within = w; is = met_is (segments_met d lists_are complete (suc n) _ _ _ _ _ _ _ w.reading w.deep e m room) is }
 
   nested_sound : (x : Context) (p : Position) (e m : ℕ) (y : (Shape × Quals) × ParserState)
@@ -372,9 +372,9 @@ module _ (d : ℕ) (complete : TypesComplete d) (lists_are : ArgsComplete d) (ki
       let is_z : z ≡ (shape_of i.tree, state_at i.next (e + i.cost.count) (max m i.cost.peak)) = met_is (first_met d lists_are complete i.reading i.deep e m) first in
       let there = rw is_z at more in
       option_and_then_some _ (parse_segments (parse_unqualified (parse_type d x) (parse_type d (inside_lambda x)))
-      (parse_args d x true) (saves_first case) (shape_of i.tree)
+      (parse_args d x true) (first_is_candidate case) (shape_of i.tree)
       (state_at (past_initializer i.next) (e + i.cost.count) (max m i.cost.peak))) y there (λ v rest _.
-      let o = (segments_sound (length (past_initializer i.next).rest + 1) x (saves_first case) i.tree (past_initializer i.next) (e + i.cost.count) (max m i.cost.peak) v (omega arith) rest).within in
+      let o = (segments_sound (length (past_initializer i.next).rest + 1) x (first_is_candidate case) i.tree (past_initializer i.next) (e + i.cost.count) (max m i.cost.peak) v (omega arith) rest).within in
       record { tree = _; next = o.next; cost = _; reading = nested i.reading o.reading; deep = omega (arith, i.deep, o.deep) }))
 
 -- the state that a return type leaves
@@ -448,7 +448,7 @@ module _ (d : ℕ) (complete : TypesComplete d) (bares_are : BareNamesComplete d
       record { tree = _; next = _; cost = _; reading = construction_special i.reading offset o.reading; deep = omega (arith, i.deep, o.deep) })))
   special_as_sound ThunkSpecial end x p e m y is =
       let i = (thunks end x p e m y is).within in record { tree = _; next = _; cost = _; reading = thunk_special i.reading; deep = i.deep }
-  special_as_sound UnreadSpecial end x p e m y is = cc
+  special_as_sound UnreadableSpecial end x p e m y is = cc
 
   pub special_sound : (end : EncodingEnd) (x : Context) (p : Position) (e m : ℕ) (y : Shape × ParserState) → parse_special d end x (state_at p e m) ≡ Some y → Within (SpecialAs (special_case p.rest) end x p) d
   unfolding parse_special
@@ -512,7 +512,7 @@ module _ (d : ℕ) (complete : TypesComplete d) (bares_are : BareNamesComplete d
       option_and_then_some _ (parse_bare_name d x (state_at (skip 1 p) e m)) y is (λ z read _.
       let i = (bares x (skip 1 p) e m z read).within in
       record { tree = _; next = _; cost = _; reading = name_entity i.reading; deep = i.deep })
-  entity_sound UnreadEntity x t p e m y is = cc
+  entity_sound UnreadableEntity x t p e m y is = cc
 
   local_sound : (x : Context) (p : Position) (e m : ℕ) (y : (Shape × Quals) × ParserState)
       → parse_local (parse_encoding d AtE (inside_encoding x)) (parse_bare_name d (showing_words x)) (state_at p e m) ≡ Some y

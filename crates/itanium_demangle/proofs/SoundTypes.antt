@@ -15,15 +15,15 @@ use Rattle.itanium_syntax.specs.Types.{type_case, cv_case, function_case, params
 use Rattle.itanium_grammar.specs.Tree.{Tree, plain_text, shape_of}
 use Rattle.itanium_grammar.specs.Grammar.{Position, with_rest, skip, save, TypeOf, TypeAs, CvAs, Function}
 use Rattle.itanium_grammar.specs.Grammar.{TypeAttachedAs, type, builtin_type, expansion_type, vendor_type, array_type}
-use Rattle.itanium_grammar.specs.Grammar.{function_type, member_type, pointer_type, cv_type, elaborated_type}
-use Rattle.itanium_grammar.specs.Grammar.{parameter_type, substitution_type, name_type, cv_function, cv_other, function}
+use Rattle.itanium_grammar.specs.Grammar.{function_type, pointer_to_member_type, pointer_type, cv_type, elaborated_type}
+use Rattle.itanium_grammar.specs.Grammar.{template_param_type, substitution_type, name_type, cv_function, cv_other, function}
 use Rattle.itanium_grammar.specs.Grammar.{none_attached_to_type, args_attached_to_type}
 use Rattle.itanium_grammar.specs.Cases.{AtE, TypeCase, BuiltinType, ExpansionType, VendorType, ArrayType, FunctionType}
-use Rattle.itanium_grammar.specs.Cases.{MemberType, PointerType, CvType, ElaboratedType, ParameterType}
-use Rattle.itanium_grammar.specs.Cases.{SubstitutionType, UnreadType, NameType, CvCase, CvFunction, CvOther}
+use Rattle.itanium_grammar.specs.Cases.{PointerToMemberType, PointerType, CvType, ElaboratedType, TemplateParamType}
+use Rattle.itanium_grammar.specs.Cases.{SubstitutionType, UnreadableType, NameType, CvCase, CvFunction, CvOther}
 use Rattle.itanium_grammar.specs.Cases.{FunctionCase, ExternFunction, PlainFunction, AttachedCase, NoneAttached}
 use Rattle.itanium_grammar.specs.Cases.{ArgsAttached}
-use Rattle.itanium_reader.specs.Parser.{ParserState, parse_source, parse_parameter, saved_parameter, parse_substitution}
+use Rattle.itanium_reader.specs.Parser.{ParserState, parse_source, parse_template_param, saved_template_param, parse_substitution}
 use Rattle.itanium_reader.specs.Parser.{attached_by, type_attached_as, typed_params_as, function_as, parse_function}
 use Rattle.itanium_reader.specs.Parser.{cv_as, vendor_as, type_as, parse_name, parse_args, parse_type}
 use Rattle.itanium_demangle.specs.Meaning.{state_at}
@@ -32,7 +32,7 @@ use Rattle.itanium_demangle.proofs.Fitting.{met_passed}
 use Rattle.itanium_demangle.proofs.Readings.{Within, NamesComplete, NamesSound, ArgsComplete, ArgsSound, TypesComplete, TypesSound}
 use Rattle.itanium_demangle.proofs.CompleteTypes.{type_as_met, types_complete_at}
 use Rattle.itanium_demangle.proofs.SoundLists.{typed_params_sound}
-use Rattle.itanium_demangle.proofs.SoundNames.{attached_sound, substitution_sound, parameter_sound, source_is}
+use Rattle.itanium_demangle.proofs.SoundNames.{attached_sound, substitution_sound, template_param_sound, source_is}
 
 type_attached_sound : (d : ℕ) → ArgsSound d → (case : AttachedCase) (x : Context) (t : Tree) (p : Position) (e m : ℕ) (y : Shape × ParserState)
     → type_attached_as case (parse_args d x false) (shape_of t) (state_at p e m) ≡ Some y → Within (TypeAttachedAs case x t p) d
@@ -106,7 +106,7 @@ type_as_sound d complete kinds names lists ArrayType x p e m y is =
 type_as_sound d complete kinds names lists FunctionType x p e m y is =
     option_and_then_some _ (parse_function (parse_type d x) no_quals (state_at p e m)) y is (λ z found _.
     let i = function_sound d complete kinds x no_quals p e m z found in record { tree = _; next = _; cost = _; reading = function_type i.reading; deep = omega (arith, i.deep) })
-type_as_sound d complete kinds names lists MemberType x p e m y is =
+type_as_sound d complete kinds names lists PointerToMemberType x p e m y is =
     option_and_then_some _ (parse_type d x (state_at (skip 1 p) e m)) y is (λ z class more.
     let first = kinds x (skip 1 p) e m z class in
     let i = first.within in
@@ -116,7 +116,7 @@ type_as_sound d complete kinds names lists MemberType x p e m y is =
     let o = second.within in
     let here = rw second.is at ends in
     option_and_then_some _ (member_pointer_step (shape_of i.tree) (shape_of o.tree)) y here (λ w made _.
-    record { tree = _; next = _; cost = _; reading = member_type i.reading o.reading (member_sound (shape_of i.tree) (shape_of o.tree) w made); deep = omega (arith, i.deep, o.deep) })))
+    record { tree = _; next = _; cost = _; reading = pointer_to_member_type i.reading o.reading (member_sound (shape_of i.tree) (shape_of o.tree) w made); deep = omega (arith, i.deep, o.deep) })))
 type_as_sound d complete kinds names lists (PointerType kind) x p e m y is =
     option_and_then_some _ (parse_type d x (state_at (skip 1 p) e m)) y is (λ z inner _.
     let i = (kinds x (skip 1 p) e m z inner).within in record { tree = _; next = _; cost = _; reading = pointer_type i.reading; deep = omega (arith, i.deep) })
@@ -127,15 +127,15 @@ type_as_sound d complete kinds names lists CvType x p e m y is =
 type_as_sound d complete kinds names lists ElaboratedType x p e m y is =
     option_and_then_some _ (parse_name d x (state_at (skip 2 p) e m)) y is (λ z inner _.
     let i = (names x (skip 2 p) e m z inner).within in record { tree = _; next = _; cost = _; reading = elaborated_type i.reading; deep = omega (arith, i.deep) })
-type_as_sound d complete kinds names lists UnreadType x p e m y is = cc
-type_as_sound d complete kinds names lists ParameterType x p e m y is =
-    option_and_then_some _ (saved_parameter x (state_at p e m)) y is (λ v saved more.
-    option_and_then_some _ (parse_parameter x (state_at p e m)) v saved (λ z found made.
-    let i = parameter_sound x p e m z found in
+type_as_sound d complete kinds names lists UnreadableType x p e m y is = cc
+type_as_sound d complete kinds names lists TemplateParamType x p e m y is =
+    option_and_then_some _ (saved_template_param x (state_at p e m)) y is (λ v saved more.
+    option_and_then_some _ (parse_template_param x (state_at p e m)) v saved (λ z found made.
+    let i = template_param_sound x p e m z found in
     let is_v : v ≡ (shape_of i.tree, state_at (save i.tree i.next) e (max m (length (map shape_of i.next.saved) + 1))) =
     sym (same_Some _ _ (rw (i.is, one_more i.next.saved i.tree) at made)) in
     let l = type_attached_sound d lists (attached_case i.next.rest) x i.tree (save i.tree i.next) e (max m (length (map shape_of i.next.saved) + 1)) y (rw is_v at more) in
-    record { tree = _; next = _; cost = _; reading = parameter_type i.reading l.reading; deep = omega (arith, l.deep) }))
+    record { tree = _; next = _; cost = _; reading = template_param_type i.reading l.reading; deep = omega (arith, l.deep) }))
 type_as_sound d complete kinds names lists SubstitutionType x p e m y is =
     option_and_then_some _ (parse_substitution (state_at p e m)) y is (λ z found more.
     let i = substitution_sound p e m z found in

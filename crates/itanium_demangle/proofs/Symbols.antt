@@ -20,7 +20,7 @@ use Rattle.itanium_grammar.specs.Answer.{after_prefix, start, suffix, Mangled, m
 use Rattle.itanium_grammar.proofs.Agreement.{inside_takes}
 use Rattle.itanium_reader.specs.declared.reader.Reader.{Reader}
 use Rattle.itanium_reader.specs.declared.stop.Stop.{Stop}
-use Rattle.itanium_reader.specs.declared.stop.Stop.TheVariants.{Unread, Memory}
+use Rattle.itanium_reader.specs.declared.stop.Stop.TheVariants.{Unreadable, Memory}
 use Rattle.itanium_reader.specs.Parser.{ParserState, begun}
 use Rattle.itanium_reader.specs.Outcome.{state, Gives, TakesSome, SavedBounds, MostSaved}
 use Rattle.itanium_demangle.specs.Meaning.{StandsFor, parse_mangled, state_at, HasReading, HasNoReading, ReadsAs}
@@ -35,7 +35,7 @@ reads_as (Ok u) full d before after gives = (
   λ p stands.
       (mangled full d).reads p before.entered (state before).most_saved (shape after.buffer.value after.found) (state after) (rw stands at gives.1),
 )
-reads_as (Err Unread) full d before after none = λ p stands. (mangled full d).none p before.entered (state before).most_saved (rw stands at none)
+reads_as (Err Unreadable) full d before after none = λ p stands. (mangled full d).none p before.entered (state before).most_saved (rw stands at none)
 reads_as (Err Memory) full d before after gives = tt
 
 -- a reader at the front of a symbol
@@ -234,7 +234,7 @@ pub read_within : (symbol inside : List ℕ) (before after : ParserState) (u : U
 read_within symbol inside before after u prefix starts bounds saved = within_bounds symbol inside before after prefix starts (omega (arith, bounds.counted)) saved.most
 
 -- and of a run that failed
-pub unread_within : (symbol inside : List ℕ) (before after : ParserState) (stop : Stop) → after_prefix symbol ≡ Some inside → before ≡ begun inside → stop ≡ Unread
+pub unread_within : (symbol inside : List ℕ) (before after : ParserState) (stop : Stop) → after_prefix symbol ≡ Some inside → before ≡ begun inside → stop ≡ Unreadable
     → TakesSome {A = Unit {0}} 2 (Err stop) before after → SavedBounds {A = Unit {0}} 1 (Err stop) before after → HasBounds symbol after.entered after.most_saved
-unread_within symbol inside before after Unread prefix starts is bounds saved = within_bounds symbol inside before after prefix starts bounds saved
+unread_within symbol inside before after Unreadable prefix starts is bounds saved = within_bounds symbol inside before after prefix starts bounds saved
 unread_within symbol inside before after Memory prefix starts is bounds saved = cc

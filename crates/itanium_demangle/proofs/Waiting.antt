@@ -2,7 +2,7 @@
 use Rattle.std.proofs.Common.{◌≡◌, ℕ, ◌+◌, Bool, true, false, List, [], ◌++◌, length, drop, refl, ap, ap₂, ◌∙◌, sym, codes, if◌then◌else◌, arith, Option, Some, None}
 use Rattle.std.proofs.lemmas.List.{append_assoc, length-append}
 use Rattle.std.proofs.lemmas.Bool.Decides.{nat_tests}
-use Rattle.demangle_text.specs.declared.shape.Place.TheVariants.{Start}
+use Rattle.demangle_text.specs.declared.pieces.Place.TheVariants.{Start}
 use Rattle.demangle_text.specs.Shape.{Shape, Plain, text, flattened, inserted, appended, moved}
 use Rattle.demangle_quals.specs.declared.quals.Quals.{Quals}
 use Rattle.demangle_quals.specs.Quals.{no_quals, has_quals, words_text, reference_text}
@@ -119,17 +119,17 @@ shown_inside UnscopedName = refl
 mutual
   unfolding shape_of
 
-  pub whole_name : {waits : Bool} {x : Context} {p q : Position} {t : Tree} {c : Cost} → Name waits x p t q c
+  pub whole_name : {bare : Bool} {x : Context} {p q : Position} {t : Tree} {c : Cost} → Name bare x p t q c
       → with_name_qualifiers (bare_shape t) (own_quals t) (shows_words (name_case p.rest) x.words_shown) ≡ shape_of t
   whole_name (name a) = whole_name_as a
 
-  whole_name_as : {case : NameCase} {waits : Bool} {x : Context} {p q : Position} {t : Tree} {c : Cost} → NameAs case waits x p t q c
+  whole_name_as : {case : NameCase} {bare : Bool} {x : Context} {p q : Position} {t : Tree} {c : Cost} → NameAs case bare x p t q c
       → with_name_qualifiers (bare_shape t) (own_quals t) (shows_words case x.words_shown) ≡ shape_of t
   whole_name_as (nested_name (nested a b)) = refl
   whole_name_as (local_name (local a b)) = whole_entity b refl
   whole_name_as (unscoped_name a) = let none = unscoped_none a in rw (none.quals, none.bare) refl
 
-  whole_entity : {case : EntityCase} {waits : Bool} {x : Context} {t u : Tree} {p q : Position} {c : Cost} → EntityAs case waits x t p u q c → x.words_shown ≡ true
+  whole_entity : {case : EntityCase} {bare : Bool} {x : Context} {t u : Tree} {p q : Position} {c : Cost} → EntityAs case bare x t p u q c → x.words_shown ≡ true
       → with_name_qualifiers (bare_shape u) (own_quals u) true ≡ shape_of u
   whole_entity string_literal_entity on = refl
   whole_entity (default_argument_entity {t = t} {u = u} {number = k} {rest = r} found a) on =
@@ -153,7 +153,7 @@ quals_flags bare quals shown = go (has_quals quals)
     go false = (refl, refl)
 
 -- so the same return type follows a name with and without its own qualifiers
-pub same_return : (end : EncodingEnd) {waits : Bool} {x : Context} {p q : Position} {t : Tree} {c : Cost} → Name waits x p t q c → (bytes : List ℕ)
+pub same_return : (end : EncodingEnd) {bare : Bool} {x : Context} {p q : Position} {t : Tree} {c : Cost} → Name bare x p t q c → (bytes : List ℕ)
     → return_case end (bare_shape t).templ (bare_shape t).ctor bytes ≡ return_case end (shape_of t).templ (shape_of t).ctor bytes
 same_return end {x = x} {p = p} {t = t} a bytes =
     let flags = quals_flags (bare_shape t) (own_quals t) (shows_words (name_case p.rest) x.words_shown) in

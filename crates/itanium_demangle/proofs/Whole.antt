@@ -15,7 +15,7 @@ use Rattle.itanium_demangle.proofs.Longer.{default_holds, local_holds}
 use Rattle.itanium_demangle.proofs.Waiting.{whole_name}
 
 -- a name is no longer without its own qualifiers
-pub bare_shorter : {waits : Bool} {x : Context} {p q : Position} {t : Tree} {c : Cost} → Name waits x p t q c → text_len (bare_shape t) ≤ text_len (shape_of t)
+pub bare_shorter : {bare : Bool} {x : Context} {p q : Position} {t : Tree} {c : Cost} → Name bare x p t q c → text_len (bare_shape t) ≤ text_len (shape_of t)
 bare_shorter {x = x} {p = p} {t = t} a =
     let longer = quals_longer (bare_shape t) (own_quals t) (shows_words (name_case p.rest) x.words_shown) in
     let same = ap text_len (whole_name a) in

@@ -9,7 +9,7 @@ use Rattle.demangle_text.specs.State.{saved, scopes, frame, outermost, main_byte
 use Rattle.itanium_grammar.specs.Answer.{after_prefix, HasCounts, HasComponents, HasSaved, HasBounds, HasLength}
 use Rattle.itanium_grammar.specs.Answer.{IsSignatureOrName, HasCountsOf, HasComponentsOf, HasSavedOf, HasLengthOf}
 use Rattle.itanium_demangle.specs.declared.demangler.Demangler.TheInside.{Inside}
-use Rattle.itanium_demangle.specs.LastRun.{LastRun, no_run}
+use Rattle.itanium_demangle.specs.LastResult.{LastResult, no_result}
 
 -- the answer: all of the buffer's output, where there is one
 abbrev pub answer_text : Bool → Option (Box Buffer Global) → Option (List ℕ)
@@ -27,7 +27,7 @@ component_shapes true (Some buffer) = saved buffer.value
 component_shapes answered buffer = []
 
 -- what the fields mean
-abbrev pub last_run : Inside → LastRun
+abbrev pub last_run : Inside → LastResult
 last_run d = record {
   text = answer_text d.answered d.buffer;
   signature = d.signature;
@@ -60,21 +60,21 @@ IsPrinted printing after None = ¬ (IsUtf8 printing)
 
 -- after a symbol the counts, the components, their shapes and the length of the text are those of its readings as a
 -- name, and without a prefix nothing is left
-pub record IsPrepared (symbol : List ℕ) (run : LastRun) : Type 0 where
+pub record IsPrepared (symbol : List ℕ) (run : LastResult) : Type 0 where
   pub kind : run.signature ≡ false
   pub counts : HasCounts symbol run.entered run.most_saved
   pub components : HasComponents symbol run.text run.components
   pub saved : HasSaved symbol run.text run.saved
   pub bounds : HasBounds symbol run.entered run.most_saved
   pub longest : HasLength symbol run.text
-  pub no_prefix : after_prefix symbol ≡ None → run ≡ no_run
+  pub no_prefix : after_prefix symbol ≡ None → run ≡ no_result
 
 -- the same where its signature was asked for: of its signature, or of its name where it has none
-pub record IsPreparedSignature (symbol : List ℕ) (run : LastRun) : Type 0 where
+pub record IsPreparedSignature (symbol : List ℕ) (run : LastResult) : Type 0 where
   pub answer : IsSignatureOrName run.signature symbol run.text
   pub counts : HasCountsOf run.signature symbol run.entered run.most_saved
   pub components : HasComponentsOf run.signature symbol run.text run.components
   pub saved : HasSavedOf run.signature symbol run.text run.saved
   pub bounds : HasBounds symbol run.entered run.most_saved
   pub longest : HasLengthOf run.signature symbol run.text
-  pub no_prefix : after_prefix symbol ≡ None → run ≡ no_run
+  pub no_prefix : after_prefix symbol ≡ None → run ≡ no_result

@@ -3,4 +3,4 @@ pub mod Meaning
 pub mod Readers
 pub mod Demangler
 pub mod Examples
-pub mod LastRun
+pub mod LastResult

@@ -12,7 +12,7 @@ use Rattle.demangle_text.specs.Shape.{Shape}
 use Rattle.itanium_reader.specs.Outcome.{state}
 use Rattle.itanium_reader.specs.declared.reader.Reader.{Reader}
 use Rattle.itanium_reader.specs.declared.stop.Stop.{Stop}
-use Rattle.itanium_reader.specs.declared.stop.Stop.TheVariants.{Unread, Memory}
+use Rattle.itanium_reader.specs.declared.stop.Stop.TheVariants.{Unreadable, Memory}
 
 -- the state at a position of trees, after so many productions entered, and so many trees saved at most
 abbrev pub state_at : Position → ℕ → ℕ → ParserState
@@ -65,6 +65,6 @@ ReadsAs (Ok u) signature depth before after =
     × ((p : Position) → StandsFor before p
     → HasReading (Mangled signature p) shape_of depth before.entered (state before).most_saved
     (shape after.buffer.value after.found) (state after))
-ReadsAs (Err Unread) signature depth before after =
+ReadsAs (Err Unreadable) signature depth before after =
     (p : Position) → StandsFor before p → HasNoReading (Mangled signature p) depth
 ReadsAs (Err Memory) signature depth before after = Unit {0}

@@ -7,7 +7,7 @@ use Rattle.demangle_quals.specs.declared.quals.Quals.{Quals}
 use Rattle.itanium_syntax.specs.declared.context.Context.{Context}
 use Rattle.itanium_syntax.specs.Args.{argument_case}
 use Rattle.itanium_syntax.specs.Expressions.{primary_case}
-use Rattle.itanium_syntax.specs.Names.{encoding_case}
+use Rattle.itanium_syntax.specs.Encodings.{encoding_case}
 use Rattle.itanium_syntax.specs.Specials.{special_case}
 use Rattle.itanium_grammar.specs.Tree.{Tree, shape_of, bare_shape, own_quals, printing}
 use Rattle.itanium_grammar.specs.Grammar.{Position, Cost, Name, EncodingAs, SpecialAs, Thunk, SymbolName, Signature, Args, ArgumentAs}

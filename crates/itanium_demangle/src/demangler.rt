@@ -11,7 +11,7 @@ ghost use Rattle.itanium_grammar.specs.Answer.{HasSavedOf, HasLengthOf};
 ghost use Rattle.itanium_grammar.specs.Answer as spec;
 ghost use Rattle.itanium_reader.specs.Outcome.{state};
 ghost use Rattle.itanium_demangle.specs.Demangler.{IsPrinted, IsPrepared, IsPreparedSignature, IsText, IsEnded, answer_text, component_texts, component_shapes};
-ghost use Rattle.itanium_demangle.specs.LastRun.{no_run};
+ghost use Rattle.itanium_demangle.specs.LastResult.{no_result};
 
 use crate::mangled_name::read_mangled_name;
 use crate::utf8::is_utf8;
@@ -41,9 +41,9 @@ pub struct Demangler {
 
 impl Model for Demangler {
     ghost use Rattle.itanium_demangle.specs.Demangler.{last_run, KeepsAnswer};
-    ghost use Rattle.itanium_demangle.specs.LastRun.{LastRun};
+    ghost use Rattle.itanium_demangle.specs.LastResult.{LastResult};
 
-    ghost Value = { LastRun };
+    ghost Value = { LastResult };
 
     ghost view = { last_run };
 
@@ -100,7 +100,7 @@ impl Demangler {
 
     /// Returns a value that has read no symbol. Allocates nothing.
     pub fn new() -> Self
-        ensures empty { result ≡ no_run }
+        ensures empty { result ≡ no_result }
     {
         Demangler {
             answered: false,
@@ -145,8 +145,8 @@ impl Demangler {
         ensures bounds { IfOk result (λ _. HasBounds symbol.now self.new.entered self.new.most_saved) }
         ensures longest { IfOk result (λ _. HasLengthOf signature symbol.now self.new.text) }
         ensures one { HasOneReadingOf signature symbol.now }
-        ensures no_prefix { spec.after_prefix symbol.now ≡ None → (result ≡ Ok false) × (self.new ≡ no_run) }
-        ensures err { OnErr result (self.new ≡ no_run) }
+        ensures no_prefix { spec.after_prefix symbol.now ≡ None → (result ≡ Ok false) × (self.new ≡ no_result) }
+        ensures err { OnErr result (self.new ≡ no_result) }
     {
         self.answered = false;
         self.signature = false;
@@ -166,11 +166,11 @@ impl Demangler {
             buffer,
             quals: None,
             entered: 0,
-            most_noted: 0,
+            recorded_peak: 0,
         };
         match read_mangled_name(&mut reader, MAX_DEPTH, signature) {
             Ok(()) => {}
-            Err(Stop::Unread) => {
+            Err(Stop::Unreadable) => {
                 self.keep(reader, false);
                 return Ok(false);
             }
@@ -209,8 +209,8 @@ impl Demangler {
         ensures bounds { IfOk result (λ _. HasBounds symbol.now self.new.entered self.new.most_saved) }
         ensures longest { IfOk result (λ _. HasLength symbol.now self.new.text) }
         ensures one { HasOneReading symbol.now }
-        ensures no_prefix { spec.after_prefix symbol.now ≡ None → (result ≡ Ok false) × (self.new ≡ no_run) }
-        ensures err { OnErr result (self.new ≡ no_run) }
+        ensures no_prefix { spec.after_prefix symbol.now ≡ None → (result ≡ Ok false) × (self.new ≡ no_result) }
+        ensures err { OnErr result (self.new ≡ no_result) }
         ensures kind { self.new.signature ≡ false }
     {
         self.read(alloc, symbol, false)
@@ -244,8 +244,8 @@ impl Demangler {
         ensures bounds { IfOk result (λ _. HasBounds symbol.now self.new.entered self.new.most_saved) }
         ensures longest { IfOk result (λ _. HasLengthOf self.new.signature symbol.now self.new.text) }
         ensures one { HasOneReadingOf true symbol.now }
-        ensures no_prefix { spec.after_prefix symbol.now ≡ None → (result ≡ Ok false) × (self.new ≡ no_run) }
-        ensures err { OnErr result (self.new ≡ no_run) }
+        ensures no_prefix { spec.after_prefix symbol.now ≡ None → (result ≡ Ok false) × (self.new ≡ no_result) }
+        ensures err { OnErr result (self.new ≡ no_result) }
     {
         let found = self.read(alloc, symbol, true)?;
         if !found {
@@ -349,7 +349,7 @@ impl Demangler {
         ensures* kept { sem 𝓛 (follows_so the_row the_row self.entry.ghost_name none (λ _ _. ⊤)
             (λ last. MatchResult result
             (λ found. (last.text ≡ option_map (λ text. text.now) found) × IsPrepared symbol.now last)
-            (λ _. last ≡ no_run))) }
+            (λ _. last ≡ no_result))) }
     {
         self.prepare(alloc, symbol)?;
         Ok(self.text())
@@ -370,7 +370,7 @@ impl Demangler {
         ensures* kept { sem 𝓛 (follows_so the_row the_row self.entry.ghost_name none (λ _ _. ⊤)
             (λ last. MatchResult result
             (λ found. (last.text ≡ option_map (λ text. text.now) found) × IsPreparedSignature symbol.now last)
-            (λ _. last ≡ no_run))) }
+            (λ _. last ≡ no_result))) }
     {
         self.prepare_signature(alloc, symbol)?;
         Ok(self.text())
@@ -392,7 +392,7 @@ pub fn demangle_owned(alloc: Global, symbol: &str) -> Result<Option<String>, All
 }
 
 impl Default for Demangler {
-    ghost is_default = { λ value. value ≡ no_run };
+    ghost is_default = { λ value. value ≡ no_result };
 
     fn default() -> Self {
         Self::new()

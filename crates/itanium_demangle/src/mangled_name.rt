@@ -9,14 +9,13 @@ ghost use Rattle.itanium_demangle.specs.Meaning.{ReadsAs, parse_mangled};
 use itanium_productions::{read_encoding, read_name, read_special_name};
 use itanium_reader::{ReadResult, Reader, Stop};
 use itanium_syntax::context::{Context, INITIAL};
-use itanium_syntax::encodings::EncodingEnd;
-use itanium_syntax::names::begins_special;
+use itanium_syntax::encodings::{EncodingEnd, begins_special};
 
 /// Reads what follows the prefix of a symbol as a name: an encoding that ends right after its name. At most `depth`
 /// counted productions may nest. A call of `read_encoding` would give the same and take 43 instructions more a name.
 #[tactic(auto, using(itanium_reader::proofs::Rules::symbols))]
 #[inline(always)]
-fn read_symbol(reader: &mut Reader, depth: usize, context: Context) -> ReadResult
+fn read_symbol_name(reader: &mut Reader, depth: usize, context: Context) -> ReadResult
     requires room { HasRoom 1 (state reader.old) }
     ensures reads { Gives result reader.new (spec.parse_encoding depth AfterName context (state reader.old)) }
     ensures run { OnOk result (IsRun reader.old.buffer.value reader.new.buffer.value) }
@@ -43,7 +42,7 @@ fn read_signature(reader: &mut Reader, depth: usize, context: Context) -> ReadRe
     let depth = reader.enter(depth)?;
     read_encoding(reader, depth, context, EncodingEnd::AtSymbolEnd)?;
     if !EncodingEnd::AtSymbolEnd.ends_here(reader.rest) {
-        return Err(Stop::Unread);
+        return Err(Stop::Unreadable);
     }
     reader.check_width()
 }
@@ -55,7 +54,7 @@ fn read_signature(reader: &mut Reader, depth: usize, context: Context) -> ReadRe
 pub(crate) fn read_mangled_name(reader: &mut Reader, depth: usize, signature: bool) -> ReadResult
     requires room { HasRoom 2 (state reader.old) }
     ensures reads { Gives result reader.new (parse_mangled depth signature (state reader.old)) }
-    // In terms of trees: `Ok` is a reading of the bytes, with which every other agrees. `Stop::Unread` means that no
+    // In terms of trees: `Ok` is a reading of the bytes, with which every other agrees. `Stop::Unreadable` means that no
     // reading is within the limits.
     ensures reading { ReadsAs result signature depth reader.old reader.new }
     ensures run { OnOk result (IsRun reader.old.buffer.value reader.new.buffer.value) }
@@ -65,6 +64,6 @@ pub(crate) fn read_mangled_name(reader: &mut Reader, depth: usize, signature: bo
     if signature {
         read_signature(reader, depth, INITIAL.showing_words())
     } else {
-        read_symbol(reader, depth, INITIAL)
+        read_symbol_name(reader, depth, INITIAL)
     }
 }

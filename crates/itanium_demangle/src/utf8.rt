@@ -40,7 +40,7 @@ fn is_ascii_by_two<const N: usize>(bytes: &[u8]) -> bool
 /// Returns `true` only if all bytes are ASCII. `false` doesn't mean that a byte isn't ASCII: fewer than 8 bytes aren't
 /// tested, and the result is `false`.
 #[inline(always)]
-fn is_ascii(bytes: &[u8]) -> bool
+fn is_known_ascii(bytes: &[u8]) -> bool
     ensures all { result ≡ true → AreAscii bytes.now 0 (length bytes.now) }
 {
     let n = bytes.len();
@@ -79,5 +79,5 @@ pub fn is_utf8(bytes: &[u8]) -> bool
     ensures yes { result ≡ true → IsUtf8 bytes.now }
     ensures no { result ≡ false → ¬ (IsUtf8 bytes.now) }
 {
-    is_ascii(bytes) || from_utf8(bytes).is_ok()
+    is_known_ascii(bytes) || from_utf8(bytes).is_ok()
 }

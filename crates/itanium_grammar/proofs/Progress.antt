@@ -5,10 +5,10 @@ use Rattle.itanium_syntax.specs.declared.context.Context.{Context}
 use Rattle.itanium_syntax.specs.declared.numerals.Radix.TheVariants.{Decimal, Base36}
 use Rattle.itanium_grammar.specs.Cases.{EncodingEnd, EncodingCase, SpecialCase, PrimaryCase, ExpressionCase, NameCase, ReturnCase}
 use Rattle.itanium_grammar.specs.Cases.{EncodingParamsCase, EntityCase, UnscopedCase, AttachedCase, FirstCase, SegmentCase}
-use Rattle.itanium_grammar.specs.Cases.{UnqualifiedCase, OrdinaryCase, TagCase, SubstitutionCase, ArgsCase, ArgumentCase}
-use Rattle.itanium_grammar.specs.Cases.{TypeCase, CvCase, ParamsCase, TypesCase}
+use Rattle.itanium_grammar.specs.Cases.{UnqualifiedCase, OrdinaryCase, TagCase, SubstitutionCase, ArgumentListCase, ArgumentCase}
+use Rattle.itanium_grammar.specs.Cases.{TypeCase, CvCase, ParamsCase, TypeListCase}
 use Rattle.itanium_syntax.specs.Names.{first_case, segment_case, unqualified_case}
-use Rattle.itanium_syntax.specs.Args.{args_case}
+use Rattle.itanium_syntax.specs.Args.{argument_list_case}
 use Rattle.itanium_syntax.specs.Types.{type_case, past_reference}
 use Rattle.itanium_syntax.proofs.Fronts.{IsAfter, Takes, after_none, after_drop, after_then, takes_then, after_takes}
 use Rattle.itanium_syntax.proofs.Fronts.{takes_takes, takes_drop, internal_after, initializer_after, cv_after}
@@ -25,12 +25,12 @@ use Rattle.itanium_grammar.specs.Grammar.{expression_argument, literal_argument,
 use Rattle.itanium_grammar.specs.Grammar.{expression, operand_of, pre_expression, address_expression, unary_expression}
 use Rattle.itanium_grammar.specs.Grammar.{post_expression, binary_expression, greater_expression}
 use Rattle.itanium_grammar.specs.Grammar.{conditional_expression, parameter_expression, literal_expression}
-use Rattle.itanium_grammar.specs.Grammar.{SubstitutionAs, Substitution, Parameter, TaggedAs, UnqualifiedAs, Unqualified}
+use Rattle.itanium_grammar.specs.Grammar.{SubstitutionAs, Substitution, TemplateParam, TaggedAs, UnqualifiedAs, Unqualified}
 use Rattle.itanium_grammar.specs.Grammar.{FirstAs, Name, NameAs, Local, EntityAs, EncodingAs, ReturnAs}
 use Rattle.itanium_grammar.specs.Grammar.{EncodingParamsAs, UnscopedAs, AttachedAs, Nested, SegmentsAs, Args}
 use Rattle.itanium_grammar.specs.Grammar.{ArgumentListAs, ArgumentAs, TypeOf, TypeAs, CvAs, Function, ParamsAs, TypeListAs}
 use Rattle.itanium_grammar.specs.Grammar.{TypeAttachedAs, abbreviation_substitution}
-use Rattle.itanium_grammar.specs.Grammar.{component_substitution, parameter, no_tag, next_tag}
+use Rattle.itanium_grammar.specs.Grammar.{component_substitution, template_param, no_tag, next_tag}
 use Rattle.itanium_grammar.specs.Grammar.{ordinary_source, ordinary_unnamed_type, ordinary_lambda, ordinary_conversion}
 use Rattle.itanium_grammar.specs.Grammar.{ordinary_literal_operator, ordinary_operator, OrdinaryAs, ordinary_unqualified}
 use Rattle.itanium_grammar.specs.Grammar.{constructor_unqualified, destructor_unqualified, unqualified, parameter_first}
@@ -41,8 +41,8 @@ use Rattle.itanium_grammar.specs.Grammar.{unscoped_name, std_name, substitution_
 use Rattle.itanium_grammar.specs.Grammar.{args_attached, nested, end_of_segments, args_segment, name_segment}
 use Rattle.itanium_grammar.specs.Grammar.{args, end_of_arguments, one_more_argument, pack_argument, type_argument, Pack}
 use Rattle.itanium_grammar.specs.Grammar.{PackedAs, pack, end_of_pack, one_more_packed, expansion_type, type}
-use Rattle.itanium_grammar.specs.Grammar.{builtin_type, vendor_type, array_type, function_type, member_type}
-use Rattle.itanium_grammar.specs.Grammar.{pointer_type, cv_type, elaborated_type, parameter_type, substitution_type}
+use Rattle.itanium_grammar.specs.Grammar.{builtin_type, vendor_type, array_type, function_type, pointer_to_member_type}
+use Rattle.itanium_grammar.specs.Grammar.{pointer_type, cv_type, elaborated_type, template_param_type, substitution_type}
 use Rattle.itanium_grammar.specs.Grammar.{name_type, cv_function, cv_other, function, no_params, some_params}
 use Rattle.itanium_grammar.specs.Grammar.{end_of_types, one_more_type, none_attached_to_type, args_attached_to_type}
 use Rattle.itanium_grammar.specs.Grammar.{name_encoding}
@@ -54,8 +54,8 @@ substitution_as_takes (component_substitution {p = p} {i = i} {rest = r} found t
 pub substitution_takes : (p : Position) {q : Position} {t : Tree} → Substitution p t q → Takes q.rest p.rest
 substitution_takes p a = after_takes (after_drop 1 p.rest) (substitution_as_takes a)
 
-pub parameter_takes : {x : Context} {p q : Position} {t : Tree} → Parameter x p t q → Takes q.rest p.rest
-parameter_takes (parameter {p = p} {i = i} {rest = r} found there) = after_takes (after_drop 1 p.rest) (index_takes Decimal (drop 1 p.rest) (i, r) found)
+pub template_param_takes : {x : Context} {p q : Position} {t : Tree} → TemplateParam x p t q → Takes q.rest p.rest
+template_param_takes (template_param {p = p} {i = i} {rest = r} found there) = after_takes (after_drop 1 p.rest) (index_takes Decimal (drop 1 p.rest) (i, r) found)
 
 pub tagged_after : {case : TagCase} {t u : Tree} {p q : Position} → TaggedAs case t p u q → IsAfter q.rest p.rest
 tagged_after (no_tag {p = p}) = after_none p.rest
@@ -63,18 +63,18 @@ tagged_after (next_tag {p = p} {bytes = b} {rest = r} found tags) =
     after_then (after_then (after_drop 1 p.rest) (source_takes (drop 1 p.rest) (b, r) found).after) (tagged_after tags)
 
 mutual
-  pub name_takes : {waits : Bool} {x : Context} {p q : Position} {t : Tree} {c : Cost} → Name waits x p t q c → Takes q.rest p.rest
+  pub name_takes : {bare : Bool} {x : Context} {p q : Position} {t : Tree} {c : Cost} → Name bare x p t q c → Takes q.rest p.rest
   name_takes (name a) = name_as_takes a
 
-  name_as_takes : {case : NameCase} {waits : Bool} {x : Context} {p q : Position} {t : Tree} {c : Cost} → NameAs case waits x p t q c → Takes q.rest p.rest
+  name_as_takes : {case : NameCase} {bare : Bool} {x : Context} {p q : Position} {t : Tree} {c : Cost} → NameAs case bare x p t q c → Takes q.rest p.rest
   name_as_takes (nested_name {p = p} a) = after_takes (after_drop 1 p.rest) (nested_takes a)
   name_as_takes (local_name {p = p} a) = after_takes (after_drop 1 p.rest) (local_takes a)
   name_as_takes (unscoped_name a) = unscoped_takes a
 
-  pub local_takes : {waits : Bool} {x : Context} {p q : Position} {t : Tree} {c : Cost} → Local waits x p t q c → Takes q.rest p.rest
+  pub local_takes : {bare : Bool} {x : Context} {p q : Position} {t : Tree} {c : Cost} → Local bare x p t q c → Takes q.rest p.rest
   local_takes (local a b) = takes_then (encoding_as_takes a) (entity_after b)
 
-  entity_after : {case : EntityCase} {waits : Bool} {x : Context} {t u : Tree} {p q : Position} {c : Cost} → EntityAs case waits x t p u q c → IsAfter q.rest p.rest
+  entity_after : {case : EntityCase} {bare : Bool} {x : Context} {t u : Tree} {p q : Position} {c : Cost} → EntityAs case bare x t p u q c → IsAfter q.rest p.rest
   entity_after (string_literal_entity {p = p}) = after_drop 2 p.rest
   entity_after (default_argument_entity {p = p} {number = n} {rest = r} found a) =
       after_then (after_drop 2 p.rest) (takes_takes (ordinal_takes (drop 2 p.rest) (n, r) found) (name_takes a)).after
@@ -135,7 +135,7 @@ mutual
   unqualified_takes (unqualified {p = p} a) = after_takes (internal_after p.rest) (unqualified_as_takes refl a)
 
   pub first_takes : {case : FirstCase} {x : Context} {p q : Position} {t : Tree} {c : Cost} → first_case p.rest ≡ case → FirstAs case x p t q c → Takes q.rest p.rest
-  first_takes form (parameter_first a) = parameter_takes a
+  first_takes form (parameter_first a) = template_param_takes a
   first_takes form (std_first {p = p}) = record { after = after_drop 2 p.rest; shorter = std_shorter p.rest form }
   first_takes form (substitution_first {p = p} a) = substitution_takes p a
   first_takes form (name_first a) = unqualified_takes a
@@ -144,7 +144,7 @@ mutual
   nested_takes (nested {p = p} {q = q} a b) =
       after_takes (quals_after p.rest) (takes_takes (first_takes refl a) (after_takes (initializer_after q.rest) (segment_takes refl b)))
 
-  pub segment_takes : {case : SegmentCase} {x : Context} {takes : Bool} {t u : Tree} {p q : Position} {c : Cost} → segment_case p.rest ≡ case → SegmentsAs case takes x t p u q c → Takes q.rest p.rest
+  pub segment_takes : {case : SegmentCase} {x : Context} {candidate : Bool} {t u : Tree} {p q : Position} {c : Cost} → segment_case p.rest ≡ case → SegmentsAs case candidate x t p u q c → Takes q.rest p.rest
   segment_takes form (end_of_segments {p = p}) = record { after = after_drop 1 p.rest; shorter = segments_end_shorter p.rest form }
   segment_takes form (args_segment {q = q} a b) = after_takes (args_after a) (after_takes (initializer_after q.rest) (segment_takes refl b))
   segment_takes form (name_segment {q = q} a b) = takes_takes (unqualified_takes a) (after_takes (initializer_after q.rest) (segment_takes refl b))
@@ -155,8 +155,8 @@ mutual
   args_after : {x : Context} {of_name : Bool} {p q : Position} {list : List Tree} {c : Cost} → Args of_name x p list q c → IsAfter q.rest p.rest
   args_after (args {p = p} a) = (after_takes (after_drop 1 p.rest) (arguments_takes refl a)).after
 
-  pub arguments_takes : {case : ArgsCase} {x : Context} {outer : List (List Tree)} {own : Option (List Tree)} {p q : Position} {list : List Tree}
-      {c : Cost} → args_case p.rest ≡ case → ArgumentListAs case x outer own p list q c → Takes q.rest p.rest
+  pub arguments_takes : {case : ArgumentListCase} {x : Context} {outer : List (List Tree)} {own : Option (List Tree)} {p q : Position} {list : List Tree}
+      {c : Cost} → argument_list_case p.rest ≡ case → ArgumentListAs case x outer own p list q c → Takes q.rest p.rest
   arguments_takes form (end_of_arguments {p = p}) = record { after = after_drop 1 p.rest; shorter = arguments_end_shorter p.rest form }
   arguments_takes form (one_more_argument a b) = takes_takes (argument_takes a) (arguments_takes refl b)
 
@@ -186,13 +186,13 @@ mutual
   expression_as_takes (greater_expression {p = p} a b) = after_takes (after_drop 2 p.rest) (takes_takes (expression_takes a) (expression_takes b))
   expression_as_takes (conditional_expression {p = p} a b d) =
       after_takes (after_drop 2 p.rest) (takes_takes (operand_takes a) (takes_takes (operand_takes b) (operand_takes d)))
-  expression_as_takes (parameter_expression a) = parameter_takes a
+  expression_as_takes (parameter_expression a) = template_param_takes a
   expression_as_takes (literal_expression a) = literal_takes a
 
   pub pack_takes : {x : Context} {p q : Position} {t : Tree} {c : Cost} → Pack x p t q c → Takes q.rest p.rest
   pack_takes (pack {p = p} a) = after_takes (after_drop 1 p.rest) (packed_takes refl a)
 
-  pub packed_takes : {case : ArgsCase} {x : Context} {p q : Position} {list : List Tree} {c : Cost} → args_case p.rest ≡ case → PackedAs case x p list q c → Takes q.rest p.rest
+  pub packed_takes : {case : ArgumentListCase} {x : Context} {p q : Position} {list : List Tree} {c : Cost} → argument_list_case p.rest ≡ case → PackedAs case x p list q c → Takes q.rest p.rest
   packed_takes form (end_of_pack {p = p}) = record { after = after_drop 1 p.rest; shorter = arguments_end_shorter p.rest form }
   packed_takes form (one_more_packed a b) = takes_takes (argument_takes a) (packed_takes refl b)
 
@@ -206,11 +206,11 @@ mutual
   type_as_takes form (array_type {p = p} {dimension = n} {rest = r} found a there) =
       after_takes (after_drop 1 p.rest) (takes_takes (optional_number_takes (drop 1 p.rest) (n, r) found) (type_takes a))
   type_as_takes form (function_type a) = function_takes a
-  type_as_takes form (member_type {p = p} a b there) = after_takes (after_drop 1 p.rest) (takes_takes (type_takes a) (type_takes b))
+  type_as_takes form (pointer_to_member_type {p = p} a b there) = after_takes (after_drop 1 p.rest) (takes_takes (type_takes a) (type_takes b))
   type_as_takes form (pointer_type {p = p} a) = after_takes (after_drop 1 p.rest) (type_takes a)
   type_as_takes form (cv_type {p = p} a) = after_takes (cv_after p.rest) (cv_takes a)
   type_as_takes form (elaborated_type {p = p} a) = after_takes (after_drop 2 p.rest) (name_takes a)
-  type_as_takes form (parameter_type a b) = takes_then (parameter_takes a) (type_attached_after b)
+  type_as_takes form (template_param_type a b) = takes_then (template_param_takes a) (type_attached_after b)
   type_as_takes form (substitution_type {p = p} a b) = takes_then (substitution_takes p a) (type_attached_after b)
   type_as_takes form (name_type a) = name_takes a
 
@@ -226,7 +226,7 @@ mutual
   params_after (no_params {p = p}) = after_drop 1 p.rest
   params_after (some_params a) = types_after a
 
-  pub types_after : {case : TypesCase} {end : EncodingEnd} {of_function : Bool} {x : Context} {p q : Position} {ts : List Tree} {c : Cost} → TypeListAs case end of_function x p ts q c → IsAfter q.rest p.rest
+  pub types_after : {case : TypeListCase} {end : EncodingEnd} {of_function : Bool} {x : Context} {p q : Position} {ts : List Tree} {c : Cost} → TypeListAs case end of_function x p ts q c → IsAfter q.rest p.rest
   types_after (end_of_types {p = p}) = after_none p.rest
   types_after (one_more_type a b) = after_then (type_takes a).after (types_after b)
 

@@ -4,18 +4,18 @@ use Rattle.std.proofs.lemmas.List.{append-nil}
 use Rattle.std.proofs.Math.Seq.{take-append_seam}
 use Rattle.demangle_quals.specs.declared.quals.Quals.{Quals}
 use Rattle.itanium_syntax.specs.declared.context.Context.{Context}
-use Rattle.itanium_grammar.specs.Cases.{EncodingEnd, ArgsCase, ArgumentCase, AttachedCase, CvCase, EntityCase, ExpressionCase}
+use Rattle.itanium_grammar.specs.Cases.{EncodingEnd, ArgumentListCase, ArgumentCase, AttachedCase, CvCase, EntityCase, ExpressionCase}
 use Rattle.itanium_grammar.specs.Cases.{FirstCase, OrdinaryCase, PrimaryCase, NameCase, ParamsCase, ReturnCase}
 use Rattle.itanium_grammar.specs.Cases.{SegmentCase, EncodingParamsCase, SpecialCase, SubstitutionCase, EncodingCase}
-use Rattle.itanium_grammar.specs.Cases.{TagCase, TypeCase, TypesCase, UnqualifiedCase, UnscopedCase}
+use Rattle.itanium_grammar.specs.Cases.{TagCase, TypeCase, TypeListCase, UnqualifiedCase, UnscopedCase}
 use Rattle.itanium_grammar.specs.Tree.{Tree, Operand}
-use Rattle.itanium_grammar.specs.Grammar.{Position, Cost, scopes_inside, SubstitutionAs, Parameter, TaggedAs, Name}
+use Rattle.itanium_grammar.specs.Grammar.{Position, Cost, scopes_inside, SubstitutionAs, TemplateParam, TaggedAs, Name}
 use Rattle.itanium_grammar.specs.Grammar.{NameAs, Local, EntityAs, EncodingAs, SpecialAs, Thunk, ReturnAs}
 use Rattle.itanium_grammar.specs.Grammar.{EncodingParamsAs, UnscopedAs, AttachedAs, OrdinaryAs, UnqualifiedAs, Unqualified}
 use Rattle.itanium_grammar.specs.Grammar.{FirstAs, Nested, SegmentsAs, Args, ArgumentListAs, Pack, PackedAs, ArgumentAs}
 use Rattle.itanium_grammar.specs.Grammar.{PrimaryAs, Expression, OperandOf, ExpressionAs, TypeOf, TypeAs, CvAs}
 use Rattle.itanium_grammar.specs.Grammar.{Function, ParamsAs, TypeListAs, TypeAttachedAs, abbreviation_substitution}
-use Rattle.itanium_grammar.specs.Grammar.{component_substitution, parameter, no_tag, next_tag, name, nested_name}
+use Rattle.itanium_grammar.specs.Grammar.{component_substitution, template_param, no_tag, next_tag, name, nested_name}
 use Rattle.itanium_grammar.specs.Grammar.{local_name, unscoped_name, local, string_literal_entity}
 use Rattle.itanium_grammar.specs.Grammar.{default_argument_entity, name_entity, special_encoding, full_encoding}
 use Rattle.itanium_grammar.specs.Grammar.{type_special, name_special, temporary_special, construction_special}
@@ -32,7 +32,7 @@ use Rattle.itanium_grammar.specs.Grammar.{value_literal, expression, operand_of,
 use Rattle.itanium_grammar.specs.Grammar.{unary_expression, post_expression, binary_expression, greater_expression}
 use Rattle.itanium_grammar.specs.Grammar.{conditional_expression, parameter_expression, literal_expression, type}
 use Rattle.itanium_grammar.specs.Grammar.{builtin_type, expansion_type, vendor_type, array_type, function_type}
-use Rattle.itanium_grammar.specs.Grammar.{member_type, pointer_type, cv_type, elaborated_type, parameter_type}
+use Rattle.itanium_grammar.specs.Grammar.{pointer_to_member_type, pointer_type, cv_type, elaborated_type, template_param_type}
 use Rattle.itanium_grammar.specs.Grammar.{substitution_type, name_type, cv_function, cv_other, function, no_params}
 use Rattle.itanium_grammar.specs.Grammar.{some_params, end_of_types, one_more_type, none_attached_to_type}
 use Rattle.itanium_grammar.specs.Grammar.{args_attached_to_type}
@@ -63,8 +63,8 @@ substitution_keeps : {case : SubstitutionCase} {p : Position} {t : Tree} {q : Po
 substitution_keeps (abbreviation_substitution a) = keeps_all _
 substitution_keeps (component_substitution a b) = keeps_all _
 
-parameter_keeps : {x : Context} {p : Position} {t : Tree} {q : Position} → Parameter x p t q → Keeps p.scopes q.scopes
-parameter_keeps (parameter a b) = keeps_all _
+template_param_keeps : {x : Context} {p : Position} {t : Tree} {q : Position} → TemplateParam x p t q → Keeps p.scopes q.scopes
+template_param_keeps (template_param a b) = keeps_all _
 
 tagged_keeps : {case : TagCase} {t : Tree} {p : Position} {u : Tree} {q : Position} → TaggedAs case t p u q → Keeps p.scopes q.scopes
 tagged_keeps no_tag = keeps_all _
@@ -136,7 +136,7 @@ mutual
   unqualified_keeps (unqualified a) = unqualified_as_keeps a
 
   first_keeps : {case : FirstCase} {x : Context} {p : Position} {t : Tree} {q : Position} {c : Cost} → FirstAs case x p t q c → Keeps p.scopes q.scopes
-  first_keeps (parameter_first a) = parameter_keeps a
+  first_keeps (parameter_first a) = template_param_keeps a
   first_keeps std_first = keeps_all _
   first_keeps (substitution_first a) = substitution_keeps a
   first_keeps (name_first a) = unqualified_keeps a
@@ -152,14 +152,14 @@ mutual
   args_keeps : {b : Bool} {x : Context} {p : Position} {ts : List Tree} {q : Position} {c : Cost} → Args b x p ts q c → Keeps p.scopes q.scopes
   args_keeps (args a) = arguments_keeps a
 
-  arguments_keeps : {case : ArgsCase} {x : Context} {outer : List (List Tree)} {own : Option (List Tree)} {p : Position} {ts : List Tree} {q : Position} {c : Cost} → ArgumentListAs case x outer own p ts q c → Keeps outer q.scopes
+  arguments_keeps : {case : ArgumentListCase} {x : Context} {outer : List (List Tree)} {own : Option (List Tree)} {p : Position} {ts : List Tree} {q : Position} {c : Cost} → ArgumentListAs case x outer own p ts q c → Keeps outer q.scopes
   arguments_keeps (end_of_arguments {outer = outer} {own = own}) = own_keeps outer own
   arguments_keeps (one_more_argument a b) = arguments_keeps b
 
   pack_keeps : {x : Context} {p : Position} {t : Tree} {q : Position} {c : Cost} → Pack x p t q c → Keeps p.scopes q.scopes
   pack_keeps (pack a) = packed_keeps a
 
-  packed_keeps : {case : ArgsCase} {x : Context} {p : Position} {ts : List Tree} {q : Position} {c : Cost} → PackedAs case x p ts q c → Keeps p.scopes q.scopes
+  packed_keeps : {case : ArgumentListCase} {x : Context} {p : Position} {ts : List Tree} {q : Position} {c : Cost} → PackedAs case x p ts q c → Keeps p.scopes q.scopes
   packed_keeps end_of_pack = keeps_all _
   packed_keeps (one_more_packed a b) = keeps_then (argument_keeps a) (packed_keeps b)
 
@@ -187,7 +187,7 @@ mutual
   expression_as_keeps (binary_expression a b) = keeps_then (operand_keeps a) (operand_keeps b)
   expression_as_keeps (greater_expression a b) = keeps_then (expression_keeps a) (expression_keeps b)
   expression_as_keeps (conditional_expression a b d) = keeps_then (operand_keeps a) (keeps_then (operand_keeps b) (operand_keeps d))
-  expression_as_keeps (parameter_expression a) = parameter_keeps a
+  expression_as_keeps (parameter_expression a) = template_param_keeps a
   expression_as_keeps (literal_expression a) = literal_keeps a
 
   type_keeps : {x : Context} {p : Position} {t : Tree} {q : Position} {c : Cost} → TypeOf x p t q c → Keeps p.scopes q.scopes
@@ -199,11 +199,11 @@ mutual
   type_as_keeps (vendor_type a b) = keeps_all _
   type_as_keeps (array_type a b d) = type_keeps b
   type_as_keeps (function_type a) = function_keeps a
-  type_as_keeps (member_type a b d) = keeps_then (type_keeps a) (type_keeps b)
+  type_as_keeps (pointer_to_member_type a b d) = keeps_then (type_keeps a) (type_keeps b)
   type_as_keeps (pointer_type a) = type_keeps a
   type_as_keeps (cv_type a) = cv_keeps a
   type_as_keeps (elaborated_type a) = name_keeps a
-  type_as_keeps (parameter_type a b) = keeps_then (parameter_keeps a) (type_attached_keeps b)
+  type_as_keeps (template_param_type a b) = keeps_then (template_param_keeps a) (type_attached_keeps b)
   type_as_keeps (substitution_type a b) = keeps_then (substitution_keeps a) (type_attached_keeps b)
   type_as_keeps (name_type a) = name_keeps a
 
@@ -218,7 +218,7 @@ mutual
   params_keeps no_params = keeps_all _
   params_keeps (some_params a) = types_keeps a
 
-  types_keeps : {case : TypesCase} {end : EncodingEnd} {b : Bool} {x : Context} {p : Position} {ts : List Tree} {q : Position} {c : Cost} → TypeListAs case end b x p ts q c → Keeps p.scopes q.scopes
+  types_keeps : {case : TypeListCase} {end : EncodingEnd} {b : Bool} {x : Context} {p : Position} {ts : List Tree} {q : Position} {c : Cost} → TypeListAs case end b x p ts q c → Keeps p.scopes q.scopes
   types_keeps end_of_types = keeps_all _
   types_keeps (one_more_type a b) = keeps_then (type_keeps a) (types_keeps b)
 

@@ -6,18 +6,18 @@ use Rattle.demangle_quals.specs.declared.quals.Quals.{Quals}
 use Rattle.itanium_syntax.specs.declared.context.Context.{Context}
 use Rattle.itanium_grammar.specs.Cases.{EncodingEnd, AtE, EncodingCase, SpecialCase, PrimaryCase, ExpressionCase, NameCase, ReturnCase}
 use Rattle.itanium_grammar.specs.Cases.{EncodingParamsCase, EntityCase, UnscopedCase, AttachedCase, FirstCase, SegmentCase}
-use Rattle.itanium_grammar.specs.Cases.{UnqualifiedCase, OrdinaryCase, TagCase, SubstitutionCase, ArgsCase, ArgumentCase}
-use Rattle.itanium_grammar.specs.Cases.{TypeCase, CvCase, ParamsCase, TypesCase}
-use Rattle.itanium_syntax.specs.Names.{segment_case, encoding_case, source_text, tag_case, past_name_quals, name_quals, saves_first, first_case}
+use Rattle.itanium_grammar.specs.Cases.{UnqualifiedCase, OrdinaryCase, TagCase, SubstitutionCase, ArgumentListCase, ArgumentCase}
+use Rattle.itanium_grammar.specs.Cases.{TypeCase, CvCase, ParamsCase, TypeListCase}
+use Rattle.itanium_syntax.specs.Names.{segment_case, source_text, tag_case, past_name_quals, name_quals, first_is_candidate, first_case}
 use Rattle.itanium_syntax.specs.Scalars.{ordinal, index_of}
 use Rattle.itanium_syntax.specs.declared.numerals.Radix.TheVariants.{Base36}
 use Rattle.itanium_syntax.specs.Context.{showing_words}
 use Rattle.itanium_syntax.specs.Expressions.{is_external, literal_value, expression_text}
 use Rattle.itanium_syntax.specs.Offsets.{past_base_offset}
 use Rattle.itanium_syntax.specs.Specials.{special_text, special_close}
-use Rattle.itanium_syntax.specs.Encodings.{for_thunk, return_case, encoding_params_case, entity_case}
-use Rattle.itanium_syntax.specs.Args.{attached_case, args_case}
-use Rattle.itanium_syntax.specs.Types.{params_case, types_case, elaborated_text, with_reference, past_reference}
+use Rattle.itanium_syntax.specs.Encodings.{for_thunk, return_case, encoding_params_case, entity_case, encoding_case}
+use Rattle.itanium_syntax.specs.Args.{attached_case, argument_list_case}
+use Rattle.itanium_syntax.specs.Types.{params_case, type_list_case, elaborated_text, with_reference, past_reference}
 use Rattle.itanium_grammar.specs.Tree.{Tree, worded, temporary_of, construction_of, thunk_of, Operand, operand}
 use Rattle.itanium_grammar.specs.Tree.{literal_of, address_of, pre_of, unary_of, post_of, binary_of, greater_of}
 use Rattle.itanium_grammar.specs.Tree.{conditional_of, local_in, default_argument_of, function_encoding, name_printing}
@@ -33,13 +33,13 @@ use Rattle.itanium_grammar.specs.Grammar.{expression, operand_of, pre_expression
 use Rattle.itanium_grammar.specs.Grammar.{post_expression, binary_expression, greater_expression}
 use Rattle.itanium_grammar.specs.Grammar.{conditional_expression, parameter_expression, literal_expression, with_rest}
 use Rattle.itanium_grammar.specs.Grammar.{skip, counted, saving, save, past_initializer, both}
-use Rattle.itanium_grammar.specs.Grammar.{SubstitutionAs, ArgumentNamed, Parameter, TaggedAs, UnqualifiedAs}
+use Rattle.itanium_grammar.specs.Grammar.{SubstitutionAs, ArgumentNamed, TemplateParam, TaggedAs, UnqualifiedAs}
 use Rattle.itanium_grammar.specs.Grammar.{Unqualified, FirstAs, Name, NameAs, Local, EntityAs, EncodingAs}
 use Rattle.itanium_grammar.specs.Grammar.{ReturnAs, EncodingParamsAs, UnscopedAs, AttachedAs, Nested, SegmentsAs}
 use Rattle.itanium_grammar.specs.Grammar.{Args, ArgumentListAs, ArgumentAs, TypeOf, TypeAs, CvAs, Function, ParamsAs}
 use Rattle.itanium_grammar.specs.Grammar.{TypeListAs, TypeAttachedAs, abbreviation_substitution}
 use Rattle.itanium_grammar.specs.Grammar.{component_substitution, auto_parameter, scope_parameter}
-use Rattle.itanium_grammar.specs.Grammar.{parameter, no_tag, next_tag, ordinary_source, ordinary_unnamed_type, ordinary_lambda}
+use Rattle.itanium_grammar.specs.Grammar.{template_param, no_tag, next_tag, ordinary_source, ordinary_unnamed_type, ordinary_lambda}
 use Rattle.itanium_grammar.specs.Grammar.{ordinary_conversion, ordinary_literal_operator, ordinary_operator, OrdinaryAs}
 use Rattle.itanium_grammar.specs.Grammar.{ordinary_unqualified, nothing, constructor_unqualified, destructor_unqualified}
 use Rattle.itanium_grammar.specs.Grammar.{unqualified, parameter_first, std_first, substitution_first, name_first, name}
@@ -50,8 +50,8 @@ use Rattle.itanium_grammar.specs.Grammar.{substitution_name, plain_name, none_at
 use Rattle.itanium_grammar.specs.Grammar.{end_of_segments, args_segment, name_segment, args, end_of_arguments}
 use Rattle.itanium_grammar.specs.Grammar.{one_more_argument, pack_argument, type_argument, Pack, PackedAs, pack}
 use Rattle.itanium_grammar.specs.Grammar.{end_of_pack, one_more_packed, expansion_type, type, builtin_type, vendor_type}
-use Rattle.itanium_grammar.specs.Grammar.{array_type, function_type, member_type, pointer_type, cv_type}
-use Rattle.itanium_grammar.specs.Grammar.{elaborated_type, parameter_type, substitution_type, name_type, cv_function}
+use Rattle.itanium_grammar.specs.Grammar.{array_type, function_type, pointer_to_member_type, pointer_type, cv_type}
+use Rattle.itanium_grammar.specs.Grammar.{elaborated_type, template_param_type, substitution_type, name_type, cv_function}
 use Rattle.itanium_grammar.specs.Grammar.{cv_other, function, no_params, some_params, end_of_types, one_more_type}
 use Rattle.itanium_grammar.specs.Grammar.{none_attached_to_type, args_attached_to_type, name_encoding}
 
@@ -102,8 +102,8 @@ one_parameter_as : {lambda : Bool} {i : ℕ} {p : Position} {t u : Tree} → Arg
 one_parameter_as auto_parameter auto_parameter = refl
 one_parameter_as (scope_parameter e) (scope_parameter g) = same_Some _ _ (sym e ∙ g)
 
-pub one_parameter : {x : Context} {p q r : Position} {t u : Tree} → Parameter x p t q → Parameter x p u r → (t ≡ u) × (q ≡ r)
-one_parameter (parameter {x = x} {p = p} e a) (parameter {t = u} g b) =
+pub one_template_param : {x : Context} {p q r : Position} {t u : Tree} → TemplateParam x p t q → TemplateParam x p u r → (t ≡ u) × (q ≡ r)
+one_template_param (template_param {x = x} {p = p} e a) (template_param {t = u} g b) =
     let found = some_pair_parts _ _ _ _ (sym g ∙ e) in
     (one_parameter_as a (subst (λ k. ArgumentNamed x.lambda k p u) found.0 b), ap (λ v. with_rest v p) (sym found.1))
 
@@ -118,27 +118,27 @@ same_text : {A : Type 0} (f : A → List ℕ) (p : Position) {a b : A} {v w : Li
 same_text f p same = record { tree = ap (λ a. plain_text (f a)) same.0; next = ap (λ v. with_rest v p) same.1; cost = refl }
 
 mutual
-  pub one_name : {waits : Bool} {x : Context} {p q r : Position} {t u : Tree} {c d : Cost} → Name waits x p t q c → Name waits x p u r d → Same t u q r c d
-  one_name (name {waits = waits} a) (name b) = same_counted (name_printing waits) (one_name_as a b)
+  pub one_name : {bare : Bool} {x : Context} {p q r : Position} {t u : Tree} {c d : Cost} → Name bare x p t q c → Name bare x p u r d → Same t u q r c d
+  one_name (name {bare = bare} a) (name b) = same_counted (name_printing bare) (one_name_as a b)
 
-  one_name_as : {case : NameCase} {waits : Bool} {x : Context} {p q r : Position} {t u : Tree} {c d : Cost} → NameAs case waits x p t q c → NameAs case waits x p u r d
+  one_name_as : {case : NameCase} {bare : Bool} {x : Context} {p q r : Position} {t u : Tree} {c d : Cost} → NameAs case bare x p t q c → NameAs case bare x p u r d
       → Same t u q r c d
   one_name_as (nested_name a) (nested_name b) = one_nested a b
   one_name_as (local_name a) (local_name b) = one_local a b
   one_name_as (unscoped_name a) (unscoped_name b) = one_unscoped a b
 
-  one_local : {waits : Bool} {x : Context} {p q r : Position} {t u : Tree} {c d : Cost} → Local waits x p t q c → Local waits x p u r d → Same t u q r c d
-  one_local (local {waits = waits} {x = x} a b) (local {r = r} {u = v} {d = d} f h) =
+  one_local : {bare : Bool} {x : Context} {p q r : Position} {t u : Tree} {c d : Cost} → Local bare x p t q c → Local bare x p u r d → Same t u q r c d
+  one_local (local {bare = bare} {x = x} a b) (local {r = r} {u = v} {d = d} f h) =
       let first = one_encoding_as a f in
-      let same = one_entity b (along (λ s o. EntityAs (entity_case o.rest) waits (showing_words x) s o v r d) (sym first.tree) (sym first.next) h) in
+      let same = one_entity b (along (λ s o. EntityAs (entity_case o.rest) bare (showing_words x) s o v r d) (sym first.tree) (sym first.next) h) in
       record { tree = same.tree; next = same.next; cost = ap₂ both first.cost same.cost }
 
-  one_entity : {case : EntityCase} {waits : Bool} {x : Context} {t u v : Tree} {p q r : Position} {c d : Cost}
-      → EntityAs case waits x t p u q c → EntityAs case waits x t p v r d → Same u v q r c d
+  one_entity : {case : EntityCase} {bare : Bool} {x : Context} {t u v : Tree} {p q r : Position} {c d : Cost}
+      → EntityAs case bare x t p u q c → EntityAs case bare x t p v r d → Same u v q r c d
   one_entity string_literal_entity string_literal_entity = record { tree = refl; next = refl; cost = refl }
-  one_entity (default_argument_entity {waits = waits} {x = x} {p = p} {t = t} e a) (default_argument_entity {q = r} {u = v} {c = d} g b) =
+  one_entity (default_argument_entity {bare = bare} {x = x} {p = p} {t = t} e a) (default_argument_entity {q = r} {u = v} {c = d} g b) =
       let found = some_pair_parts _ _ _ _ (sym g ∙ e) in
-      let same = one_name a (subst (λ o. Name waits x (with_rest o p) v r d) found.1 b) in
+      let same = one_name a (subst (λ o. Name bare x (with_rest o p) v r d) found.1 b) in
       record { tree = ap₂ (default_argument_of t) (sym found.0) same.tree; next = same.next; cost = same.cost }
   one_entity (name_entity {t = t} a) (name_entity b) = same_made (local_in t) (one_name a b)
 
@@ -239,7 +239,7 @@ mutual
   one_first : {case : FirstCase} {x : Context} {p q r : Position} {t u : Tree} {c d : Cost} → FirstAs case x p t q c → FirstAs case x p u r d
       → Same t u q r c d
   one_first (parameter_first a) (parameter_first b) =
-      let same = one_parameter a b in record { tree = same.0; next = ap₂ save same.0 same.1; cost = ap saving same.1 }
+      let same = one_template_param a b in record { tree = same.0; next = ap₂ save same.0 same.1; cost = ap saving same.1 }
   one_first std_first std_first = record { tree = refl; next = refl; cost = refl }
   one_first (substitution_first a) (substitution_first b) = let same = one_substitution_as a b in record { tree = same.0; next = same.1; cost = refl }
   one_first (name_first a) (name_first b) = same_saved (one_unqualified a b)
@@ -247,12 +247,12 @@ mutual
   one_nested : {x : Context} {p q r : Position} {t u : Tree} {c d : Cost} → Nested x p t q c → Nested x p u r d → Same t u q r c d
   one_nested (nested {x = x} {p = p} a b) (nested {r = r} {u = v} {d = d} g h) =
       let first = one_first a g in
-      let takes = saves_first (first_case (past_name_quals p.rest)) in
-      let same = one_segment_as b (along (λ s o. SegmentsAs (segment_case o.rest) takes x s o v r d) (sym first.tree) (ap past_initializer (sym first.next)) h) in
+      let candidate = first_is_candidate (first_case (past_name_quals p.rest)) in
+      let same = one_segment_as b (along (λ s o. SegmentsAs (segment_case o.rest) candidate x s o v r d) (sym first.tree) (ap past_initializer (sym first.next)) h) in
       record { tree = ap (λ n. nested_of n (name_quals p.rest) x.words_shown) same.tree; next = same.next; cost = ap₂ both first.cost same.cost }
 
-  one_segment_as : {case : SegmentCase} {x : Context} {takes : Bool} {s t u : Tree} {p q r : Position} {c d : Cost}
-      → SegmentsAs case takes x s p t q c → SegmentsAs case takes x s p u r d → Same t u q r c d
+  one_segment_as : {case : SegmentCase} {x : Context} {candidate : Bool} {s t u : Tree} {p q r : Position} {c d : Cost}
+      → SegmentsAs case candidate x s p t q c → SegmentsAs case candidate x s p u r d → Same t u q r c d
   one_segment_as end_of_segments end_of_segments = record { tree = refl; next = refl; cost = refl }
   one_segment_as (args_segment {x = x} {t = t} a b) (args_segment {r = r} {v = v} {d = d} e f) =
       let list = one_args a e in
@@ -272,12 +272,12 @@ mutual
       let same = one_arguments a b in
       record { tree = same.tree; next = same.next; cost = ap₂ counted (ap (λ ts. length (list_printing ts)) same.tree) same.cost }
 
-  one_arguments : {case : ArgsCase} {x : Context} {outer : List (List Tree)} {own : Option (List Tree)} {p q r : Position} {ts us : List Tree} {c d : Cost}
+  one_arguments : {case : ArgumentListCase} {x : Context} {outer : List (List Tree)} {own : Option (List Tree)} {p q r : Position} {ts us : List Tree} {c d : Cost}
       → ArgumentListAs case x outer own p ts q c → ArgumentListAs case x outer own p us r d → Same ts us q r c d
   one_arguments end_of_arguments end_of_arguments = record { tree = refl; next = refl; cost = refl }
   one_arguments (one_more_argument {x = x} {outer = outer} {own = own} a b) (one_more_argument {r = r} {ts = us} {d = d} g h) =
       let first = one_argument a g in
-      let same = one_arguments b (along (λ t o. ArgumentListAs (args_case o.rest) x outer (option_map (λ args. args ++ t ∷ []) own) o us r d) (sym first.tree) (sym first.next) h) in
+      let same = one_arguments b (along (λ t o. ArgumentListAs (argument_list_case o.rest) x outer (option_map (λ args. args ++ t ∷ []) own) o us r d) (sym first.tree) (sym first.next) h) in
       record { tree = ap₂ (λ t ts. t ∷ ts) first.tree same.tree; next = same.next; cost = ap₂ both first.cost same.cost }
 
   pub one_argument : {case : ArgumentCase} {x : Context} {p q r : Position} {t u : Tree} {c d : Cost}
@@ -324,7 +324,7 @@ mutual
         next = same.next;
         cost = ap₂ both first.cost (ap₂ both mid.cost same.cost);
       }
-  one_expression_as (parameter_expression a) (parameter_expression b) = let same = one_parameter a b in record { tree = same.0; next = same.1; cost = refl }
+  one_expression_as (parameter_expression a) (parameter_expression b) = let same = one_template_param a b in record { tree = same.0; next = same.1; cost = refl }
   one_expression_as (literal_expression a) (literal_expression b) = one_literal a b
 
   pub one_pack : {x : Context} {p q r : Position} {t u : Tree} {c d : Cost} → Pack x p t q c → Pack x p u r d → Same t u q r c d
@@ -332,12 +332,12 @@ mutual
       let same = one_packed a b in
       same_counted printing (record { tree = ap (λ ts. pack_of (trees ts)) same.tree; next = same.next; cost = same.cost })
 
-  one_packed : {case : ArgsCase} {x : Context} {p q r : Position} {ts us : List Tree} {c d : Cost}
+  one_packed : {case : ArgumentListCase} {x : Context} {p q r : Position} {ts us : List Tree} {c d : Cost}
       → PackedAs case x p ts q c → PackedAs case x p us r d → Same ts us q r c d
   one_packed end_of_pack end_of_pack = record { tree = refl; next = refl; cost = refl }
   one_packed (one_more_packed {x = x} a b) (one_more_packed {r = r} {ts = us} {d = d} g h) =
       let first = one_argument a g in
-      let same = one_packed b (subst (λ v. PackedAs (args_case v.rest) x v us r d) (sym first.next) h) in
+      let same = one_packed b (subst (λ v. PackedAs (argument_list_case v.rest) x v us r d) (sym first.next) h) in
       record { tree = ap₂ (λ t ts. t ∷ ts) first.tree same.tree; next = same.next; cost = ap₂ both first.cost same.cost }
 
   pub one_type : {x : Context} {p q r : Position} {t u : Tree} {c d : Cost} → TypeOf x p t q c → TypeOf x p u r d → Same t u q r c d
@@ -356,7 +356,7 @@ mutual
       let same = one_type a (subst (λ v. TypeOf x (with_rest v p) u r d) found.1 b) in
       same_saved (record { tree = ap₂ array_of (sym found.0) same.tree; next = same.next; cost = same.cost })
   one_type_as (function_type a) (function_type b) = same_saved (one_function a b)
-  one_type_as (member_type {x = x} a b there) (member_type {r = r} {u = v} {d = d} e f here) =
+  one_type_as (pointer_to_member_type {x = x} a b there) (pointer_to_member_type {r = r} {u = v} {d = d} e f here) =
       let class = one_type a e in
       let inner = one_type b (subst (λ o. TypeOf x o v r d) (sym class.next) f) in
       let whole = ap₂ member_of class.tree inner.tree in
@@ -368,8 +368,8 @@ mutual
   one_type_as (pointer_type {kind = kind} a) (pointer_type b) = same_saved (same_made (pointer_to kind) (one_type a b))
   one_type_as (cv_type a) (cv_type b) = same_saved (one_cv a b)
   one_type_as (elaborated_type {p = p} a) (elaborated_type b) = same_saved (same_made (elaborated (elaborated_text p.rest)) (one_name a b))
-  one_type_as (parameter_type {x = x} a b) (parameter_type {r = r} {u = v} {c = d} f h) =
-      let found = one_parameter a f in
+  one_type_as (template_param_type {x = x} a b) (template_param_type {r = r} {u = v} {c = d} f h) =
+      let found = one_template_param a f in
       let same = one_type_attached b (along (λ s o. TypeAttachedAs (attached_case o.rest) x s (save s o) v r d) (sym found.0) (sym found.1) h) in
       record { tree = same.tree; next = same.next; cost = ap₂ both (ap saving found.1) same.cost }
   one_type_as (substitution_type {x = x} a b) (substitution_type {r = r} {u = v} {c = d} f h) =
@@ -399,12 +399,12 @@ mutual
   one_params no_params no_params = record { tree = refl; next = refl; cost = refl }
   one_params (some_params a) (some_params b) = one_types a b
 
-  one_types : {case : TypesCase} {end : EncodingEnd} {of_function : Bool} {x : Context} {p q r : Position} {ts us : List Tree} {c d : Cost}
+  one_types : {case : TypeListCase} {end : EncodingEnd} {of_function : Bool} {x : Context} {p q r : Position} {ts us : List Tree} {c d : Cost}
       → TypeListAs case end of_function x p ts q c → TypeListAs case end of_function x p us r d → Same ts us q r c d
   one_types end_of_types end_of_types = record { tree = refl; next = refl; cost = refl }
   one_types (one_more_type {end = end} {of_function = f} {x = x} a b) (one_more_type {r = r} {ts = us} {d = d} e g) =
       let first = one_type a e in
-      let others = one_types b (subst (λ o. TypeListAs (types_case end f o.rest) end f x o us r d) (sym first.next) g) in
+      let others = one_types b (subst (λ o. TypeListAs (type_list_case end f o.rest) end f x o us r d) (sym first.next) g) in
       record { tree = ap₂ (λ t ts. t ∷ ts) first.tree others.tree; next = others.next; cost = ap₂ both first.cost others.cost }
 
   one_type_attached : {case : AttachedCase} {x : Context} {t u v : Tree} {p q r : Position} {c d : Cost}

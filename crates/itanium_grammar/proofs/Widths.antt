@@ -11,7 +11,7 @@ use Rattle.itanium_syntax.specs.Bytes.{begins}
 use Rattle.itanium_syntax.specs.Scalars.{numeral, following, ended, index_of}
 use Rattle.itanium_syntax.specs.Specials.{begins_t_and, special_text, special_close}
 use Rattle.itanium_grammar.specs.Answer.{max_text, longest_printing, after_prefix, start, suffix, Mangled, HasAnswer, IsAnswerOf, HasLengthOf}
-use Rattle.itanium_syntax.specs.Names.{encoding_case}
+use Rattle.itanium_syntax.specs.Encodings.{encoding_case}
 use Rattle.itanium_syntax.proofs.Fronts.{alone_after_name}
 use Rattle.itanium_grammar.specs.Tree.{Tree, shape_of, printing, worded, temporary_of, construction_of}
 use Rattle.itanium_grammar.specs.Grammar.{Position, Cost, Name, TypeOf, Thunk, SpecialAs, EncodingAs, Signature, signature, special_encoding, full_encoding, name, type}

@@ -23,36 +23,36 @@ use Rattle.itanium_grammar.specs.Cases.{FullEncoding, SpecialCase, TypeSpecial, 
 use Rattle.itanium_grammar.specs.Cases.{LocalName, UnscopedName, ReturnCase, NoReturnType, SomeReturnType}
 use Rattle.itanium_grammar.specs.Cases.{EncodingParamsCase, NoEncodingParams, SomeEncodingParams, EntityCase, StringLiteralEntity}
 use Rattle.itanium_grammar.specs.Cases.{DefaultArgumentEntity, NameEntity, UnscopedCase, StdName, SubstitutionName}
-use Rattle.itanium_grammar.specs.Cases.{PlainName, AttachedCase, NoneAttached, ArgsAttached, FirstCase, ParameterFirst}
+use Rattle.itanium_grammar.specs.Cases.{PlainName, AttachedCase, NoneAttached, ArgsAttached, FirstCase, TemplateParamFirst}
 use Rattle.itanium_grammar.specs.Cases.{StdFirst, SubstitutionFirst, NameFirst, SegmentCase, EndOfSegments, ArgsSegment}
 use Rattle.itanium_grammar.specs.Cases.{NameSegment, UnqualifiedCase, ConstructorName, DestructorName, OrdinaryName}
 use Rattle.itanium_grammar.specs.Cases.{OrdinaryCase, SourceName, UnnamedTypeName, LambdaName, ConversionName}
 use Rattle.itanium_grammar.specs.Cases.{LiteralOperatorName, OperatorName, TagCase, NoTag, NextTag, SubstitutionCase}
-use Rattle.itanium_grammar.specs.Cases.{AbbreviationSubstitution, ComponentSubstitution, ArgsCase, EndOfArguments}
+use Rattle.itanium_grammar.specs.Cases.{AbbreviationSubstitution, ComponentSubstitution, ArgumentListCase, EndOfArguments}
 use Rattle.itanium_grammar.specs.Cases.{NextArgument, ArgumentCase, ExpressionArgument, PackArgument, PrimaryArgument}
 use Rattle.itanium_grammar.specs.Cases.{TypeArgument, PrimaryCase, ExternalName, ValueLiteral, ExpressionCase}
 use Rattle.itanium_grammar.specs.Cases.{PreExpression, AddressExpression, UnaryExpression, PostExpression}
-use Rattle.itanium_grammar.specs.Cases.{BinaryExpression, GreaterExpression, ConditionalExpression, ParameterExpression}
+use Rattle.itanium_grammar.specs.Cases.{BinaryExpression, GreaterExpression, ConditionalExpression, TemplateParamExpression}
 use Rattle.itanium_grammar.specs.Cases.{PrimaryExpression, TypeCase, BuiltinType, ExpansionType, VendorType, ArrayType}
-use Rattle.itanium_grammar.specs.Cases.{FunctionType, MemberType, PointerType, CvType, ElaboratedType, ParameterType}
+use Rattle.itanium_grammar.specs.Cases.{FunctionType, PointerToMemberType, PointerType, CvType, ElaboratedType, TemplateParamType}
 use Rattle.itanium_grammar.specs.Cases.{SubstitutionType, NameType, CvCase, CvFunction, CvOther, PlainFunction}
-use Rattle.itanium_grammar.specs.Cases.{ParamsCase, NoParams, SomeParams, TypesCase, EndOfTypes, NextType}
+use Rattle.itanium_grammar.specs.Cases.{ParamsCase, NoParams, SomeParams, TypeListCase, EndOfTypes, NextType}
 use Rattle.itanium_syntax.specs.Scalars.{source_name, index_of, ordinal, optional_number}
 use Rattle.itanium_syntax.specs.Operators.{operator_here}
 use Rattle.itanium_syntax.specs.Abbreviations.{abbreviation_of}
 use Rattle.itanium_syntax.specs.Context.{opens_scope, inside_type, hiding_dots, inside_lambda, showing_words}
 use Rattle.itanium_syntax.specs.Context.{inside_encoding, inside_params}
-use Rattle.itanium_syntax.specs.Names.{encoding_case, name_case, unscoped_case, first_case, segment_case}
+use Rattle.itanium_syntax.specs.Names.{name_case, unscoped_case, first_case, segment_case}
 use Rattle.itanium_syntax.specs.Names.{unqualified_case, ordinary_case, tag_case, past_internal, past_initializer_letter}
-use Rattle.itanium_syntax.specs.Names.{source_text, name_quals, past_name_quals, saves_first, substitution_case}
+use Rattle.itanium_syntax.specs.Names.{source_text, name_quals, past_name_quals, first_is_candidate, substitution_case}
 use Rattle.itanium_syntax.specs.Bytes.{begins}
 use Rattle.itanium_syntax.specs.Expressions.{is_external, primary_case, literal_value, expression_text, expression_case}
 use Rattle.itanium_syntax.specs.declared.offsets.ThunkOffsets.{ThunkOffsets}
 use Rattle.itanium_syntax.specs.Offsets.{thunk_offsets, past_base_offset}
 use Rattle.itanium_syntax.specs.Specials.{special_case, special_text, special_close}
-use Rattle.itanium_syntax.specs.Encodings.{ends_here, for_thunk, return_case, encoding_params_case, entity_case}
-use Rattle.itanium_syntax.specs.Args.{attached_case, args_case, argument_case}
-use Rattle.itanium_syntax.specs.Types.{type_case, builtin_text, past_builtin, cv_quals, past_cv, with_reference, past_reference, cv_case, function_case, params_case, types_case, elaborated_text}
+use Rattle.itanium_syntax.specs.Encodings.{ends_here, for_thunk, return_case, encoding_params_case, entity_case, encoding_case}
+use Rattle.itanium_syntax.specs.Args.{attached_case, argument_list_case, argument_case}
+use Rattle.itanium_syntax.specs.Types.{type_case, builtin_text, past_builtin, cv_quals, past_cv, with_reference, past_reference, cv_case, function_case, params_case, type_list_case, elaborated_text}
 use Rattle.itanium_grammar.specs.Tree.{Tree, worded, temporary_of, construction_of, thunk_of, Operand, operand}
 use Rattle.itanium_grammar.specs.Tree.{literal_of, address_of, pre_of, unary_of, post_of, binary_of, greater_of}
 use Rattle.itanium_grammar.specs.Tree.{conditional_of, local_in, string_literal_of, default_argument_of, encoding_of}
@@ -90,7 +90,7 @@ save t p = record p { saved = p.saved ++ t ∷ [] }
 
 -- the last saved tree is removed if the truth value is true
 abbrev pub taken_back : Bool → Position → Position
-taken_back takes p = record p { saved = if takes then take (length p.saved - 1) p.saved else p.saved }
+taken_back candidate p = record p { saved = if candidate then take (length p.saved - 1) p.saved else p.saved }
 
 -- past the M of a data member's initializer
 abbrev pub past_initializer : Position → Position
@@ -157,11 +157,11 @@ pub data ArgumentNamed : Bool → ℕ → Position → Tree → Type 0 where
       → ArgumentNamed false i p t
 
 -- <template-param> ::= T [<number>] _
-pub data Parameter : Context → Position → Tree → Position → Type 0 where
-  parameter : {x : Context} {p : Position} {t : Tree} {i : ℕ} {rest : List ℕ}
+pub data TemplateParam : Context → Position → Tree → Position → Type 0 where
+  template_param : {x : Context} {p : Position} {t : Tree} {i : ℕ} {rest : List ℕ}
       → index_of Decimal (drop 1 p.rest) ≡ Some (i, rest)
       → ArgumentNamed x.lambda i p t
-      → Parameter x p t (with_rest rest p)
+      → TemplateParam x p t (with_rest rest p)
 
 -- <abi-tags> ::= (B <source-name>)* after a name
 pub data TaggedAs : TagCase → Tree → Position → Tree → Position → Type 0 where
@@ -178,48 +178,48 @@ mutual
   -- <name> ::= <nested-name> | <local-name> | <unscoped-name> | <unscoped-template-name> <template-args>: counted. If
   -- the truth value is true, the <encoding> around it prints the name's own qualifiers: the width is without them
   pub data Name : Bool → Context → Position → Tree → Position → Cost → Type 0 where
-    name : {waits : Bool} {x : Context} {p q : Position} {t : Tree} {c : Cost}
-        → NameAs (name_case p.rest) waits x p t q c
-        → Name waits x p t q (counted (length (name_printing waits t)) c)
+    name : {bare : Bool} {x : Context} {p q : Position} {t : Tree} {c : Cost}
+        → NameAs (name_case p.rest) bare x p t q c
+        → Name bare x p t q (counted (length (name_printing bare t)) c)
 
   -- <name>, by what it begins with
   pub data NameAs : NameCase → Bool → Context → Position → Tree → Position → Cost → Type 0 where
     -- <nested-name>
-    nested_name : {waits : Bool} {x : Context} {p q : Position} {t : Tree} {c : Cost}
+    nested_name : {bare : Bool} {x : Context} {p q : Position} {t : Tree} {c : Cost}
         → Nested x (skip 1 p) t q c
-        → NameAs NestedName waits x p t q c
+        → NameAs NestedName bare x p t q c
     -- <local-name>
-    local_name : {waits : Bool} {x : Context} {p q : Position} {t : Tree} {c : Cost}
-        → Local waits x (skip 1 p) t q c
-        → NameAs LocalName waits x p t q c
+    local_name : {bare : Bool} {x : Context} {p q : Position} {t : Tree} {c : Cost}
+        → Local bare x (skip 1 p) t q c
+        → NameAs LocalName bare x p t q c
     -- <unscoped-name>, with <template-args> or without
-    unscoped_name : {waits : Bool} {x : Context} {p q : Position} {t : Tree} {c : Cost}
+    unscoped_name : {bare : Bool} {x : Context} {p q : Position} {t : Tree} {c : Cost}
         → UnscopedAs (unscoped_case p.rest) x p t q c
-        → NameAs UnscopedName waits x p t q c
+        → NameAs UnscopedName bare x p t q c
 
   -- <local-name> ::= Z <encoding> E <name> | Z <encoding> E s | Z <encoding> E d [<number>] _ <name>, after its Z: in
   -- the encoding words are shown, and no type is around it
   pub data Local : Bool → Context → Position → Tree → Position → Cost → Type 0 where
-    local : {waits : Bool} {x : Context} {p q r : Position} {t u : Tree} {c d : Cost}
+    local : {bare : Bool} {x : Context} {p q r : Position} {t u : Tree} {c d : Cost}
         → EncodingAs (encoding_case AtE p.rest) AtE (inside_encoding x) p t q c
-        → EntityAs (entity_case q.rest) waits (showing_words x) t q u r d
-        → Local waits x p u r (both c d)
+        → EntityAs (entity_case q.rest) bare (showing_words x) t q u r d
+        → Local bare x p u r (both c d)
 
   -- what follows the encoding of a <local-name>, with the E in front of it
   pub data EntityAs : EntityCase → Bool → Context → Tree → Position → Tree → Position → Cost → Type 0 where
     -- E s
-    string_literal_entity : {waits : Bool} {x : Context} {p : Position} {t : Tree}
-        → EntityAs StringLiteralEntity waits x t p (string_literal_of t) (skip 2 p) nothing
+    string_literal_entity : {bare : Bool} {x : Context} {p : Position} {t : Tree}
+        → EntityAs StringLiteralEntity bare x t p (string_literal_of t) (skip 2 p) nothing
     -- E d [<number>] _ <name>
     default_argument_entity :
-        {waits : Bool} {x : Context} {p q : Position} {t u : Tree} {c : Cost} {number : ℕ} {rest : List ℕ}
+        {bare : Bool} {x : Context} {p q : Position} {t u : Tree} {c : Cost} {number : ℕ} {rest : List ℕ}
         → ordinal (drop 2 p.rest) ≡ Some (number, rest)
-        → Name waits x (with_rest rest p) u q c
-        → EntityAs DefaultArgumentEntity waits x t p (default_argument_of t number u) q c
+        → Name bare x (with_rest rest p) u q c
+        → EntityAs DefaultArgumentEntity bare x t p (default_argument_of t number u) q c
     -- E <name>
-    name_entity : {waits : Bool} {x : Context} {p q : Position} {t u : Tree} {c : Cost}
-        → Name waits x (skip 1 p) u q c
-        → EntityAs NameEntity waits x t p (local_in t u) q c
+    name_entity : {bare : Bool} {x : Context} {p q : Position} {t u : Tree} {c : Cost}
+        → Name bare x (skip 1 p) u q c
+        → EntityAs NameEntity bare x t p (local_in t u) q c
 
   -- <encoding> ::= <special-name> | <name> [<return type>] [<parameter types>], by how it ends and what it begins with
   pub data EncodingAs : EncodingCase → EncodingEnd → Context → Position → Tree → Position → Cost → Type 0 where
@@ -380,8 +380,8 @@ mutual
   pub data FirstAs : FirstCase → Context → Position → Tree → Position → Cost → Type 0 where
     -- <template-param>, which is saved
     parameter_first : {x : Context} {p q : Position} {t : Tree}
-        → Parameter x p t q
-        → FirstAs ParameterFirst x p t (save t q) (saving q)
+        → TemplateParam x p t q
+        → FirstAs TemplateParamFirst x p t (save t q) (saving q)
     -- St
     std_first : {x : Context} {p : Position}
         → FirstAs StdFirst x p (plain_text (codes "std")) (skip 2 p) nothing
@@ -398,7 +398,7 @@ mutual
   pub data Nested : Context → Position → Tree → Position → Cost → Type 0 where
     nested : {x : Context} {p q r : Position} {t u : Tree} {c d : Cost}
         → FirstAs (first_case (past_name_quals p.rest)) x (with_rest (past_name_quals p.rest) p) t q c
-        → SegmentsAs (segment_case (past_initializer q).rest) (saves_first (first_case (past_name_quals p.rest))) x t
+        → SegmentsAs (segment_case (past_initializer q).rest) (first_is_candidate (first_case (past_name_quals p.rest))) x t
         (past_initializer q) u r d
         → Nested x p (nested_of u (name_quals p.rest) x.words_shown) r (both c d)
 
@@ -406,30 +406,30 @@ mutual
   -- last saved tree back
   pub data SegmentsAs : SegmentCase → Bool → Context → Tree → Position → Tree → Position → Cost → Type 0 where
     -- E
-    end_of_segments : {takes : Bool} {x : Context} {p : Position} {t : Tree}
-        → SegmentsAs EndOfSegments takes x t p t (taken_back takes (skip 1 p)) nothing
+    end_of_segments : {candidate : Bool} {x : Context} {p : Position} {t : Tree}
+        → SegmentsAs EndOfSegments candidate x t p t (taken_back candidate (skip 1 p)) nothing
     -- <template-args>: what stands with them is saved
-    args_segment : {takes : Bool} {x : Context} {p q r : Position} {t v : Tree} {ts : List Tree} {c d : Cost}
+    args_segment : {candidate : Bool} {x : Context} {p q r : Position} {t v : Tree} {ts : List Tree} {c d : Cost}
         → Args true x p ts q c
         → SegmentsAs (segment_case (past_initializer q).rest) true x (with_args t (trees ts))
         (past_initializer (save (with_args t (trees ts)) q)) v r d
-        → SegmentsAs ArgsSegment takes x t p v r (both c (both (saving q) d))
+        → SegmentsAs ArgsSegment candidate x t p v r (both c (both (saving q) d))
     -- <unqualified-name> in the parent of what stands: both together are saved
-    name_segment : {takes : Bool} {x : Context} {p q r : Position} {t u v : Tree} {c d : Cost}
+    name_segment : {candidate : Bool} {x : Context} {p q r : Position} {t u v : Tree} {c d : Cost}
         → Unqualified x (Some t) p u q c
         → SegmentsAs (segment_case (past_initializer q).rest) true x u (past_initializer (save u q)) v r d
-        → SegmentsAs NameSegment takes x t p v r (both c (both (saving q) d))
+        → SegmentsAs NameSegment candidate x t p v r (both c (both (saving q) d))
 
   -- <template-args> ::= I <template-arg>* E, of a name or of a type: counted
   pub data Args : Bool → Context → Position → List Tree → Position → Cost → Type 0 where
     args : {of_name : Bool} {x : Context} {p q : Position} {ts : List Tree} {c : Cost}
-        → ArgumentListAs (args_case (drop 1 p.rest)) x p.scopes (if opens_scope of_name x then Some [] else None)
+        → ArgumentListAs (argument_list_case (drop 1 p.rest)) x p.scopes (if opens_scope of_name x then Some [] else None)
         (skip 1 p) ts q c
         → Args of_name x p ts q (counted (length (list_printing ts)) c)
 
   -- one more <template-arg>, or the E after them. It is read inside the scopes outside the list and the list's own, if
   -- it opened one. Then the scopes that it opened are dropped, and it goes into the list's own
-  pub data ArgumentListAs : ArgsCase → Context → List (List Tree) → Option (List Tree) → Position → List Tree → Position
+  pub data ArgumentListAs : ArgumentListCase → Context → List (List Tree) → Option (List Tree) → Position → List Tree → Position
       → Cost → Type 0 where
     -- E
     end_of_arguments : {x : Context} {p : Position} {outer : List (List Tree)} {own : Option (List Tree)}
@@ -439,24 +439,24 @@ mutual
         {x : Context} {p q r : Position} {t : Tree} {ts : List Tree} {c d : Cost} {outer : List (List Tree)}
         {own : Option (List Tree)}
         → ArgumentAs (argument_case p.rest) x (within_list outer own p) t q c
-        → ArgumentListAs (args_case q.rest) x outer (option_map (λ list. list ++ t ∷ []) own) q ts r d
+        → ArgumentListAs (argument_list_case q.rest) x outer (option_map (λ list. list ++ t ∷ []) own) q ts r d
         → ArgumentListAs NextArgument x outer own p (t ∷ ts) r (both c d)
 
   -- <template-arg> ::= J <template-arg>* E: counted, with the context of a pack inside
   pub data Pack : Context → Position → Tree → Position → Cost → Type 0 where
     pack : {x : Context} {p q : Position} {ts : List Tree} {c : Cost}
-        → PackedAs (args_case (drop 1 p.rest)) (hiding_dots x) (skip 1 p) ts q c
+        → PackedAs (argument_list_case (drop 1 p.rest)) (hiding_dots x) (skip 1 p) ts q c
         → Pack x p (pack_of (trees ts)) q (counted (length (printing (pack_of (trees ts)))) c)
 
   -- one more <template-arg> of a pack, or the E after them; no scope is dropped between them
-  pub data PackedAs : ArgsCase → Context → Position → List Tree → Position → Cost → Type 0 where
+  pub data PackedAs : ArgumentListCase → Context → Position → List Tree → Position → Cost → Type 0 where
     -- E
     end_of_pack : {x : Context} {p : Position}
         → PackedAs EndOfArguments x p [] (skip 1 p) nothing
     -- <template-arg>
     one_more_packed : {x : Context} {p q r : Position} {t : Tree} {ts : List Tree} {c d : Cost}
         → ArgumentAs (argument_case p.rest) x p t q c
-        → PackedAs (args_case q.rest) x q ts r d
+        → PackedAs (argument_list_case q.rest) x q ts r d
         → PackedAs NextArgument x p (t ∷ ts) r (both c d)
 
   -- <template-arg>
@@ -541,8 +541,8 @@ mutual
         → ExpressionAs ConditionalExpression x p (conditional_of o m n) s (both c (both d e))
     -- <template-param>
     parameter_expression : {x : Context} {p q : Position} {t : Tree}
-        → Parameter x p t q
-        → ExpressionAs ParameterExpression x p t q nothing
+        → TemplateParam x p t q
+        → ExpressionAs TemplateParamExpression x p t q nothing
     -- <expr-primary>
     literal_expression : {x : Context} {p q : Position} {t : Tree} {c : Cost}
         → PrimaryAs (primary_case p.rest) x p t q c
@@ -580,11 +580,11 @@ mutual
         → Function x no_quals p t q c
         → TypeAs FunctionType x p t (save t q) (both c (saving q))
     -- <pointer-to-member-type> ::= M <type> <type>
-    member_type : {x : Context} {p q r : Position} {t u : Tree} {c d : Cost}
+    pointer_to_member_type : {x : Context} {p q r : Position} {t u : Tree} {c d : Cost}
         → TypeOf x (skip 1 p) t q c
         → TypeOf x q u r d
         → may_be_member (shape_of u).form ≡ true
-        → TypeAs MemberType x p (member_of t u) (save (member_of t u) r) (both c (both d (saving r)))
+        → TypeAs PointerToMemberType x p (member_of t u) (save (member_of t u) r) (both c (both d (saving r)))
     -- P <type>, R <type> and O <type>
     pointer_type : {x : Context} {p q : Position} {t : Tree} {c : Cost} {kind : Pointer}
         → TypeOf x (skip 1 p) t q c
@@ -599,10 +599,10 @@ mutual
         → TypeAs ElaboratedType x p (elaborated (elaborated_text p.rest) t)
         (save (elaborated (elaborated_text p.rest) t) q) (both c (saving q))
     -- <template-param> [<template-args>]: saved without and with its arguments
-    parameter_type : {x : Context} {p q r : Position} {t u : Tree} {c : Cost}
-        → Parameter x p t q
+    template_param_type : {x : Context} {p q r : Position} {t u : Tree} {c : Cost}
+        → TemplateParam x p t q
         → TypeAttachedAs (attached_case q.rest) x t (save t q) u r c
-        → TypeAs ParameterType x p u r (both (saving q) c)
+        → TypeAs TemplateParamType x p u r (both (saving q) c)
     -- <substitution> [<template-args>]: saved with its arguments alone
     substitution_type : {x : Context} {p q r : Position} {t u : Tree} {c : Cost}
         → Substitution p t q
@@ -642,11 +642,11 @@ mutual
         → ParamsAs NoParams end of_function x p [] (skip 1 p) nothing
     -- <type>*
     some_params : {end : EncodingEnd} {of_function : Bool} {x : Context} {p q : Position} {ts : List Tree} {c : Cost}
-        → TypeListAs (types_case end of_function p.rest) end of_function x p ts q c
+        → TypeListAs (type_list_case end of_function p.rest) end of_function x p ts q c
         → ParamsAs SomeParams end of_function x p ts q c
 
   -- one more type of a list of parameters, or their end
-  pub data TypeListAs : TypesCase → EncodingEnd → Bool → Context → Position → List Tree → Position → Cost
+  pub data TypeListAs : TypeListCase → EncodingEnd → Bool → Context → Position → List Tree → Position → Cost
       → Type 0 where
     -- the end, which isn't taken
     end_of_types : {end : EncodingEnd} {of_function : Bool} {x : Context} {p : Position}
@@ -656,7 +656,7 @@ mutual
         {end : EncodingEnd} {of_function : Bool} {x : Context} {p q r : Position} {t : Tree} {ts : List Tree}
         {c d : Cost}
         → TypeOf x p t q c
-        → TypeListAs (types_case end of_function q.rest) end of_function x q ts r d
+        → TypeListAs (type_list_case end of_function q.rest) end of_function x q ts r d
         → TypeListAs NextType end of_function x p (t ∷ ts) r (both c d)
 
   -- <template-args> after a type, or none

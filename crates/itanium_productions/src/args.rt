@@ -12,7 +12,7 @@ use crate::expressions::{read_expr_primary, read_expression};
 use crate::types::read_type;
 use demangle_edit::{append_piece, close_arguments, open_arguments};
 use itanium_reader::{ReadResult, Reader, Stop, text_limit};
-use itanium_syntax::args::{ArgsCase, ArgumentCase, args_case, argument_case};
+use itanium_syntax::args::{ArgumentCase, ArgumentListCase, argument_case, argument_list_case};
 use itanium_syntax::context::Context;
 
 /// Reads `<template-args> ::= I <template-arg>* E` and appends them to the name or type in `found`. `of_name` is true
@@ -48,21 +48,21 @@ pub(crate) fn read_template_args(
     let widest = front + text_limit();
     let mut first = true;
     loop {
-        match args_case(reader.rest) {
-            ArgsCase::EndOfArguments => {
+        match argument_list_case(reader.rest) {
+            ArgumentListCase::EndOfArguments => {
                 reader.skip(1);
                 reader.found = close_arguments(&mut reader.buffer, list)?;
                 if reader.buffer.len(reader.found) > widest {
-                    return Err(Stop::Unread);
+                    return Err(Stop::Unreadable);
                 }
                 return Ok(());
             }
-            ArgsCase::NextArgument => {
+            ArgumentListCase::NextArgument => {
                 reader.separate(first)?;
                 read_template_arg(reader, depth, context)?;
                 reader.add_argument(opens, scopes)?;
                 if reader.buffer.len(reader.buffer.up_to_end(list)) > widest {
-                    return Err(Stop::Unread);
+                    return Err(Stop::Unreadable);
                 }
                 first = false;
             }
@@ -90,19 +90,19 @@ pub(crate) fn read_argument_pack(reader: &mut Reader, depth: usize, context: Con
     let mut list = reader.buffer.push(b"")?;
     let mut first = true;
     loop {
-        match args_case(reader.rest) {
-            ArgsCase::EndOfArguments => {
+        match argument_list_case(reader.rest) {
+            ArgumentListCase::EndOfArguments => {
                 reader.skip(1);
                 reader.found = reader.buffer.whole(list);
                 reader.check_width()?;
                 return Ok(());
             }
-            ArgsCase::NextArgument => {
+            ArgumentListCase::NextArgument => {
                 list = reader.separate_list(list, first)?;
                 read_template_arg(reader, depth, inside)?;
                 list = append_piece(&mut reader.buffer, list, b"", reader.found)?;
                 if reader.is_too_wide(list) {
-                    return Err(Stop::Unread);
+                    return Err(Stop::Unreadable);
                 }
                 first = false;
             }
@@ -133,7 +133,7 @@ pub(crate) fn read_template_arg(reader: &mut Reader, depth: usize, context: Cont
             reader.read_end()?;
         }
         ArgumentCase::PrimaryArgument => read_expr_primary(reader, depth, context)?,
-        ArgumentCase::ConstraintArgument => return Err(Stop::Unread),
+        ArgumentCase::ConstraintArgument => return Err(Stop::Unreadable),
         ArgumentCase::TypeArgument => read_type(reader, depth, context)?,
     }
     reader.close_found(mark)?;

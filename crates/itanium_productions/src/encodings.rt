@@ -22,10 +22,9 @@ use demangle_text::Piece;
 use itanium_reader::{ReadResult, Reader, Stop};
 use itanium_syntax::context::Context;
 use itanium_syntax::encodings::{
-    EncodingEnd, EncodingParamsCase, EntityCase, ReturnCase, encoding_params_case, entity_case,
-    return_case,
+    EncodingCase, EncodingEnd, EncodingParamsCase, EntityCase, ReturnCase, encoding_case,
+    encoding_params_case, entity_case, return_case,
 };
-use itanium_syntax::names::{EncodingCase, encoding_case};
 use itanium_syntax::numerals::ordinal;
 
 /// Reads the return type of an `<encoding>`, if there is one, and removes its text from the output. The components
@@ -151,7 +150,7 @@ pub(crate) fn read_entity(
         EntityCase::DefaultArgumentEntity => {
             reader.skip(2);
             let Some((number, rest)) = ordinal(reader.rest) else {
-                return Err(Stop::Unread);
+                return Err(Stop::Unreadable);
             };
             reader.rest = rest;
             let opened = open_default_arg(&mut reader.buffer, encoding, number)?;
@@ -166,7 +165,7 @@ pub(crate) fn read_entity(
             reader.found = close_opened(&mut reader.buffer, opened, reader.found)?;
             Ok(())
         }
-        EntityCase::UnreadEntity => Err(Stop::Unread),
+        EntityCase::UnreadableEntity => Err(Stop::Unreadable),
     }
 }
 

@@ -43,17 +43,17 @@ pub(crate) fn read_expr_primary(reader: &mut Reader, depth: usize, context: Cont
             let paren = reader.buffer.push(b"(")?;
             framed_type(reader, depth, context)?;
             let Some((value, rest)) = literal_value(reader.rest) else {
-                return Err(Stop::Unread);
+                return Err(Stop::Unreadable);
             };
             reader.rest = rest;
             let literal = write_opened_literal(&mut reader.buffer, paren, reader.found, value)?;
             let Some(literal) = literal else {
-                return Err(Stop::Unread);
+                return Err(Stop::Unreadable);
             };
             reader.found = literal;
             Ok(())
         }
-        PrimaryCase::UnreadPrimary => Err(Stop::Unread),
+        PrimaryCase::UnreadablePrimary => Err(Stop::Unreadable),
     }
 }
 
@@ -217,9 +217,9 @@ pub(crate) fn read_expression(reader: &mut Reader, depth: usize, context: Contex
         ExpressionCase::BinaryExpression => read_binary(reader, depth, context),
         ExpressionCase::GreaterExpression => read_greater(reader, depth, context),
         ExpressionCase::ConditionalExpression => read_conditional(reader, depth, context),
-        ExpressionCase::ParameterExpression => reader.read_template_param(context),
+        ExpressionCase::TemplateParamExpression => reader.read_template_param(context),
         ExpressionCase::PrimaryExpression => read_expr_primary(reader, depth, context),
-        ExpressionCase::UnreadExpression => Err(Stop::Unread),
+        ExpressionCase::UnreadableExpression => Err(Stop::Unreadable),
     };
     read?;
     reader.check_width()?;

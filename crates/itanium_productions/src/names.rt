@@ -5,11 +5,11 @@ ghost use Rattle.std.specs.Prelude.{◌≡◌, ◌++◌, None, Some, IfOk, OnOk,
 ghost use Rattle.demangle_text.specs.State.{IsLiving, shape, IsRun, SameFrame, main_bytes};
 ghost use Rattle.demangle_text.specs.Shape.{text};
 ghost use Rattle.demangle_text.specs.Calls.{IsLast};
-ghost use Rattle.itanium_syntax.specs.Names.{ordinary_case, first_case, unscoped_case, saves_first};
+ghost use Rattle.itanium_syntax.specs.Names.{ordinary_case, first_case, unscoped_case, first_is_candidate};
 ghost use Rattle.itanium_syntax.specs.Context.{inside_lambda};
 ghost use Rattle.itanium_grammar.specs.Cases.{OrdinaryName};
 ghost use Rattle.itanium_reader.specs.Parser as spec;
-ghost use Rattle.itanium_reader.specs.Outcome.{state, Gives, GivesBareName, GivesName, GivesUnsaved, HasRoom, TakesSome};
+ghost use Rattle.itanium_reader.specs.Outcome.{state, Gives, GivesBareName, GivesName, GivesCandidate, HasRoom, TakesSome};
 ghost use Rattle.itanium_reader.specs.Outcome.{SavedBounds};
 
 use crate::args::read_template_args;
@@ -74,7 +74,7 @@ pub(crate) fn read_ordinary_name(reader: &mut Reader, depth: usize, context: Con
         OrdinaryCase::ConversionName => {
             reader.skip(2);
             read_type(reader, depth, context)?;
-            reader.convert_found()?;
+            reader.make_conversion_name()?;
             Ok(())
         }
         OrdinaryCase::LiteralOperatorName => {
@@ -82,7 +82,7 @@ pub(crate) fn read_ordinary_name(reader: &mut Reader, depth: usize, context: Con
             reader.read_literal_operator_name()
         }
         OrdinaryCase::OperatorName => reader.read_operator_name(),
-        OrdinaryCase::UnreadName => Err(Stop::Unread),
+        OrdinaryCase::UnreadableName => Err(Stop::Unreadable),
     }
 }
 
@@ -176,9 +176,9 @@ pub(crate) fn read_first_segment(
     context: Context,
 ) -> Result<bool, Stop>
     requires room { HasRoom 2 (state reader.old) }
-    ensures reads { GivesUnsaved result reader.new (spec.first_as (first_case reader.old.rest.now)
+    ensures reads { GivesCandidate result reader.new (spec.first_as (first_case reader.old.rest.now)
         (spec.unqualified_name depth context) context (state reader.old)) }
-    ensures unsaved { IfOk result (λ unsaved. unsaved ≡ saves_first (first_case reader.old.rest.now)) }
+    ensures candidate { IfOk result (λ candidate. candidate ≡ first_is_candidate (first_case reader.old.rest.now)) }
     ensures run { OnOk result (IsRun reader.old.buffer.value reader.new.buffer.value) }
     ensures last { OnOk result (IsLast reader.new.buffer.value reader.new.found) }
     ensures bounds { TakesSome 0 result (state reader.old) (state reader.new) }
@@ -190,9 +190,9 @@ pub(crate) fn read_first_segment(
         return Ok(true);
     }
     match first_case(reader.rest) {
-        FirstCase::ParameterFirst => {
+        FirstCase::TemplateParamFirst => {
             reader.read_template_param(context)?;
-            reader.copy_found()?;
+            reader.copy_found_to_end()?;
             Ok(true)
         }
         FirstCase::StdFirst => {
@@ -202,7 +202,7 @@ pub(crate) fn read_first_segment(
         }
         FirstCase::SubstitutionFirst => {
             reader.read_substitution()?;
-            reader.copy_found()?;
+            reader.copy_found_to_end()?;
             Ok(false)
         }
         FirstCase::NameFirst => {
@@ -255,37 +255,37 @@ pub(crate) fn read_prefix(reader: &mut Reader, depth: usize, context: Context) -
     ensures bounds { TakesSome 1 result (state reader.old) (state reader.new) }
     ensures saved { SavedBounds 1 result (state reader.old) (state reader.new) }
 {
-    let mut unsaved = read_first_segment(reader, depth, context)?;
+    let mut candidate = read_first_segment(reader, depth, context)?;
     loop {
         if begins_source(reader.rest) {
-            reader.read_source_segment(unsaved)?;
+            reader.read_source_segment(candidate)?;
             reader.check_width()?;
-            unsaved = true;
+            candidate = true;
             continue;
         }
         reader.skip_initializer();
         match segment_case(reader.rest) {
             SegmentCase::EndOfSegments => {
-                reader.end_nested_name(unsaved);
+                reader.end_nested_name(candidate);
                 return Ok(());
             }
             SegmentCase::ArgsSegment => {
-                reader.save_if(unsaved)?;
+                reader.save_if(candidate)?;
                 read_template_args(reader, depth, context, true)?;
             }
             SegmentCase::NameSegment => {
-                reader.save_if(unsaved)?;
+                reader.save_if(candidate)?;
                 read_segment(reader, depth, context)?;
             }
         }
         reader.check_width()?;
-        unsaved = true;
+        candidate = true;
     }
 }
 
 /// Reads `<unscoped-name> ::= [St] <unqualified-name>`, or an `<unscoped-template-name>` with its `<template-args>`.
 /// An `I` after the name selects the second. A `<substitution>` must have `<template-args>` after it; otherwise the
-/// function returns `Stop::Unread`.
+/// function returns `Stop::Unreadable`.
 #[tactic(auto, using(itanium_reader::proofs::Rules::segments))]
 #[cycle(reader)]
 pub(crate) fn read_unscoped_name(reader: &mut Reader, depth: usize, context: Context) -> ReadResult
@@ -305,7 +305,7 @@ pub(crate) fn read_unscoped_name(reader: &mut Reader, depth: usize, context: Con
         UnscopedCase::SubstitutionName => {
             reader.read_substitution()?;
             return match attached_case(reader.rest) {
-                AttachedCase::NoneAttached => Err(Stop::Unread),
+                AttachedCase::NoneAttached => Err(Stop::Unreadable),
                 AttachedCase::ArgsAttached => read_template_args(reader, depth, context, true),
             };
         }

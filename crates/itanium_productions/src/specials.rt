@@ -86,7 +86,7 @@ pub(crate) fn read_construction(reader: &mut Reader, depth: usize, context: Cont
     read_type(reader, depth, context)?;
     let class = reader.found;
     let Some(rest) = past_base_offset(reader.rest) else {
-        return Err(Stop::Unread);
+        return Err(Stop::Unreadable);
     };
     reader.rest = rest;
     let begun = reader.buffer.push(b"construction vtable for ")?;
@@ -125,7 +125,7 @@ pub(crate) fn read_thunk(
     Ok(())
 }
 
-/// Reads `<special-name>`. Returns `Stop::Unread` for a special name that isn't supported.
+/// Reads `<special-name>`. Returns `Stop::Unreadable` for a special name that isn't supported.
 #[tactic(auto, using(itanium_reader::proofs::Rules::specials))]
 #[cycle(reader)]
 pub fn read_special_name(
@@ -146,6 +146,6 @@ pub fn read_special_name(
         SpecialCase::TemporarySpecial => read_temporary(reader, depth, context),
         SpecialCase::ConstructionSpecial => read_construction(reader, depth, context),
         SpecialCase::ThunkSpecial => read_thunk(reader, depth, context, end),
-        SpecialCase::UnreadSpecial => Err(Stop::Unread),
+        SpecialCase::UnreadableSpecial => Err(Stop::Unreadable),
     }
 }

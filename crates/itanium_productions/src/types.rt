@@ -21,8 +21,8 @@ use itanium_syntax::context::Context;
 use itanium_syntax::encodings::EncodingEnd;
 use itanium_syntax::numerals::optional_number;
 use itanium_syntax::types::{
-    CvCase, FunctionCase, ParamsCase, TypeCase, TypesCase, cv_case, cv_quals, elaborated_text,
-    function_case, params_case, ref_qualifier, type_case, types_case,
+    CvCase, FunctionCase, ParamsCase, TypeCase, TypeListCase, cv_case, cv_quals, elaborated_text,
+    function_case, params_case, ref_qualifier, type_case, type_list_case,
 };
 
 /// Reads `<template-args>` if they follow the type in `found`, and saves the type with its arguments as a component.
@@ -73,7 +73,7 @@ pub(crate) fn read_type(reader: &mut Reader, depth: usize, context: Context) -> 
             reader.read_substitution()?;
             read_type_attached(reader, depth, context)?;
         }
-        TypeCase::ParameterType => {
+        TypeCase::TemplateParamType => {
             reader.read_template_param(context)?;
             reader.save_found()?;
             read_type_attached(reader, depth, context)?;
@@ -88,11 +88,11 @@ pub(crate) fn read_type(reader: &mut Reader, depth: usize, context: Context) -> 
             reader.save_found()?;
         }
         TypeCase::ArrayType => read_array_type(reader, depth, context)?,
-        TypeCase::MemberType => read_pointer_to_member_type(reader, depth, context)?,
+        TypeCase::PointerToMemberType => read_pointer_to_member_type(reader, depth, context)?,
         TypeCase::ExpansionType => read_expansion(reader, depth, context)?,
         TypeCase::ElaboratedType => read_elaborated(reader, depth, context)?,
         TypeCase::VendorType => reader.read_vendor_type()?,
-        TypeCase::UnreadType => return Err(Stop::Unread),
+        TypeCase::UnreadableType => return Err(Stop::Unreadable),
     }
     reader.check_width()?;
     Ok(())
@@ -119,7 +119,7 @@ pub(crate) fn read_expansion(reader: &mut Reader, depth: usize, context: Context
     Ok(())
 }
 
-/// Reads `<array-type> ::= A [<number>] _ <type>`. Returns `Stop::Unread` also for an array of functions.
+/// Reads `<array-type> ::= A [<number>] _ <type>`. Returns `Stop::Unreadable` also for an array of functions.
 #[cycle(reader)]
 #[inline(never)]
 pub(crate) fn read_array_type(reader: &mut Reader, depth: usize, context: Context) -> ReadResult
@@ -132,12 +132,12 @@ pub(crate) fn read_array_type(reader: &mut Reader, depth: usize, context: Contex
 {
     reader.skip(1);
     let Some((dimension, rest)) = optional_number(reader.rest) else {
-        return Err(Stop::Unread);
+        return Err(Stop::Unreadable);
     };
     reader.rest = rest;
     read_type(reader, depth, context)?;
     let Some(array) = wrap_array(&mut reader.buffer, reader.found, dimension)? else {
-        return Err(Stop::Unread);
+        return Err(Stop::Unreadable);
     };
     reader.found = array;
     reader.save_found()?;
@@ -248,7 +248,7 @@ pub(crate) fn read_cv(reader: &mut Reader, depth: usize, context: Context) -> Re
 }
 
 /// Reads `<function-type> ::= F <return type> <parameter types> [<ref-qualifier>] E`. `quals` are the qualifiers that
-/// stood in front of the `F`. Returns `Stop::Unread` for a function type with `Y` (extern "C").
+/// stood in front of the `F`. Returns `Stop::Unreadable` for a function type with `Y` (extern "C").
 #[cycle(reader)]
 #[inline(never)]
 pub(crate) fn read_function_type(
@@ -266,13 +266,13 @@ pub(crate) fn read_function_type(
     ensures saved { SavedBounds 1 result (state reader.old) (state reader.new) }
 {
     match function_case(reader.rest) {
-        FunctionCase::ExternFunction => Err(Stop::Unread),
+        FunctionCase::ExternFunction => Err(Stop::Unreadable),
         FunctionCase::PlainFunction => {
             reader.skip(1);
             read_type(reader, depth, context)?;
             let front = reader.buffer.len(reader.found);
             let Some(list) = open_function(&mut reader.buffer, reader.found)? else {
-                return Err(Stop::Unread);
+                return Err(Stop::Unreadable);
             };
             read_params(reader, depth, context, EncodingEnd::AtE, true, list)?;
             let (reference, rest) = ref_qualifier(reader.rest);
@@ -314,17 +314,17 @@ pub(crate) fn read_params(
     let mut list = list;
     let mut first = true;
     loop {
-        match types_case(end, of_function, reader.rest) {
-            TypesCase::EndOfTypes => {
+        match type_list_case(end, of_function, reader.rest) {
+            TypeListCase::EndOfTypes => {
                 reader.found = list;
                 return Ok(());
             }
-            TypesCase::NextType => {
+            TypeListCase::NextType => {
                 list = reader.separate_list(list, first)?;
                 framed_type(reader, depth, context)?;
                 list = append_piece(&mut reader.buffer, list, b"", reader.found)?;
                 if reader.is_too_wide(list) {
-                    return Err(Stop::Unread);
+                    return Err(Stop::Unreadable);
                 }
                 first = false;
             }

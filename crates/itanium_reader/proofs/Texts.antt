@@ -5,7 +5,7 @@ use Rattle.std.proofs.Common.{codes, decimal}
 use Rattle.std.specs.Prelude.{nat_lt}
 use Rattle.std.proofs.lemmas.Bool.Decides.{nat_tests}
 use Rattle.std.proofs.lemmas.List.{append-nil, length-append}
-use Rattle.demangle_text.specs.declared.shape.Place.TheVariants.{End}
+use Rattle.demangle_text.specs.declared.pieces.Place.TheVariants.{End}
 use Rattle.demangle_text.specs.Shape.{Shape, Plain, plain_shape, text, text_len, moved, appended, whole_shape}
 use Rattle.demangle_text.specs.Calls.{named}
 use Rattle.demangle_edit.specs.Names.{angle_gap, qualified, tagged}

@@ -13,8 +13,8 @@ use Rattle.itanium_syntax.specs.Context.{opens_scope, hiding_dots}
 use Rattle.itanium_syntax.specs.Names.{segment_case, tag_case, source_text}
 use Rattle.itanium_syntax.specs.Names.{past_initializer_letter}
 use Rattle.itanium_syntax.specs.Calls.{begins_source}
-use Rattle.itanium_syntax.specs.Args.{args_case}
-use Rattle.itanium_syntax.specs.Types.{types_case}
+use Rattle.itanium_syntax.specs.Args.{argument_list_case}
+use Rattle.itanium_syntax.specs.Types.{type_list_case}
 use Rattle.itanium_reader.specs.Outcome.{LoopSoFar}
 use Rattle.itanium_reader.proofs.Loops.{loop_start, loop_end, loop_more, loop_fail, ListSoFar, list_start, list_end, list_more, list_fail}
 use Rattle.itanium_grammar.specs.Cases.{EncodingEnd, NoTag, NextTag}
@@ -35,31 +35,31 @@ use Rattle.itanium_reader.proofs.Texts.{not_wide, wide_by, front_len}
 use Rattle.itanium_reader.proofs.Unfold.{source_opens, no_letter, args_opens, no_args, pack_opens, with_end}
 
 -- a later segment is read, isn't too long, and is saved
-turn_read : (case : SegmentCase) (unqualified : ParsesName) (args : Parses Shape) (takes : Bool) (name : Shape) (s : ParserState) {next : Shape} {mid : ParserState} → (case ≡ EndOfSegments → ⊥)
+turn_read : (case : SegmentCase) (unqualified : ParsesName) (args : Parses Shape) (candidate : Bool) (name : Shape) (s : ParserState) {next : Shape} {mid : ParserState} → (case ≡ EndOfSegments → ⊥)
     → later_segment case unqualified args name s ≡ Some (next, mid) → is_too_wide next ≡ false
-    → segment_as case unqualified args (takes, name) s ≡ Some (goes_on (true, next), past_initializer (save next mid))
-turn_read EndOfSegments unqualified args takes name s later read fits = absurd (later refl)
-turn_read ArgsSegment unqualified args takes name s later read fits = rw (read, fits) refl
-turn_read NameSegment unqualified args takes name s later read fits = rw (read, fits) refl
+    → segment_as case unqualified args (candidate, name) s ≡ Some (goes_on (true, next), past_initializer (save next mid))
+turn_read EndOfSegments unqualified args candidate name s later read fits = absurd (later refl)
+turn_read ArgsSegment unqualified args candidate name s later read fits = rw (read, fits) refl
+turn_read NameSegment unqualified args candidate name s later read fits = rw (read, fits) refl
 
 -- one that is too long
-turn_wide : (case : SegmentCase) (unqualified : ParsesName) (args : Parses Shape) (takes : Bool) (name : Shape) (s : ParserState) {next : Shape} {mid : ParserState} → (case ≡ EndOfSegments → ⊥)
-    → later_segment case unqualified args name s ≡ Some (next, mid) → is_too_wide next ≡ true → segment_as case unqualified args (takes, name) s ≡ None
-turn_wide EndOfSegments unqualified args takes name s later read wide = absurd (later refl)
-turn_wide ArgsSegment unqualified args takes name s later read wide = rw (read, wide) refl
-turn_wide NameSegment unqualified args takes name s later read wide = rw (read, wide) refl
+turn_wide : (case : SegmentCase) (unqualified : ParsesName) (args : Parses Shape) (candidate : Bool) (name : Shape) (s : ParserState) {next : Shape} {mid : ParserState} → (case ≡ EndOfSegments → ⊥)
+    → later_segment case unqualified args name s ≡ Some (next, mid) → is_too_wide next ≡ true → segment_as case unqualified args (candidate, name) s ≡ None
+turn_wide EndOfSegments unqualified args candidate name s later read wide = absurd (later refl)
+turn_wide ArgsSegment unqualified args candidate name s later read wide = rw (read, wide) refl
+turn_wide NameSegment unqualified args candidate name s later read wide = rw (read, wide) refl
 
 -- none is read
-turn_none : (case : SegmentCase) (unqualified : ParsesName) (args : Parses Shape) (takes : Bool) (name : Shape) (s : ParserState) → (case ≡ EndOfSegments → ⊥)
-    → later_segment case unqualified args name s ≡ None → segment_as case unqualified args (takes, name) s ≡ None
-turn_none EndOfSegments unqualified args takes name s later none = absurd (later refl)
-turn_none ArgsSegment unqualified args takes name s later none = rw none refl
-turn_none NameSegment unqualified args takes name s later none = rw none refl
+turn_none : (case : SegmentCase) (unqualified : ParsesName) (args : Parses Shape) (candidate : Bool) (name : Shape) (s : ParserState) → (case ≡ EndOfSegments → ⊥)
+    → later_segment case unqualified args name s ≡ None → segment_as case unqualified args (candidate, name) s ≡ None
+turn_none EndOfSegments unqualified args candidate name s later none = absurd (later refl)
+turn_none ArgsSegment unqualified args candidate name s later none = rw none refl
+turn_none NameSegment unqualified args candidate name s later none = rw none refl
 
 -- the turns of the segments of a nested name
-module _ {whole : Option (Shape × ParserState)} (unqualified : ParsesName) (args : Parses Shape) {takes : Bool} {name : Shape} {s : ParserState}
-    (so_far : LoopSoFar whole (segment_turn unqualified args) (takes, name) s) where
-  pub segments_end : {found : Shape} {after : ParserState} → segment_case s.rest ≡ EndOfSegments → found ≡ name → after ≡ taken_back takes (skip 1 s) → whole ≡ Some (found, after)
+module _ {whole : Option (Shape × ParserState)} (unqualified : ParsesName) (args : Parses Shape) {candidate : Bool} {name : Shape} {s : ParserState}
+    (so_far : LoopSoFar whole (segment_turn unqualified args) (candidate, name) s) where
+  pub segments_end : {found : Shape} {after : ParserState} → segment_case s.rest ≡ EndOfSegments → found ≡ name → after ≡ taken_back candidate (skip 1 s) → whole ≡ Some (found, after)
   unfolding segment_turn
   segments_end case same left = loop_end so_far (rw (case, same, left) refl)
 
@@ -67,16 +67,16 @@ module _ {whole : Option (Shape × ParserState)} (unqualified : ParsesName) (arg
       → is_too_wide next ≡ false → length mid.rest < length s.rest → after ≡ past_initializer (save next mid) → length after.rest ≤ length mid.rest
       → LoopSoFar whole (segment_turn unqualified args) (true, next) after
   unfolding segment_turn
-  segments_read {next} later found fits shorter left short = loop_more so_far (rw left (turn_read (segment_case s.rest) unqualified args takes name s later found fits)) (omega arith)
+  segments_read {next} later found fits shorter left short = loop_more so_far (rw left (turn_read (segment_case s.rest) unqualified args candidate name s later found fits)) (omega arith)
 
   pub segments_wide : {next : Shape} {mid : ParserState} → (segment_case s.rest ≡ EndOfSegments → ⊥) → later_segment (segment_case s.rest) unqualified args name s ≡ Some (next, mid)
       → is_too_wide next ≡ true → whole ≡ None
   unfolding segment_turn
-  segments_wide later found wide = loop_fail so_far (turn_wide (segment_case s.rest) unqualified args takes name s later found wide)
+  segments_wide later found wide = loop_fail so_far (turn_wide (segment_case s.rest) unqualified args candidate name s later found wide)
 
   pub segments_none : (segment_case s.rest ≡ EndOfSegments → ⊥) → later_segment (segment_case s.rest) unqualified args name s ≡ None → whole ≡ None
   unfolding segment_turn
-  segments_none later none = loop_fail so_far (turn_none (segment_case s.rest) unqualified args takes name s later none)
+  segments_none later none = loop_fail so_far (turn_none (segment_case s.rest) unqualified args candidate name s later none)
 
 -- a later segment by its case, of what was saved
 pub later_is : (unqualified : ParsesName) (args : Parses Shape) (name : Shape) (s : ParserState) {case : SegmentCase} {found : Shape} {after : ParserState}
@@ -151,38 +151,38 @@ module _ {whole : Option (Shape × ParserState)} (add_argument : Shape → Parse
     (item : Parses Shape) (finish : Shape × ParserState → Option (Shape × ParserState)) {first : Bool} {list : Shape}
     {s : ParserState}
     (so_far : ListSoFar whole (list_turn add_argument item) finish (first, list) s) where
-  pub items_end : {after : ParserState} → args_case s.rest ≡ EndOfArguments → after ≡ skip 1 s → whole ≡ finish (list, after)
+  pub items_end : {after : ParserState} → argument_list_case s.rest ≡ EndOfArguments → after ≡ skip 1 s → whole ≡ finish (list, after)
   unfolding list_turn
   items_end case left = rw left (list_end so_far (rw case refl))
 
-  pub items_more : {next found : Shape} {mid after : ParserState} → args_case s.rest ≡ NextArgument → item s ≡ Some (next, mid) → length mid.rest < length s.rest
+  pub items_more : {next found : Shape} {mid after : ParserState} → argument_list_case s.rest ≡ NextArgument → item s ≡ Some (next, mid) → length mid.rest < length s.rest
       → found ≡ listed_more first list next → is_too_wide found ≡ false → after ≡ add_argument next mid → after.rest ≡ mid.rest → ListSoFar whole (list_turn add_argument item) finish (false, found) after
   unfolding list_turn
   items_more {next} {found} case read shorter built fits left same =
       let narrow : is_too_wide (listed_more first list next) ≡ false = ap is_too_wide (sym built) ∙ fits in
       list_more so_far (rw (case, read, narrow, built, left) refl) (rw same shorter)
 
-  pub items_wide : {next found : Shape} {mid : ParserState} → args_case s.rest ≡ NextArgument → item s ≡ Some (next, mid) → found ≡ listed_more first list next → is_too_wide found ≡ true → whole ≡ None
+  pub items_wide : {next found : Shape} {mid : ParserState} → argument_list_case s.rest ≡ NextArgument → item s ≡ Some (next, mid) → found ≡ listed_more first list next → is_too_wide found ≡ true → whole ≡ None
   unfolding list_turn
   items_wide {next} {found} case read built wide =
       let long : is_too_wide (listed_more first list next) ≡ true = ap is_too_wide (sym built) ∙ wide in
       list_fail so_far (rw (case, read, long) refl)
 
-  pub items_fail : args_case s.rest ≡ NextArgument → item s ≡ None → whole ≡ None
+  pub items_fail : argument_list_case s.rest ≡ NextArgument → item s ≡ None → whole ≡ None
   unfolding list_turn
   items_fail case none = list_fail so_far (rw (case, none) refl)
 
 -- a pack ends
 pub pack_ends : {whole : Option (Shape × ParserState)} (item : Parses Shape) {first : Bool} {list found : Shape}
     {s after : ParserState} → ListSoFar whole (list_turn add_nowhere item) pack_end (first, list) s
-    → args_case s.rest ≡ EndOfArguments → found ≡ whole_shape list → is_too_wide found ≡ false → after ≡ skip 1 s → whole ≡ Some (found, after)
+    → argument_list_case s.rest ≡ EndOfArguments → found ≡ whole_shape list → is_too_wide found ≡ false → after ≡ skip 1 s → whole ≡ Some (found, after)
 pack_ends item {list = list} {found = found} so_far case built fits left =
     let narrow : is_too_wide (whole_shape list) ≡ false = ap is_too_wide (sym built) ∙ fits in
     items_end add_nowhere item pack_end so_far case left ∙ rw (narrow, sym built) refl
 
 pub pack_wide : {whole : Option (Shape × ParserState)} (item : Parses Shape) {first : Bool} {list found : Shape}
     {s : ParserState} → ListSoFar whole (list_turn add_nowhere item) pack_end (first, list) s
-    → args_case s.rest ≡ EndOfArguments → found ≡ whole_shape list → is_too_wide found ≡ true → whole ≡ None
+    → argument_list_case s.rest ≡ EndOfArguments → found ≡ whole_shape list → is_too_wide found ≡ true → whole ≡ None
 pack_wide item {list = list} {found = found} so_far case built wide =
     let long : is_too_wide (whole_shape list) ≡ true = ap is_too_wide (sym built) ∙ wide in
     items_end add_nowhere item pack_end so_far case refl ∙ rw long refl
@@ -237,13 +237,13 @@ module _ {whole : Option (Shape × ParserState)} (add_argument : Shape → Parse
       let long : text_len (attached name list_whole) ≡ length (text name ++ (gap ++ text list_whole)) = refl in
       omega (arith, ap text_len (ended built), long, length-append (text name) (gap ++ text list_whole), length-append gap (text list_whole))
 
-  pub attached_end : {last : Shape} {after : ParserState} → args_case s.rest ≡ EndOfArguments → last ≡ arguments_closed (appended list (arguments_opened name))
+  pub attached_end : {last : Shape} {after : ParserState} → argument_list_case s.rest ≡ EndOfArguments → last ≡ arguments_closed (appended list (arguments_opened name))
       → text_len last - front_len name ≤ max_text → after ≡ skip 1 s → whole ≡ Some (last, after)
   attached_end case built short left =
       let fits : is_too_wide list_whole ≡ false = not_wide list_whole (omega (arith, short, ended_len built)) in
       items_end add_argument item (attached_to name) so_far.so_far case left ∙ rw (fits, sym (ended built)) refl
 
-  pub attached_wide : {last : Shape} → args_case s.rest ≡ EndOfArguments → last ≡ arguments_closed (appended list (arguments_opened name))
+  pub attached_wide : {last : Shape} → argument_list_case s.rest ≡ EndOfArguments → last ≡ arguments_closed (appended list (arguments_opened name))
       → max_text < text_len last - front_len name → whole ≡ None
   attached_wide case built long =
       let wide : is_too_wide list_whole ≡ true = wide_by list_whole (omega (arith, long, ended_len built)) in
@@ -259,7 +259,7 @@ module _ {whole : Option (Shape × ParserState)} (add_argument : Shape → Parse
       let list_len : text_len (listed_more first list_so_far next) ≡ length (60 ∷ ((list ++ separator first) ++ text next)) = refl in
       omega (arith, ap text_len built, whole_len, list_len, ap length longer, length-append begun more, length-append (text name) (gap ++ (60 ∷ [])), length-append gap (60 ∷ []))
 
-  pub attached_more : {next all : Shape} {more : List ℕ} {mid after : ParserState} → args_case s.rest ≡ NextArgument → item s ≡ Some (next, mid) → length mid.rest < length s.rest
+  pub attached_more : {next all : Shape} {more : List ℕ} {mid after : ParserState} → argument_list_case s.rest ≡ NextArgument → item s ≡ Some (next, mid) → length mid.rest < length s.rest
       → more ≡ (list ++ separator first) ++ text next → all ≡ appended more (arguments_opened name) → text_len all - front_len name ≤ max_text
       → after ≡ add_argument next mid → after.rest ≡ mid.rest → AttachedSoFar whole add_argument item name false more after
   attached_more {next} {all} {more} {mid} {after} case read shorter longer built short left same =
@@ -271,12 +271,12 @@ module _ {whole : Option (Shape × ParserState)} (add_argument : Shape → Parse
         so_far = rw longer (items_more add_argument item (attached_to name) so_far.so_far case read shorter refl fits left same);
       }
 
-  pub attached_more_wide : {next all : Shape} {more : List ℕ} {mid : ParserState} → args_case s.rest ≡ NextArgument → item s ≡ Some (next, mid)
+  pub attached_more_wide : {next all : Shape} {more : List ℕ} {mid : ParserState} → argument_list_case s.rest ≡ NextArgument → item s ≡ Some (next, mid)
       → more ≡ (list ++ separator first) ++ text next → all ≡ appended more (arguments_opened name) → max_text < text_len all - front_len name → whole ≡ None
   attached_more_wide {next} case read longer built long =
       items_wide add_argument item (attached_to name) so_far.so_far case read refl (wide_by (listed_more first list_so_far next) (omega (arith, long, more_len next longer built)))
 
-  pub attached_fail : args_case s.rest ≡ NextArgument → item s ≡ None → whole ≡ None
+  pub attached_fail : argument_list_case s.rest ≡ NextArgument → item s ≡ None → whole ≡ None
   attached_fail case none = items_fail add_argument item (attached_to name) so_far.so_far case none
 
 -- no list is read after a name where none may open
@@ -286,24 +286,24 @@ no_attached d x of_name name s none = rw (none, no_args x of_name s) refl
 -- the turns of types that are put onto a list
 module _ {whole : Option (Shape × ParserState)} (end : EncodingEnd) (of_function : Bool) (type : Parses Shape) {first : Bool} {list : Shape} {s : ParserState}
     (so_far : LoopSoFar whole (typed_turn end of_function type) (first, list) s) where
-  pub typed_end : types_case end of_function s.rest ≡ EndOfTypes → whole ≡ Some (list, s)
+  pub typed_end : type_list_case end of_function s.rest ≡ EndOfTypes → whole ≡ Some (list, s)
   unfolding typed_turn
   typed_end case = loop_end so_far (rw case refl)
 
-  pub typed_more : {next found : Shape} {after : ParserState} → types_case end of_function s.rest ≡ NextType → type s ≡ Some (next, after) → length after.rest < length s.rest
+  pub typed_more : {next found : Shape} {after : ParserState} → type_list_case end of_function s.rest ≡ NextType → type s ≡ Some (next, after) → length after.rest < length s.rest
       → found ≡ listed_more first list next → is_too_wide found ≡ false → LoopSoFar whole (typed_turn end of_function type) (false, found) after
   unfolding typed_turn
   typed_more {next} case read shorter built fits =
       let narrow : is_too_wide (listed_more first list next) ≡ false = ap is_too_wide (sym built) ∙ fits in
       loop_more so_far (rw (case, read, narrow, built) refl) shorter
 
-  pub typed_wide : {next found : Shape} {after : ParserState} → types_case end of_function s.rest ≡ NextType → type s ≡ Some (next, after)
+  pub typed_wide : {next found : Shape} {after : ParserState} → type_list_case end of_function s.rest ≡ NextType → type s ≡ Some (next, after)
       → found ≡ listed_more first list next → is_too_wide found ≡ true → whole ≡ None
   unfolding typed_turn
   typed_wide {next} case read built wide =
       let long : is_too_wide (listed_more first list next) ≡ true = ap is_too_wide (sym built) ∙ wide in
       loop_fail so_far (rw (case, read, long) refl)
 
-  pub typed_fail : types_case end of_function s.rest ≡ NextType → type s ≡ None → whole ≡ None
+  pub typed_fail : type_list_case end of_function s.rest ≡ NextType → type s ≡ None → whole ≡ None
   unfolding typed_turn
   typed_fail case none = loop_fail so_far (rw (case, none) refl)

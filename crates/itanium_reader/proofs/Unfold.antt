@@ -14,17 +14,17 @@ use Rattle.itanium_syntax.specs.declared.offsets.ThunkOffsets.TheVariants.{Singl
 use Rattle.itanium_syntax.specs.Offsets.{thunk_offsets}
 use Rattle.itanium_syntax.specs.Scalars.{index_of, source_name}
 use Rattle.itanium_syntax.specs.Context.{opens_scope, inside_type, hiding_dots, inside_lambda, showing_words, inside_encoding, inside_params}
-use Rattle.itanium_syntax.specs.Names.{begins_special, encoding_case, name_case, unqualified_case, tag_case, source_text}
+use Rattle.itanium_syntax.specs.Names.{name_case, unqualified_case, tag_case, source_text}
 use Rattle.demangle_quals.specs.Quals.{no_quals}
 use Rattle.itanium_syntax.specs.Names.{ordinary_case, first_case, substitution_case}
 use Rattle.itanium_syntax.specs.Calls.{begins_source}
-use Rattle.itanium_syntax.specs.Names.{past_internal, past_name_quals, name_quals, saves_first}
+use Rattle.itanium_syntax.specs.Names.{past_internal, past_name_quals, name_quals, first_is_candidate}
 use Rattle.itanium_syntax.specs.Expressions.{expression_case}
-use Rattle.itanium_syntax.specs.Encodings.{for_thunk, entity_case}
+use Rattle.itanium_syntax.specs.Encodings.{for_thunk, entity_case, begins_special, encoding_case}
 use Rattle.itanium_syntax.specs.Types.{type_case}
 use Rattle.itanium_reader.specs.declared.reader.Reader.{Reader}
 use Rattle.itanium_reader.specs.declared.stop.Stop.{Stop}
-use Rattle.itanium_reader.specs.declared.stop.Stop.TheVariants.{Unread, Memory}
+use Rattle.itanium_reader.specs.declared.stop.Stop.TheVariants.{Unreadable, Memory}
 use Rattle.itanium_reader.specs.Outcome.{Gives, ChecksWidth}
 use Rattle.itanium_grammar.specs.Cases.{UnqualifiedCase, OrdinaryName, ConstructorName, DestructorName, SourceName, TagCase, NoTag, NextTag}
 use Rattle.itanium_grammar.specs.Cases.{NameFirst, EncodingEnd, AfterName, AtE, AtSymbolEnd, SpecialEncoding, NameEncoding}
@@ -32,7 +32,7 @@ use Rattle.itanium_reader.specs.Parser.{ParserState, Turn, Parses, ParsesName, P
 use Rattle.itanium_grammar.specs.Tree.{offset_text, thunk_shape, worded_shape}
 use Rattle.itanium_reader.specs.Parser.{fitting_bare, enter, with_rest, skip, save}
 use Rattle.itanium_reader.specs.Parser.{past_initializer, substitution_as, parse_substitution}
-use Rattle.itanium_reader.specs.Parser.{parameter_as, parse_parameter, tag_turn, unqualified_as, parse_unqualified}
+use Rattle.itanium_reader.specs.Parser.{template_param_as, parse_template_param, tag_turn, unqualified_as, parse_unqualified}
 use Rattle.itanium_reader.specs.Parser.{ordinary_as, untagged_as, in_parent, parse_tags, parse_source, parse_source_in}
 use Rattle.itanium_reader.specs.Parser.{goes_on, first_as, loop, after_turn, tag_as}
 use Rattle.itanium_reader.specs.Parser.{parse_segments, parse_after_quals, with_quals, parse_nested}
@@ -190,8 +190,8 @@ unfolding parse_substitution
 substitution_opens s = refl
 
 pub parameter_opens : (x : Context) (s : ParserState)
-    → parse_parameter x s ≡ (index_of Decimal (drop 1 s.rest) >>= λ found. parameter_as x.lambda found.0 s >>= λ t. Some (t, with_rest found.1 s))
-unfolding parse_parameter
+    → parse_template_param x s ≡ (index_of Decimal (drop 1 s.rest) >>= λ found. template_param_as x.lambda found.0 s >>= λ t. Some (t, with_rest found.1 s))
+unfolding parse_template_param
 parameter_opens x s = refl
 
 -- a name in its parent
@@ -345,7 +345,7 @@ unfolding parse_nested
 nested_opens unqualified args x s = then_named (first_as (first_case (past_name_quals s.rest)) unqualified x (with_rest (past_name_quals s.rest) s))
   where
     later : Shape × ParserState → Option (Shape × ParserState)
-    later first = parse_segments unqualified args (saves_first (first_case (past_name_quals s.rest))) first.0 (past_initializer first.1)
+    later first = parse_segments unqualified args (first_is_candidate (first_case (past_name_quals s.rest))) first.0 (past_initializer first.1)
 
     then_named : (first : Option (Shape × ParserState)) → (first >>= λ f. later f >>= with_quals (name_quals s.rest)) ≡ ((first >>= later) >>= with_quals (name_quals s.rest))
     then_named None = refl
@@ -360,7 +360,7 @@ nested_plain unqualified args x s rest quals =
 
 -- a call that hands on why what it called has stopped: then the whole isn't parsed either
 pub stops : (after : Reader) {inner whole : Option (Shape × ParserState)} (e : Stop) → Gives (Err e) after inner → (inner ≡ None → whole ≡ None) → Gives (Err e) after whole
-stops after Unread none follows = follows none
+stops after Unreadable none follows = follows none
 stops after Memory gives follows = tt
 
 -- a call that finds a text that is too long: then the whole isn't parsed

@@ -12,17 +12,17 @@ use Rattle.itanium_reader.specs.Parser.{ParserState, Parses, Turn, loop, enter, 
 use Rattle.itanium_reader.specs.Parser.{parse_bare_name, parse_name}
 use Rattle.itanium_reader.specs.declared.reader.Reader.{Reader}
 use Rattle.itanium_reader.specs.declared.stop.Stop.{Stop}
-use Rattle.itanium_reader.specs.declared.stop.Stop.TheVariants.{Unread, Memory}
+use Rattle.itanium_reader.specs.declared.stop.Stop.TheVariants.{Unreadable, Memory}
 
--- the parser's state that a reader stands for. `most_noted` changes only where a component is removed, or would be.
--- Since then the table has only grown, so the peak is the greater of `most_noted` and the length now.
+-- the parser's state that a reader stands for. `recorded_peak` changes only where a component is removed, or would be.
+-- Since then the table has only grown, so the peak is the greater of `recorded_peak` and the length now.
 abbrev pub state : Reader → ParserState
 state r = record {
   rest = r.rest.now;
   saved = saved r.buffer.value;
   scopes = scopes r.buffer.value;
   entered = r.entered;
-  most_saved = max r.most_noted (length (saved r.buffer.value));
+  most_saved = max r.recorded_peak (length (saved r.buffer.value));
 }
 
 -- the call gives what the parser gives: the piece that it found lives, with that shape; nothing is said where memory
@@ -31,7 +31,7 @@ abbrev pub Gives : Result (Unit {0}) Stop → Reader → Option (Shape × Parser
 Gives (Ok u) after parsed =
     IsLiving after.buffer.value after.found
     × (parsed ≡ Some (shape after.buffer.value after.found, state after))
-Gives (Err Unread) after parsed = parsed ≡ None
+Gives (Err Unreadable) after parsed = parsed ≡ None
 Gives (Err Memory) after parsed = Unit {0}
 
 -- the same of a name without its own qualifiers, which are left in the reader's field `quals`
@@ -39,7 +39,7 @@ abbrev pub GivesBareName : Result (Unit {0}) Stop → Reader → Option ((Shape 
 GivesBareName (Ok u) after parsed =
     IsLiving after.buffer.value after.found
     × (parsed ≡ Some ((shape after.buffer.value after.found, unwrap_or after.quals no_quals), state after))
-GivesBareName (Err Unread) after parsed = parsed ≡ None
+GivesBareName (Err Unreadable) after parsed = parsed ≡ None
 GivesBareName (Err Memory) after parsed = Unit {0}
 
 -- the same of a <name>: bare, with its own qualifiers left in `quals`, or with them printed
@@ -48,33 +48,33 @@ GivesName true result after d x s = GivesBareName result after (parse_bare_name 
 GivesName false result after d x s = Gives result after (parse_name d x s)
 
 -- the same of the first segment of a <nested-name>: the call answers whether it is still to be saved
-abbrev pub GivesUnsaved : Result Bool Stop → Reader → Option (Shape × ParserState) → Type 0
-GivesUnsaved (Ok unsaved) after parsed =
+abbrev pub GivesCandidate : Result Bool Stop → Reader → Option (Shape × ParserState) → Type 0
+GivesCandidate (Ok candidate) after parsed =
     IsLiving after.buffer.value after.found
     × (parsed ≡ Some (
       shape after.buffer.value after.found,
-      save_if unsaved (shape after.buffer.value after.found) (state after),
+      save_if candidate (shape after.buffer.value after.found) (state after),
     ))
-GivesUnsaved (Err Unread) after parsed = parsed ≡ None
-GivesUnsaved (Err Memory) after parsed = Unit {0}
+GivesCandidate (Err Unreadable) after parsed = parsed ≡ None
+GivesCandidate (Err Memory) after parsed = Unit {0}
 
 -- the same of a call that finds no piece: it leaves the state that the parser leaves
 abbrev pub Leaves : Result (Unit {0}) Stop → Reader → Option ParserState → Type 0
 Leaves (Ok u) after parsed = parsed ≡ Some (state after)
-Leaves (Err Unread) after parsed = parsed ≡ None
+Leaves (Err Unreadable) after parsed = parsed ≡ None
 Leaves (Err Memory) after parsed = Unit {0}
 
 -- a counted production is entered where at most d may nest: then d is not 0, at most d - 1 may nest inside it, and the
 -- count rises by one. Otherwise d is 0, and nothing changes.
 abbrev pub Enters : Result ℕ Stop → ℕ → ParserState → ParserState → Type 0
 Enters (Ok inner) d before after = (0 < d) × (inner ≡ d - 1) × (after ≡ enter before)
-Enters (Err Unread) d before after = (d ≡ 0) × (after ≡ before)
+Enters (Err Unreadable) d before after = (d ≡ 0) × (after ≡ before)
 Enters (Err Memory) d before after = ⊥
 
 -- the shape isn't too long, or it isn't read
 abbrev pub ChecksWidth : Result (Unit {0}) Stop → Shape → Type 0
 ChecksWidth (Ok u) t = is_too_wide t ≡ false
-ChecksWidth (Err e) t = (e ≡ Unread) × (is_too_wide t ≡ true)
+ChecksWidth (Err e) t = (e ≡ Unreadable) × (is_too_wide t ≡ true)
 
 -- The count of productions doesn't overflow: if two were entered for each byte that is left, and `more` besides, it
 -- would still fit 64 bits.
@@ -94,7 +94,7 @@ pub record CostBounds (least slack : ℕ) (before after : ParserState) : Type 0 
 -- allocation failure nothing is said.
 abbrev pub Bounds : {A : Type 0} → ℕ → ℕ → ℕ → Result A Stop → ParserState → ParserState → Type 0
 Bounds least slack more (Ok a) before after = CostBounds least slack before after
-Bounds least slack more (Err Unread) before after = after.entered ≤ before.entered + 2 * length before.rest + more
+Bounds least slack more (Err Unreadable) before after = after.entered ≤ before.entered + 2 * length before.rest + more
 Bounds least slack more (Err Memory) before after = Unit {0}
 
 -- The bounds of a production that takes at least one byte: a reading enters at most `more` for the first byte, and two
@@ -123,7 +123,7 @@ pub record Growth (slack : ℕ) (before after : ParserState) : Type 0 where
 -- How it grows in a call. A run that fails keeps to the same most.
 abbrev pub SavedBounds : {A : Type 0} → ℕ → Result A Stop → ParserState → ParserState → Type 0
 SavedBounds slack (Ok a) before after = Growth slack before after
-SavedBounds slack (Err Unread) before after = MostSaved (slack - 1) before after
+SavedBounds slack (Err Unreadable) before after = MostSaved (slack - 1) before after
 SavedBounds slack (Err Memory) before after = Unit {0}
 
 -- One component is saved. A run that fails saves none.
@@ -131,7 +131,7 @@ abbrev pub SavesOne : {A : Type 0} → Result A Stop → ParserState → ParserS
 SavesOne (Ok a) before after =
     (length after.saved ≡ length before.saved + 1)
     × (after.most_saved ≡ max before.most_saved (length before.saved + 1))
-SavesOne (Err Unread) before after = after.most_saved ≡ before.most_saved
+SavesOne (Err Unreadable) before after = after.most_saved ≡ before.most_saved
 SavesOne (Err Memory) before after = Unit {0}
 
 -- a loop has come this far: the whole is what the rest of its turns give

@@ -23,42 +23,42 @@ use Rattle.itanium_syntax.specs.Operators.{operator_here}
 use Rattle.itanium_syntax.specs.Abbreviations.{abbreviation_of}
 use Rattle.itanium_syntax.specs.Context.{opens_scope, inside_type, hiding_dots, inside_lambda, showing_words}
 use Rattle.itanium_syntax.specs.Context.{inside_encoding, inside_params}
-use Rattle.itanium_syntax.specs.Names.{encoding_case, name_case, unscoped_case, first_case, segment_case}
+use Rattle.itanium_syntax.specs.Names.{name_case, unscoped_case, first_case, segment_case}
 use Rattle.itanium_syntax.specs.Names.{unqualified_case, ordinary_case, tag_case, past_internal, past_initializer_letter}
-use Rattle.itanium_syntax.specs.Names.{source_text, name_quals, past_name_quals, saves_first, substitution_case}
+use Rattle.itanium_syntax.specs.Names.{source_text, name_quals, past_name_quals, first_is_candidate, substitution_case}
 use Rattle.itanium_syntax.specs.Bytes.{begins}
 use Rattle.itanium_syntax.specs.Expressions.{is_external, primary_case, literal_value, expression_text, expression_case}
 use Rattle.itanium_syntax.specs.Offsets.{thunk_offsets, past_base_offset}
 use Rattle.itanium_syntax.specs.Specials.{special_case, special_text, special_close}
-use Rattle.itanium_syntax.specs.Encodings.{ends_here, for_thunk, return_case, encoding_params_case, entity_case}
-use Rattle.itanium_syntax.specs.Args.{attached_case, args_case, argument_case}
-use Rattle.itanium_syntax.specs.Types.{type_case, builtin_text, past_builtin, cv_quals, past_cv, with_reference, past_reference, cv_case, function_case, params_case, types_case, elaborated_text}
+use Rattle.itanium_syntax.specs.Encodings.{ends_here, for_thunk, return_case, encoding_params_case, entity_case, encoding_case}
+use Rattle.itanium_syntax.specs.Args.{attached_case, argument_list_case, argument_case}
+use Rattle.itanium_syntax.specs.Types.{type_case, builtin_text, past_builtin, cv_quals, past_cv, with_reference, past_reference, cv_case, function_case, params_case, type_list_case, elaborated_text}
 use Rattle.itanium_grammar.specs.Answer.{max_text}
 use Rattle.itanium_grammar.specs.Tree.{offset_text, worded_shape, temporary_shape, construction_shape, thunk_shape, pre_shape}
 use Rattle.itanium_grammar.specs.Tree.{post_shape, binary_shape, greater_shape, conditional_shape, abbreviation_shape}
 use Rattle.itanium_grammar.specs.Tree.{conversion_shape, elaborated_shape, unnamed_text, literal_operator_text}
 use Rattle.itanium_grammar.specs.Cases.{EncodingEnd, AtE, AtSymbolEnd, EncodingCase, SpecialEncoding, NameEncoding}
 use Rattle.itanium_grammar.specs.Cases.{FullEncoding, SpecialCase, TypeSpecial, NameSpecial}
-use Rattle.itanium_grammar.specs.Cases.{TemporarySpecial, ConstructionSpecial, ThunkSpecial, UnreadSpecial, NameCase}
+use Rattle.itanium_grammar.specs.Cases.{TemporarySpecial, ConstructionSpecial, ThunkSpecial, UnreadableSpecial, NameCase}
 use Rattle.itanium_grammar.specs.Cases.{NestedName, LocalName, UnscopedName, ReturnCase, NoReturnType, SomeReturnType}
 use Rattle.itanium_grammar.specs.Cases.{EncodingParamsCase, NoEncodingParams, SomeEncodingParams, EntityCase, StringLiteralEntity}
-use Rattle.itanium_grammar.specs.Cases.{DefaultArgumentEntity, NameEntity, UnreadEntity, UnscopedCase, StdName}
+use Rattle.itanium_grammar.specs.Cases.{DefaultArgumentEntity, NameEntity, UnreadableEntity, UnscopedCase, StdName}
 use Rattle.itanium_grammar.specs.Cases.{SubstitutionName, PlainName, AttachedCase, NoneAttached, ArgsAttached, FirstCase}
-use Rattle.itanium_grammar.specs.Cases.{ParameterFirst, StdFirst, SubstitutionFirst, NameFirst, SegmentCase}
+use Rattle.itanium_grammar.specs.Cases.{TemplateParamFirst, StdFirst, SubstitutionFirst, NameFirst, SegmentCase}
 use Rattle.itanium_grammar.specs.Cases.{EndOfSegments, ArgsSegment, NameSegment, UnqualifiedCase, ConstructorName}
 use Rattle.itanium_grammar.specs.Cases.{DestructorName, OrdinaryName, OrdinaryCase, SourceName, UnnamedTypeName, LambdaName}
-use Rattle.itanium_grammar.specs.Cases.{ConversionName, LiteralOperatorName, OperatorName, UnreadName, TagCase, NoTag}
+use Rattle.itanium_grammar.specs.Cases.{ConversionName, LiteralOperatorName, OperatorName, UnreadableName, TagCase, NoTag}
 use Rattle.itanium_grammar.specs.Cases.{NextTag, SubstitutionCase, AbbreviationSubstitution, ComponentSubstitution}
-use Rattle.itanium_grammar.specs.Cases.{ArgsCase, EndOfArguments, NextArgument, PrimaryCase, ExternalName, ValueLiteral}
-use Rattle.itanium_grammar.specs.Cases.{UnreadPrimary, ExpressionCase, PreExpression, AddressExpression, UnaryExpression}
+use Rattle.itanium_grammar.specs.Cases.{ArgumentListCase, EndOfArguments, NextArgument, PrimaryCase, ExternalName, ValueLiteral}
+use Rattle.itanium_grammar.specs.Cases.{UnreadablePrimary, ExpressionCase, PreExpression, AddressExpression, UnaryExpression}
 use Rattle.itanium_grammar.specs.Cases.{PostExpression, BinaryExpression, GreaterExpression, ConditionalExpression}
-use Rattle.itanium_grammar.specs.Cases.{ParameterExpression, PrimaryExpression, UnreadExpression, ArgumentCase}
+use Rattle.itanium_grammar.specs.Cases.{TemplateParamExpression, PrimaryExpression, UnreadableExpression, ArgumentCase}
 use Rattle.itanium_grammar.specs.Cases.{ExpressionArgument, PackArgument, PrimaryArgument, ConstraintArgument}
 use Rattle.itanium_grammar.specs.Cases.{TypeArgument, TypeCase, BuiltinType, ExpansionType, VendorType, ArrayType}
-use Rattle.itanium_grammar.specs.Cases.{FunctionType, MemberType, PointerType, CvType, ElaboratedType, ParameterType}
-use Rattle.itanium_grammar.specs.Cases.{SubstitutionType, UnreadType, NameType, CvCase, CvFunction, CvOther}
+use Rattle.itanium_grammar.specs.Cases.{FunctionType, PointerToMemberType, PointerType, CvType, ElaboratedType, TemplateParamType}
+use Rattle.itanium_grammar.specs.Cases.{SubstitutionType, UnreadableType, NameType, CvCase, CvFunction, CvOther}
 use Rattle.itanium_grammar.specs.Cases.{FunctionCase, ExternFunction, PlainFunction, ParamsCase, NoParams, SomeParams}
-use Rattle.itanium_grammar.specs.Cases.{TypesCase, EndOfTypes, NextType}
+use Rattle.itanium_grammar.specs.Cases.{TypeListCase, EndOfTypes, NextType}
 
 infixl 10 ◌>>=◌
 abbrev pub ◌>>=◌ : {A B : Type 0} → Option A → (A → Option B) → Option B
@@ -99,13 +99,13 @@ enter s = record s { entered = s.entered + 1 }
 
 -- the last saved shape is taken back, where it is to be
 abbrev pub taken_back : Bool → ParserState → ParserState
-taken_back takes s = record s { saved = if takes then take (length s.saved - 1) s.saved else s.saved }
+taken_back candidate s = record s { saved = if candidate then take (length s.saved - 1) s.saved else s.saved }
 
 -- the state once a shape is saved, where it isn't saved yet
 abbrev pub save_if : Bool → Shape → ParserState → ParserState
-save_if unsaved t s = record s {
-  saved = if unsaved then s.saved ++ t ∷ [] else s.saved;
-  most_saved = if unsaved then max s.most_saved (length s.saved + 1) else s.most_saved;
+save_if candidate t s = record s {
+  saved = if candidate then s.saved ++ t ∷ [] else s.saved;
+  most_saved = if candidate then max s.most_saved (length s.saved + 1) else s.most_saved;
 }
 
 -- the text of the shape is longer than the limit
@@ -184,18 +184,18 @@ unfoldable pub parse_substitution : Parses Shape
 parse_substitution s = substitution_as (substitution_case (drop 1 s.rest)) (skip 1 s)
 
 -- the argument that a <template-param> names
-abbrev pub parameter_as : Bool → ℕ → ParserState → Option Shape
-parameter_as true i s = Some (plain_shape (codes "auto"))
-parameter_as false i s = slice_get (last_args s.scopes) i
+abbrev pub template_param_as : Bool → ℕ → ParserState → Option Shape
+template_param_as true i s = Some (plain_shape (codes "auto"))
+template_param_as false i s = slice_get (last_args s.scopes) i
 
 -- <template-param>
-unfoldable pub parse_parameter : Context → Parses Shape
-parse_parameter x s =
-    index_of Decimal (drop 1 s.rest) >>= λ found. parameter_as x.lambda found.0 s >>= λ t. Some (t, with_rest found.1 s)
+unfoldable pub parse_template_param : Context → Parses Shape
+parse_template_param x s =
+    index_of Decimal (drop 1 s.rest) >>= λ found. template_param_as x.lambda found.0 s >>= λ t. Some (t, with_rest found.1 s)
 
 -- a template parameter that is saved
-abbrev pub saved_parameter : Context → Parses Shape
-saved_parameter x s = parse_parameter x s >>= λ found. Some (found.0, save found.0 found.1)
+abbrev pub saved_template_param : Context → Parses Shape
+saved_template_param x s = parse_template_param x s >>= λ found. Some (found.0, save found.0 found.1)
 
 -- one more <abi-tag> of a name, or none
 abbrev pub tag_as : TagCase → Shape → Parses (Turn Shape Shape)
@@ -217,7 +217,7 @@ next_item list = Some (goes_on (false, list.0), list.1)
 
 -- one more item of a list, with what stands in front of it, or the list's E. A list that is too long already isn't read
 -- on
-abbrev pub list_as : ArgsCase → (Shape → ParserState → ParserState) → Parses Shape → Bool × Shape
+abbrev pub list_as : ArgumentListCase → (Shape → ParserState → ParserState) → Parses Shape → Bool × Shape
     → Parses (Turn (Bool × Shape) Shape)
 list_as EndOfArguments add_argument item so_far s = Some (ends so_far.1, skip 1 s)
 list_as NextArgument add_argument item so_far s =
@@ -226,7 +226,7 @@ list_as NextArgument add_argument item so_far s =
 -- its parser, by what comes next
 unfoldable pub list_turn : (Shape → ParserState → ParserState) → Parses Shape → Bool × Shape
     → Parses (Turn (Bool × Shape) Shape)
-list_turn add_argument item so_far s = list_as (args_case s.rest) add_argument item so_far s
+list_turn add_argument item so_far s = list_as (argument_list_case s.rest) add_argument item so_far s
 
 -- an item that goes nowhere but into its list
 abbrev pub add_nowhere : Shape → ParserState → ParserState
@@ -234,7 +234,7 @@ add_nowhere item s = s
 
 -- one more type of a list, with what stands in front of it, or its end, which isn't taken. A list that is too long
 -- already isn't read on
-abbrev pub typed_as : TypesCase → Parses Shape → Bool × Shape → Parses (Turn (Bool × Shape) Shape)
+abbrev pub typed_as : TypeListCase → Parses Shape → Bool × Shape → Parses (Turn (Bool × Shape) Shape)
 typed_as EndOfTypes type so_far s = Some (ends so_far.1, s)
 typed_as NextType type so_far s =
     type s >>= λ next. fitting (listed_more so_far.0 so_far.1 next.0, next.1) >>= next_item
@@ -242,7 +242,7 @@ typed_as NextType type so_far s =
 -- its parser, by what comes next
 unfoldable pub typed_turn : EncodingEnd → Bool → Parses Shape → Bool × Shape
     → Parses (Turn (Bool × Shape) Shape)
-typed_turn end of_function type so_far s = typed_as (types_case end of_function s.rest) type so_far s
+typed_turn end of_function type so_far s = typed_as (type_list_case end of_function s.rest) type so_far s
 
 -- types up to this end, or of a function type to a <ref-qualifier> in front of its E, put onto a list
 abbrev pub parse_typed : EncodingEnd → Bool → Parses Shape → Shape → Parses Shape
@@ -289,7 +289,7 @@ ordinary_as LambdaName type param s = parse_lambda param (skip 2 s)
 ordinary_as ConversionName type param s = parse_conversion type (skip 2 s)
 ordinary_as LiteralOperatorName type param s = parse_literal_operator (skip 2 s)
 ordinary_as OperatorName type param s = parse_operator s
-ordinary_as UnreadName type param s = None
+ordinary_as UnreadableName type param s = None
 
 -- such a name with its tags
 abbrev pub parse_ordinary : Parses Shape → Parses Shape → Parses Shape
@@ -363,7 +363,7 @@ unscoped_as PlainName unqualified args s =
 
 -- the first segment of a <nested-name>
 abbrev pub first_as : FirstCase → ParsesName → Context → Parses Shape
-first_as ParameterFirst unqualified x s = saved_parameter x s
+first_as TemplateParamFirst unqualified x s = saved_template_param x s
 first_as StdFirst unqualified x s = Some (plain_shape (codes "std"), skip 2 s)
 first_as SubstitutionFirst unqualified x s = parse_substitution s
 first_as NameFirst unqualified x s = unqualified None s >>= λ name. Some (name.0, save name.0 name.1)
@@ -393,7 +393,7 @@ segment_turn unqualified args so_far s = segment_as (segment_case s.rest) unqual
 
 -- the later segments of a <nested-name>, up to its E
 abbrev pub parse_segments : ParsesName → Parses Shape → Bool → Shape → Parses Shape
-parse_segments unqualified args takes name s = parse_loop (segment_turn unqualified args) (takes, name) s
+parse_segments unqualified args candidate name s = parse_loop (segment_turn unqualified args) (candidate, name) s
 
 -- a parser of names without their own qualifiers, and with these beside them
 abbrev pub ParsesBareName : Type 0
@@ -403,7 +403,7 @@ ParsesBareName = Parses (Shape × Quals)
 abbrev pub parse_after_quals : ParsesName → Parses Shape → Context → Parses Shape
 parse_after_quals unqualified args x s =
     first_as (first_case s.rest) unqualified x s >>= λ first.
-    parse_segments unqualified args (saves_first (first_case s.rest)) first.0 (past_initializer first.1)
+    parse_segments unqualified args (first_is_candidate (first_case s.rest)) first.0 (past_initializer first.1)
 
 -- a name with the qualifiers that were read in front of it
 abbrev pub with_quals : Quals → Shape × ParserState → Option ((Shape × Quals) × ParserState)
@@ -413,7 +413,7 @@ with_quals quals name = Some ((name.0, quals), name.1)
 unfoldable pub parse_nested : ParsesName → Parses Shape → Context → ParsesBareName
 parse_nested unqualified args x s =
     first_as (first_case (past_name_quals s.rest)) unqualified x (with_rest (past_name_quals s.rest) s) >>= λ first.
-    parse_segments unqualified args (saves_first (first_case (past_name_quals s.rest))) first.0
+    parse_segments unqualified args (first_is_candidate (first_case (past_name_quals s.rest))) first.0
     (past_initializer first.1) >>= λ name.
     Some ((name.0, name_quals s.rest), name.1)
 
@@ -478,7 +478,7 @@ special_as NameSpecial type name thunk s = parse_worded name s
 special_as TemporarySpecial type name thunk s = parse_temporary name s
 special_as ConstructionSpecial type name thunk s = parse_construction type s
 special_as ThunkSpecial type name thunk s = thunk s
-special_as UnreadSpecial type name thunk s = None
+special_as UnreadableSpecial type name thunk s = None
 
 -- <special-name>
 abbrev pub special_by : Parses Shape → Parses Shape → Parses Shape → Parses Shape
@@ -529,7 +529,7 @@ entity_as DefaultArgumentEntity bare encoding s =
     Some ((default_arg_shape encoding found.0 entity.0.0, entity.0.1), entity.1)
 entity_as NameEntity bare encoding s =
     bare (skip 1 s) >>= λ entity. Some ((qualified encoding entity.0.0, entity.0.1), entity.1)
-entity_as UnreadEntity bare encoding s = None
+entity_as UnreadableEntity bare encoding s = None
 
 -- what is after the Z of a <local-name>: an encoding, and a name in it
 unfoldable pub parse_local : Parses Shape → ParsesBareName → ParsesBareName
@@ -559,7 +559,7 @@ literal_end type s =
 abbrev pub literal_as : PrimaryCase → Parses Shape → Parses Shape → Parses Shape
 literal_as ExternalName type encoding s = ended (encoding (skip 3 s))
 literal_as ValueLiteral type encoding s = type (skip 1 s) >>= λ t. literal_end t.0 t.1
-literal_as UnreadPrimary type encoding s = None
+literal_as UnreadablePrimary type encoding s = None
 
 -- <expr-primary>, by what it is made of
 abbrev pub primary_by : Parses Shape → Parses Shape → Parses Shape
@@ -618,9 +618,9 @@ expression_as PostExpression expression primary x s = parse_post expression s
 expression_as BinaryExpression expression primary x s = parse_binary expression s
 expression_as GreaterExpression expression primary x s = parse_greater expression s
 expression_as ConditionalExpression expression primary x s = parse_conditional expression s
-expression_as ParameterExpression expression primary x s = parse_parameter x s
+expression_as TemplateParamExpression expression primary x s = parse_template_param x s
 expression_as PrimaryExpression expression primary x s = primary s
-expression_as UnreadExpression expression primary x s = None
+expression_as UnreadableExpression expression primary x s = None
 
 -- <template-arg>, by what it begins with
 abbrev pub argument_as : ArgumentCase → Parses Shape → Parses Shape → Parses Shape → Parses Shape → Parses Shape
@@ -730,9 +730,9 @@ parse_elaborated name s =
     name (skip 2 s) >>= λ found. saved_as (elaborated_shape (elaborated_text s.rest) found.0) found.1
 
 -- <template-param> [<template-args>]
-abbrev pub parameter_type : Parses Shape → Context → Parses Shape
-parameter_type args x s =
-    saved_parameter x s >>= λ found. type_attached_as (attached_case found.1.rest) args found.0 found.1
+abbrev pub template_param_type : Parses Shape → Context → Parses Shape
+template_param_type args x s =
+    saved_template_param x s >>= λ found. type_attached_as (attached_case found.1.rest) args found.0 found.1
 
 -- <substitution> [<template-args>]
 abbrev pub substitution_type : Parses Shape → Parses Shape
@@ -754,13 +754,13 @@ type_as ExpansionType type name args x s = parse_expansion type x.dots_hidden s
 type_as VendorType type name args x s = parse_vendor s
 type_as ArrayType type name args x s = parse_array type s
 type_as FunctionType type name args x s = saved_by (parse_function type no_quals) s
-type_as MemberType type name args x s = parse_member type s
+type_as PointerToMemberType type name args x s = parse_member type s
 type_as (PointerType kind) type name args x s = parse_pointer type kind s
 type_as CvType type name args x s = saved_by (parse_cv type) s
 type_as ElaboratedType type name args x s = parse_elaborated name s
-type_as ParameterType type name args x s = parameter_type args x s
+type_as TemplateParamType type name args x s = template_param_type args x s
 type_as SubstitutionType type name args x s = substitution_type args s
-type_as UnreadType type name args x s = None
+type_as UnreadableType type name args x s = None
 type_as NameType type name args x s = saved_by name s
 
 -- The first number is how many counted productions may still open. One that prints more than the limit isn't read.

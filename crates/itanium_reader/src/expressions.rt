@@ -13,7 +13,7 @@ use demangle_text::Piece;
 use std::alloc::AllocError;
 
 impl<'a> Reader<'a> {
-    /// Reads the `E` after `found`. Returns `Stop::Unread` if another byte is next.
+    /// Reads the `E` after `found`. Returns `Stop::Unreadable` if another byte is next.
     pub fn read_end(&mut self) -> ReadResult
         requires living { IsLiving self.old.buffer.value self.old.found }
         ensures reads { Gives result self.new
@@ -27,7 +27,7 @@ impl<'a> Reader<'a> {
                 self.rest = rest;
                 Ok(())
             }
-            _ => Err(Stop::Unread),
+            _ => Err(Stop::Unreadable),
         }
     }
 

@@ -21,24 +21,24 @@ impl<'a> Reader<'a> {
     /// Reads a `<source-name>` and its ABI tags, and appends `::` and the name to the parent in `found`. If `unsaved`
     /// is true, the parent is saved as a component first.
     #[inline(always)]
-    pub fn read_source_segment(&mut self, unsaved: bool) -> ReadResult
+    pub fn read_source_segment(&mut self, candidate: bool) -> ReadResult
         requires living { IsLiving self.old.buffer.value self.old.found }
         requires last { IsLast self.old.buffer.value self.old.found }
         ensures reads { Gives result self.new (spec.parse_source_in (Some (shape self.old.buffer.value self.old.found))
-            (spec.save_if unsaved (shape self.old.buffer.value self.old.found) (state self.old))) }
+            (spec.save_if candidate (shape self.old.buffer.value self.old.found) (state self.old))) }
         ensures run { OnOk result (IsRun self.old.buffer.value self.new.buffer.value) }
         ensures last { OnOk result (IsLast self.new.buffer.value self.new.found) }
         ensures bounds { TakesSome 0 result (state self.old) (state self.new) }
         ensures saved { SavedBounds 1 result
-            (spec.save_if unsaved (shape self.old.buffer.value self.old.found) (state self.old)) (state self.new) }
+            (spec.save_if candidate (shape self.old.buffer.value self.old.found) (state self.old)) (state self.new) }
     {
         let bytes = self.rest;
         let Some((from, to)) = source_name(bytes, 0) else {
             // The parser saves the parent before it reads the name, also if no name follows.
-            self.save_if(unsaved)?;
-            return Err(Stop::Unread);
+            self.save_if(candidate)?;
+            return Err(Stop::Unreadable);
         };
-        self.save_if(unsaved)?;
+        self.save_if(candidate)?;
         let text = source_text(&bytes[from..to]);
         self.buffer.append_name(&mut self.found, b"::", text)?;
         self.rest = &bytes[to..];
@@ -95,7 +95,7 @@ impl<'a> Reader<'a> {
         while let TagCase::NextTag = tag_case(self.rest) {
             self.skip(1);
             let Some((from, to)) = source_name(self.rest, 0) else {
-                return Err(Stop::Unread);
+                return Err(Stop::Unreadable);
             };
             let text = source_text(&self.rest[from..to]);
             self.found = tag(&mut self.buffer, self.found, text)?;
@@ -114,7 +114,7 @@ impl<'a> Reader<'a> {
         ensures saved { SavedBounds 1 result (state self.old) (state self.new) }
     {
         let Some((number, rest)) = ordinal(self.rest) else {
-            return Err(Stop::Unread);
+            return Err(Stop::Unreadable);
         };
         self.rest = rest;
         let opened = self.buffer.push(b"{unnamed type#")?;
@@ -134,7 +134,7 @@ impl<'a> Reader<'a> {
         ensures saved { SavedBounds 2 result (state self.old) (state self.new) }
     {
         let Some((from, to)) = source_name(self.rest, 0) else {
-            return Err(Stop::Unread);
+            return Err(Stop::Unreadable);
         };
         let text = source_text(&self.rest[from..to]);
         let opened = self.buffer.push(b"operator\"\" ")?;
@@ -154,7 +154,7 @@ impl<'a> Reader<'a> {
         ensures saved { SavedBounds 2 result (state self.old) (state self.new) }
     {
         let Some(text) = operator_here(self.rest) else {
-            return Err(Stop::Unread);
+            return Err(Stop::Unreadable);
         };
         let opened = self.buffer.push(b"operator")?;
         let named = self.buffer.append(opened, text.as_bytes())?;
@@ -175,7 +175,7 @@ impl<'a> Reader<'a> {
     {
         self.skip(1);
         let Some((number, rest)) = ordinal(self.rest) else {
-            return Err(Stop::Unread);
+            return Err(Stop::Unreadable);
         };
         self.rest = rest;
         self.found = close_lambda(&mut self.buffer, list, number)?;
@@ -206,7 +206,7 @@ impl<'a> Reader<'a> {
 
     /// Replaces the type in `found` by the name of the conversion operator to it: `operator`, a space and the type.
     #[inline(never)]
-    pub fn convert_found(&mut self) -> Result<(), AllocError>
+    pub fn make_conversion_name(&mut self) -> Result<(), AllocError>
         requires living { IsLiving self.old.buffer.value self.old.found }
         ensures shape { OnOk result (Lives self.new.buffer.value self.new.found
             (conversion_shape (shape self.old.buffer.value self.old.found))) }

@@ -38,7 +38,7 @@ pub fn text_limit() -> usize
 }
 
 /// Reads mangled bytes. Each production has a function over a `Reader`, or a method. The function returns `Ok` if the
-/// production was read; then `found` is the piece of its printing. It returns `Stop::Unread` if the bytes aren't read
+/// production was read; then `found` is the piece of its printing. It returns `Stop::Unreadable` if the bytes aren't read
 /// as the production, and `Stop::Memory` if an allocation fails.
 #[derive(Drop)]
 pub struct Reader<'a> {
@@ -56,7 +56,7 @@ pub struct Reader<'a> {
     /// The peak length of the table at the `E` of a nested name, its last segment counted. The grammar saves that
     /// segment and removes it again at the `E`; this code only records the length. The method `most_saved` returns the
     /// maximum of this field and the length of the table.
-    pub most_noted: usize,
+    pub recorded_peak: usize,
 }
 
 impl<'a> Reader<'a> {
@@ -123,7 +123,7 @@ impl<'a> Reader<'a> {
 
     /// Brings `found` to the end of the output, so that the rest of a name can be appended right after it.
     #[inline(always)]
-    pub fn copy_found(&mut self) -> Result<(), AllocError>
+    pub fn copy_found_to_end(&mut self) -> Result<(), AllocError>
         requires living { IsLiving self.old.buffer.value self.old.found }
         ensures shape { OnOk result (Lives self.new.buffer.value self.new.found
             (shape self.old.buffer.value self.old.found)) }
@@ -131,7 +131,7 @@ impl<'a> Reader<'a> {
         ensures state { OnOk result (state self.new ≡ state self.old) }
         ensures kept { OnOk result (SameFrame self.old.buffer.value self.new.buffer.value) }
     {
-        self.buffer.bring_to_end(&mut self.found)?;
+        self.buffer.copy_to_end(&mut self.found)?;
         Ok(())
     }
 
@@ -157,35 +157,35 @@ impl<'a> Reader<'a> {
 
     /// Appends `found` to the substitution table if `unsaved` is true.
     #[inline(always)]
-    pub fn save_if(&mut self, unsaved: bool) -> Result<(), AllocError>
+    pub fn save_if(&mut self, candidate: bool) -> Result<(), AllocError>
         requires living { IsLiving self.old.buffer.value self.old.found }
         ensures shape { OnOk result (Lives self.new.buffer.value self.new.found
             (shape self.old.buffer.value self.old.found)) }
-        ensures state { OnOk result (state self.new ≡ spec.save_if unsaved
+        ensures state { OnOk result (state self.new ≡ spec.save_if candidate
             (shape self.old.buffer.value self.old.found) (state self.old)) }
         ensures found { OnOk result (self.new.found ≡ self.old.found) }
         ensures output { main_bytes self.new.buffer.value ≡ main_bytes self.old.buffer.value }
         ensures kept { OnOk result (SameFrame self.old.buffer.value self.new.buffer.value) }
     {
-        if unsaved {
+        if candidate {
             self.save_found()?;
         }
         Ok(())
     }
 
     /// Skips the `E` of a `<nested-name>`. The grammar saves the last segment and removes it at the `E`. This code
-    /// never saves that segment, and only records in `most_noted` how long the table would have been.
+    /// never saves that segment, and only records in `recorded_peak` how long the table would have been.
     #[inline(always)]
-    pub fn end_nested_name(&mut self, unsaved: bool)
+    pub fn end_nested_name(&mut self, candidate: bool)
         requires living { IsLiving self.old.buffer.value self.old.found }
-        ensures state { state self.new ≡ spec.taken_back unsaved (spec.skip 1 (spec.save_if unsaved
+        ensures state { state self.new ≡ spec.taken_back candidate (spec.skip 1 (spec.save_if candidate
             (shape self.old.buffer.value self.old.found) (state self.old))) }
         ensures found { self.new.found ≡ self.old.found }
         ensures buffer { self.new.buffer.value ≡ self.old.buffer.value }
     {
         self.skip(1);
-        if unsaved {
-            self.most_noted = self.most_noted.max(self.buffer.saved_len() + 1);
+        if candidate {
+            self.recorded_peak = self.recorded_peak.max(self.buffer.saved_len() + 1);
         }
     }
 
@@ -198,20 +198,20 @@ impl<'a> Reader<'a> {
         self.buffer.len(piece) > text_limit()
     }
 
-    /// Returns `Stop::Unread` if `found` is longer than `MAX_TEXT` bytes.
+    /// Returns `Stop::Unreadable` if `found` is longer than `MAX_TEXT` bytes.
     #[inline(always)]
     pub fn check_width(&self) -> ReadResult
         requires living { IsLiving self.now.buffer.value self.now.found }
         ensures fits { ChecksWidth result (shape self.now.buffer.value self.now.found) }
     {
         if self.is_too_wide(self.found) {
-            return Err(Stop::Unread);
+            return Err(Stop::Unreadable);
         }
         Ok(())
     }
 
     /// Enters a counted production. At most `depth` counted productions may nest, this one included. Returns how many
-    /// may nest inside it, or `Stop::Unread` if `depth` is 0.
+    /// may nest inside it, or `Stop::Unreadable` if `depth` is 0.
     #[inline(always)]
     pub fn enter(&mut self, depth: usize) -> Result<usize, Stop>
         requires room { HasRoom 1 (state self.old) }
@@ -220,7 +220,7 @@ impl<'a> Reader<'a> {
         ensures buffer { self.new.buffer.value ≡ self.old.buffer.value }
     {
         if depth == 0 {
-            return Err(Stop::Unread);
+            return Err(Stop::Unreadable);
         }
         self.entered += 1;
         Ok(depth - 1)
@@ -232,7 +232,7 @@ impl<'a> Reader<'a> {
     pub fn most_saved(&self) -> usize
         ensures value { result ≡ (state self.now).most_saved }
     {
-        self.most_noted.max(self.buffer.saved_len())
+        self.recorded_peak.max(self.buffer.saved_len())
     }
 
     /// Reads `<source-name> ::= <positive length number> <identifier>`.
@@ -246,7 +246,7 @@ impl<'a> Reader<'a> {
     {
         let bytes = self.rest;
         let Some((from, to)) = source_name(bytes, 0) else {
-            return Err(Stop::Unread);
+            return Err(Stop::Unreadable);
         };
         let text = source_text(&bytes[from..to]);
         self.found = self.buffer.push(text)?;
@@ -267,7 +267,7 @@ impl<'a> Reader<'a> {
         match substitution_case(self.rest) {
             SubstitutionCase::AbbreviationSubstitution => {
                 let Some(abbreviation) = abbreviation_of(self.rest) else {
-                    return Err(Stop::Unread);
+                    return Err(Stop::Unreadable);
                 };
                 self.skip(1);
                 let piece = self.buffer.push(abbreviation_text(abbreviation))?;
@@ -278,10 +278,10 @@ impl<'a> Reader<'a> {
             }
             SubstitutionCase::ComponentSubstitution => {
                 let Some((index, rest)) = index_of(Radix::Base36, self.rest) else {
-                    return Err(Stop::Unread);
+                    return Err(Stop::Unreadable);
                 };
                 let Some(component) = self.buffer.saved(index) else {
-                    return Err(Stop::Unread);
+                    return Err(Stop::Unreadable);
                 };
                 self.found = component;
                 self.rest = rest;
@@ -291,17 +291,17 @@ impl<'a> Reader<'a> {
     }
 
     /// Reads `<template-param> ::= T [<number>] _`. Afterwards `found` is the argument of that index in the last
-    /// scope, or `auto` in a lambda's signature. Returns `Stop::Unread` if there is no such argument.
+    /// scope, or `auto` in a lambda's signature. Returns `Stop::Unreadable` if there is no such argument.
     #[tactic(auto, using(crate::proofs::Rules::parameters))]
     pub fn read_template_param(&mut self, context: Context) -> ReadResult
-        ensures reads { Gives result self.new (spec.parse_parameter context (state self.old)) }
+        ensures reads { Gives result self.new (spec.parse_template_param context (state self.old)) }
         ensures kept { OnOk result (SameFrame self.old.buffer.value self.new.buffer.value) }
         ensures bounds { TakesSome 0 result (state self.old) (state self.new) }
         ensures saved { SavedBounds 2 result (state self.old) (state self.new) }
     {
         self.skip(1);
         let Some((index, rest)) = index_of(Radix::Decimal, self.rest) else {
-            return Err(Stop::Unread);
+            return Err(Stop::Unreadable);
         };
         self.rest = rest;
         if context.lambda {
@@ -309,7 +309,7 @@ impl<'a> Reader<'a> {
             return Ok(());
         }
         let Some(argument) = self.buffer.arg(index) else {
-            return Err(Stop::Unread);
+            return Err(Stop::Unreadable);
         };
         self.found = argument;
         Ok(())

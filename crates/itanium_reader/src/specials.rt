@@ -93,7 +93,7 @@ impl<'a> Reader<'a> {
     {
         self.skip(1);
         let Some((offsets, rest)) = thunk_offsets(self.rest) else {
-            return Err(Stop::Unread);
+            return Err(Stop::Unreadable);
         };
         self.rest = rest;
         let begun = self.buffer.push(b"{virtual override thunk(")?;
@@ -122,7 +122,7 @@ impl<'a> Reader<'a> {
         ensures saved { SavedBounds 1 result (state self.old) (state self.new) }
     {
         let Some((number, rest)) = index_of(Radix::Base36, self.rest) else {
-            return Err(Stop::Unread);
+            return Err(Stop::Unreadable);
         };
         self.rest = rest;
         let mark = self.buffer.open();

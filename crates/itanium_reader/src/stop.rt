@@ -10,7 +10,7 @@ pub enum Stop {
     /// The bytes aren't read as the production within the limits: they begin another one, or end early; an index is
     /// past the end of the table or of the scope; a type has no such form, as an array of functions; a literal isn't
     /// UTF-8; too many productions nest; or the text is longer than `MAX_TEXT` bytes.
-    Unread,
+    Unreadable,
     /// An allocation failed.
     Memory,
 }

@@ -30,7 +30,7 @@ impl<'a> Reader<'a> {
     }
 
     /// Replaces the type in `found` by a pointer to a member of `class` of that type, and saves the pointer as a
-    /// component. Returns `Stop::Unread` if the member's type is an array.
+    /// component. Returns `Stop::Unreadable` if the member's type is an array.
     pub fn save_member(&mut self, class: Piece) -> ReadResult
         requires class { IsLiving self.old.buffer.value class }
         requires living { IsLiving self.old.buffer.value self.old.found }
@@ -41,14 +41,14 @@ impl<'a> Reader<'a> {
         ensures one { SavesOne result (state self.old) (state self.new) }
     {
         let Some(whole) = wrap_member_pointer(&mut self.buffer, class, self.found)? else {
-            return Err(Stop::Unread);
+            return Err(Stop::Unreadable);
         };
         self.found = whole;
         self.save_found()?;
         Ok(())
     }
 
-    /// Reads `u <source-name>`. Returns `Stop::Unread` if `<template-args>` follow.
+    /// Reads `u <source-name>`. Returns `Stop::Unreadable` if `<template-args>` follow.
     pub fn read_vendor_type(&mut self) -> ReadResult
         ensures reads { Gives result self.new (spec.parse_vendor (state self.old)) }
         ensures run { OnOk result (IsRun self.old.buffer.value self.new.buffer.value) }
@@ -58,7 +58,7 @@ impl<'a> Reader<'a> {
         self.skip(1);
         self.read_source_name()?;
         if let AttachedCase::ArgsAttached = attached_case(self.rest) {
-            return Err(Stop::Unread);
+            return Err(Stop::Unreadable);
         }
         self.save_found()?;
         Ok(())

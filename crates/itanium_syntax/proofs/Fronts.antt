@@ -22,9 +22,9 @@ use Rattle.itanium_syntax.specs.Cases.{ExpressionArgument, PrimaryArgument, Stri
 use Rattle.itanium_syntax.specs.Cases.{NameEntity, ExpansionType, LambdaName, ConversionName, UnnamedTypeName}
 use Rattle.itanium_syntax.specs.Cases.{LiteralOperatorName, OperatorName, PackArgument, StdFirst, EndOfSegments}
 use Rattle.itanium_syntax.specs.Cases.{ArgsSegment, ConstructorName, DestructorName, ArgsAttached, EndOfArguments}
-use Rattle.itanium_syntax.specs.Cases.{BuiltinType, ArrayType, FunctionType, MemberType, PointerType, CvFunction}
+use Rattle.itanium_syntax.specs.Cases.{BuiltinType, ArrayType, FunctionType, PointerToMemberType, PointerType, CvFunction}
 use Rattle.itanium_syntax.specs.Cases.{NoParams, EndOfTypes}
-use Rattle.itanium_syntax.specs.Names.{begins_special, encoding_case, first_case, segment_case, unqualified_case, ordinary_case, past_internal, past_initializer_letter, past_name_quals}
+use Rattle.itanium_syntax.specs.Names.{first_case, segment_case, unqualified_case, ordinary_case, past_internal, past_initializer_letter, past_name_quals}
 use Rattle.std.specs.Str.{is_utf8}
 use Rattle.std.specs.Prelude.{take}
 use Rattle.itanium_syntax.specs.Expressions.{value_len, literal_value, expression_case}
@@ -35,9 +35,9 @@ use Rattle.itanium_syntax.specs.declared.offsets.ThunkOffsets.{ThunkOffsets}
 use Rattle.itanium_syntax.specs.declared.offsets.ThunkOffsets.TheVariants.{Single, Covariant}
 use Rattle.itanium_syntax.specs.Offsets.{with_sign, signed_number, signed_part, virtual_offset, call_offset, covariant_offsets, thunk_offsets, past_base_offset}
 use Rattle.itanium_syntax.specs.Specials.{special_case}
-use Rattle.itanium_syntax.specs.Encodings.{entity_case}
-use Rattle.itanium_syntax.specs.Args.{attached_case, args_case, argument_case}
-use Rattle.itanium_syntax.specs.Types.{type_case, types_case, cv_case, params_case, past_builtin, past_cv, past_reference}
+use Rattle.itanium_syntax.specs.Encodings.{entity_case, begins_special, encoding_case}
+use Rattle.itanium_syntax.specs.Args.{attached_case, argument_list_case, argument_case}
+use Rattle.itanium_syntax.specs.Types.{type_case, type_list_case, cv_case, params_case, past_builtin, past_cv, past_reference}
 use Rattle.itanium_syntax.specs.Operators.{operator_here}
 use Rattle.itanium_syntax.specs.Scalars.{front_digits, digit_then, digit_of, weighted, base, numeral, number}
 use Rattle.itanium_syntax.specs.Scalars.{source_name, following, ended, index_of, ordinal}
@@ -148,7 +148,7 @@ pub segments_end_shorter : (bytes : List ℕ) → segment_case bytes ≡ EndOfSe
 segments_end_shorter [] e = cc
 segments_end_shorter (b ∷ bytes) e = omega arith
 
-pub arguments_end_shorter : (bytes : List ℕ) → args_case bytes ≡ EndOfArguments → length (drop 1 bytes) < length bytes
+pub arguments_end_shorter : (bytes : List ℕ) → argument_list_case bytes ≡ EndOfArguments → length (drop 1 bytes) < length bytes
 arguments_end_shorter [] e = cc
 arguments_end_shorter (b ∷ bytes) e = omega arith
 
@@ -191,7 +191,7 @@ pub destructor_some : (bytes : List ℕ) → unqualified_case true bytes ≡ Des
 destructor_some [] e = cc
 destructor_some (b ∷ bytes) e = omega arith
 
-pub types_end_some : (of_function : Bool) (bytes : List ℕ) → types_case AtE of_function bytes ≡ EndOfTypes → 0 < length bytes
+pub types_end_some : (of_function : Bool) (bytes : List ℕ) → type_list_case AtE of_function bytes ≡ EndOfTypes → 0 < length bytes
 types_end_some true [] e = cc
 types_end_some false [] e = cc
 types_end_some of_function (b ∷ bytes) e = omega arith
@@ -201,7 +201,7 @@ pub array_some : (bytes : List ℕ) → type_case bytes ≡ ArrayType → 0 < le
 array_some [] e = cc
 array_some (b ∷ bytes) e = omega arith
 
-pub member_some : (bytes : List ℕ) → type_case bytes ≡ MemberType → 0 < length bytes
+pub member_some : (bytes : List ℕ) → type_case bytes ≡ PointerToMemberType → 0 < length bytes
 member_some [] e = cc
 member_some (b ∷ bytes) e = omega arith
 

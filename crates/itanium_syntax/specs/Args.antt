@@ -1,7 +1,7 @@
 -- The cases of template arguments (Itanium C++ ABI 5.1.5). Of several cases the first one that fits holds.
 use Rattle.std.specs.Prelude.{ℕ, List, codes, if◌then◌else◌}
 use Rattle.itanium_syntax.specs.Bytes.{begins}
-use Rattle.itanium_syntax.specs.Cases.{AttachedCase, NoneAttached, ArgsAttached, ArgsCase, EndOfArguments, NextArgument}
+use Rattle.itanium_syntax.specs.Cases.{AttachedCase, NoneAttached, ArgsAttached, ArgumentListCase, EndOfArguments, NextArgument}
 use Rattle.itanium_syntax.specs.Cases.{ArgumentCase, ExpressionArgument, PackArgument, PrimaryArgument}
 use Rattle.itanium_syntax.specs.Cases.{ConstraintArgument, TypeArgument}
 
@@ -10,8 +10,8 @@ abbrev pub attached_case : List ℕ → AttachedCase
 attached_case bytes = if begins (codes "I") bytes then ArgsAttached else NoneAttached
 
 -- the end of <template-args>, or one more argument
-abbrev pub args_case : List ℕ → ArgsCase
-args_case bytes = if begins (codes "E") bytes then EndOfArguments else NextArgument
+abbrev pub argument_list_case : List ℕ → ArgumentListCase
+argument_list_case bytes = if begins (codes "E") bytes then EndOfArguments else NextArgument
 
 -- <template-arg>
 abbrev pub argument_case : List ℕ → ArgumentCase

@@ -3,9 +3,10 @@ use Rattle.std.specs.Prelude.{ℕ, List, Bool, true, not, ◌&&◌, ◌||◌, dr
 use Rattle.itanium_syntax.specs.declared.encodings.EncodingEnd.{EncodingEnd}
 use Rattle.itanium_syntax.specs.declared.encodings.EncodingEnd.TheVariants.{AfterName, AtE, AtSymbolEnd}
 use Rattle.itanium_syntax.specs.Bytes.{begins, begins_digit, begins_between}
+use Rattle.itanium_syntax.specs.Cases.{EncodingCase, SpecialEncoding, NameEncoding, FullEncoding}
 use Rattle.itanium_syntax.specs.Cases.{ReturnCase, NoReturnType, SomeReturnType, EncodingParamsCase}
 use Rattle.itanium_syntax.specs.Cases.{NoEncodingParams, SomeEncodingParams, EntityCase, StringLiteralEntity}
-use Rattle.itanium_syntax.specs.Cases.{DefaultArgumentEntity, NameEntity, UnreadEntity}
+use Rattle.itanium_syntax.specs.Cases.{DefaultArgumentEntity, NameEntity, UnreadableEntity}
 
 -- an ASCII letter, a digit or an underscore is next
 abbrev pub begins_identifier : List ℕ → Bool
@@ -24,6 +25,19 @@ abbrev pub for_thunk : EncodingEnd → EncodingEnd
 for_thunk AtSymbolEnd = AtSymbolEnd
 for_thunk end = AfterName
 
+-- a <special-name> is next
+abbrev pub begins_special : List ℕ → Bool
+begins_special bytes = begins (codes "T") bytes || begins (codes "G") bytes
+
+-- an <encoding> of a name: the name alone, where it ends right after it
+abbrev pub name_encoding_case : EncodingEnd → EncodingCase
+name_encoding_case AfterName = NameEncoding
+name_encoding_case end = FullEncoding
+
+-- <encoding>: a special name, or one of a name
+abbrev pub encoding_case : EncodingEnd → List ℕ → EncodingCase
+encoding_case end bytes = if begins_special bytes then SpecialEncoding else name_encoding_case end
+
 -- the return type in an encoding, or none: a template has one, unless it is a constructor, destructor or conversion, or
 -- its name is all of the encoding
 abbrev pub return_case : EncodingEnd → Bool → Bool → List ℕ → ReturnCase
@@ -40,4 +54,4 @@ entity_case bytes =
     if begins (codes "Es") bytes then StringLiteralEntity else
     if begins (codes "Ed") bytes && (begins (codes "_") (drop 2 bytes) || begins_digit (drop 2 bytes))
     then DefaultArgumentEntity else
-    if begins (codes "E") bytes then NameEntity else UnreadEntity
+    if begins (codes "E") bytes then NameEntity else UnreadableEntity

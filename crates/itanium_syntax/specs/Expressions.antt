@@ -4,10 +4,10 @@ use Rattle.std.specs.Prelude.{ℕ, ◌+◌, List, [], ◌∷◌, length, take, d
 use Rattle.std.specs.List.{prefix_len}
 use Rattle.std.specs.Str.{is_utf8}
 use Rattle.itanium_syntax.specs.Bytes.{is, begins, begins_one_of}
-use Rattle.itanium_syntax.specs.Cases.{PrimaryCase, ExternalName, ValueLiteral, UnreadPrimary, ExpressionCase}
+use Rattle.itanium_syntax.specs.Cases.{PrimaryCase, ExternalName, ValueLiteral, UnreadablePrimary, ExpressionCase}
 use Rattle.itanium_syntax.specs.Cases.{PreExpression, AddressExpression, UnaryExpression, PostExpression}
-use Rattle.itanium_syntax.specs.Cases.{BinaryExpression, GreaterExpression, ConditionalExpression, ParameterExpression}
-use Rattle.itanium_syntax.specs.Cases.{PrimaryExpression, UnreadExpression}
+use Rattle.itanium_syntax.specs.Cases.{BinaryExpression, GreaterExpression, ConditionalExpression, TemplateParamExpression}
+use Rattle.itanium_syntax.specs.Cases.{PrimaryExpression, UnreadableExpression}
 use Rattle.itanium_syntax.specs.Operators.{is_code, operator_here, operator_arity}
 
 -- an external name is next
@@ -18,7 +18,7 @@ is_external bytes = begins (codes "L_Z") bytes
 abbrev pub primary_case : List ℕ → PrimaryCase
 primary_case bytes =
     if is_external bytes then ExternalName else
-    if begins (codes "L_") bytes || begins (codes "LZ") bytes then UnreadPrimary else ValueLiteral
+    if begins (codes "L_") bytes || begins (codes "LZ") bytes then UnreadablePrimary else ValueLiteral
 
 -- how many bytes come before the first E: all where there is none
 abbrev pub value_len : List ℕ → ℕ
@@ -63,8 +63,8 @@ expression_text bytes = unwrap_or (operator_here bytes) []
 -- an expression that isn't an operator's: a <template-param>, or a literal or an external name
 abbrev pub operand_case : List ℕ → ExpressionCase
 operand_case bytes =
-    if begins (codes "T") bytes && not (begins_one_of (codes "sueL") (drop 1 bytes)) then ParameterExpression else
-    if begins (codes "L") bytes then PrimaryExpression else UnreadExpression
+    if begins (codes "T") bytes && not (begins_one_of (codes "sueL") (drop 1 bytes)) then TemplateParamExpression else
+    if begins (codes "L") bytes then PrimaryExpression else UnreadableExpression
 
 -- an expression, by its operator's number of operands; `None` where no operator is next
 abbrev pub operator_case : List ℕ → Option ℕ → ExpressionCase
@@ -84,4 +84,4 @@ is_pre bytes = begins (codes "pp_") bytes || begins (codes "mm_") bytes
 abbrev pub expression_case : List ℕ → ExpressionCase
 expression_case bytes =
     if is_pre bytes then PreExpression else
-    if refused_here bytes then UnreadExpression else operator_case bytes (arity_here bytes)
+    if refused_here bytes then UnreadableExpression else operator_case bytes (arity_here bytes)

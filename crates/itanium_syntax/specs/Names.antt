@@ -4,29 +4,13 @@ use Rattle.demangle_quals.specs.declared.quals.Quals.{Quals}
 use Rattle.demangle_quals.specs.Quals.{no_quals}
 use Rattle.itanium_syntax.specs.Bytes.{letter, begins, begins_between, begins_digit, past_letter}
 use Rattle.itanium_syntax.specs.Operators.{operator_here}
-use Rattle.itanium_syntax.specs.declared.encodings.EncodingEnd.{EncodingEnd}
-use Rattle.itanium_syntax.specs.declared.encodings.EncodingEnd.TheVariants.{AfterName}
-use Rattle.itanium_syntax.specs.Cases.{EncodingCase, SpecialEncoding, NameEncoding, FullEncoding, NameCase, NestedName}
-use Rattle.itanium_syntax.specs.Cases.{LocalName, UnscopedName, UnscopedCase, StdName, SubstitutionName, PlainName, FirstCase}
-use Rattle.itanium_syntax.specs.Cases.{ParameterFirst, StdFirst, SubstitutionFirst, NameFirst, SegmentCase}
+use Rattle.itanium_syntax.specs.Cases.{NameCase, NestedName, LocalName, UnscopedName, UnscopedCase, StdName, SubstitutionName, PlainName, FirstCase}
+use Rattle.itanium_syntax.specs.Cases.{TemplateParamFirst, StdFirst, SubstitutionFirst, NameFirst, SegmentCase}
 use Rattle.itanium_syntax.specs.Cases.{EndOfSegments, ArgsSegment, NameSegment, UnqualifiedCase, ConstructorName}
 use Rattle.itanium_syntax.specs.Cases.{DestructorName, OrdinaryName, OrdinaryCase, SourceName, UnnamedTypeName, LambdaName}
-use Rattle.itanium_syntax.specs.Cases.{ConversionName, LiteralOperatorName, OperatorName, UnreadName, TagCase, NoTag}
+use Rattle.itanium_syntax.specs.Cases.{ConversionName, LiteralOperatorName, OperatorName, UnreadableName, TagCase, NoTag}
 use Rattle.itanium_syntax.specs.Cases.{NextTag, SubstitutionCase, AbbreviationSubstitution, ComponentSubstitution}
 use Rattle.itanium_syntax.specs.Types.{cv_quals, past_cv, with_reference, past_reference}
-
--- a <special-name> is next
-abbrev pub begins_special : List ℕ → Bool
-begins_special bytes = begins (codes "T") bytes || begins (codes "G") bytes
-
--- an <encoding> of a name: the name alone, where it ends right after it
-abbrev pub named_case : EncodingEnd → EncodingCase
-named_case AfterName = NameEncoding
-named_case end = FullEncoding
-
--- <encoding>: a special name, or one of a name
-abbrev pub encoding_case : EncodingEnd → List ℕ → EncodingCase
-encoding_case end bytes = if begins_special bytes then SpecialEncoding else named_case end
 
 -- <name>
 abbrev pub name_case : List ℕ → NameCase
@@ -43,15 +27,15 @@ unscoped_case bytes =
 -- the first segment of a <nested-name>
 abbrev pub first_case : List ℕ → FirstCase
 first_case bytes =
-    if begins (codes "T") bytes then ParameterFirst else
+    if begins (codes "T") bytes then TemplateParamFirst else
     if begins (codes "St") bytes then StdFirst else
     if begins (codes "S") bytes then SubstitutionFirst else NameFirst
 
 -- whether the first segment of a <nested-name> is saved: all but `St` and a substitution are
-abbrev pub saves_first : FirstCase → Bool
-saves_first StdFirst = false
-saves_first SubstitutionFirst = false
-saves_first first = true
+abbrev pub first_is_candidate : FirstCase → Bool
+first_is_candidate StdFirst = false
+first_is_candidate SubstitutionFirst = false
+first_is_candidate first = true
 
 -- a later segment of a <nested-name>, or its end
 abbrev pub segment_case : List ℕ → SegmentCase
@@ -68,7 +52,7 @@ abbrev pub begins_destructor : List ℕ → Bool
 begins_destructor bytes =
     begins (codes "D") bytes && (begins_between "0" "2" (drop 1 bytes) || begins_between "4" "5" (drop 1 bytes))
 
--- an <unqualified-name> that is no <ctor-dtor-name>, so it needs no parent. `UnreadName`: none, and this isn't read.
+-- an <unqualified-name> that is no <ctor-dtor-name>, so it needs no parent. `UnreadableName`: none, and this isn't read.
 abbrev pub ordinary_case : List ℕ → OrdinaryCase
 ordinary_case bytes =
     if begins_between "1" "9" bytes then SourceName else
@@ -76,7 +60,7 @@ ordinary_case bytes =
     if begins (codes "Ul") bytes then LambdaName else
     if begins (codes "cv") bytes then ConversionName else
     if begins (codes "li") bytes then LiteralOperatorName else
-    if is_some (operator_here bytes) then OperatorName else UnreadName
+    if is_some (operator_here bytes) then OperatorName else UnreadableName
 
 -- <unqualified-name>: constructors and destructors have a parent
 abbrev pub unqualified_case : Bool → List ℕ → UnqualifiedCase

@@ -1,7 +1,7 @@
 -- The cases of special names. Of several cases the first one that fits holds.
 use Rattle.std.specs.Prelude.{ℕ, List, [], Bool, ◌&&◌, ◌||◌, drop, codes, if◌then◌else◌}
 use Rattle.itanium_syntax.specs.Bytes.{begins, begins_one_of}
-use Rattle.itanium_syntax.specs.Cases.{SpecialCase, TypeSpecial, NameSpecial, TemporarySpecial, ConstructionSpecial, ThunkSpecial, UnreadSpecial}
+use Rattle.itanium_syntax.specs.Cases.{SpecialCase, TypeSpecial, NameSpecial, TemporarySpecial, ConstructionSpecial, ThunkSpecial, UnreadableSpecial}
 
 -- T and one of these letters
 abbrev pub begins_t_and : List ℕ → List ℕ → Bool
@@ -14,7 +14,7 @@ special_case bytes =
     if begins_t_and (codes "HW") bytes || begins (codes "GV") bytes then NameSpecial else
     if begins (codes "GR") bytes then TemporarySpecial else
     if begins (codes "TC") bytes then ConstructionSpecial else
-    if begins_t_and (codes "hvc") bytes then ThunkSpecial else UnreadSpecial
+    if begins_t_and (codes "hvc") bytes then ThunkSpecial else UnreadableSpecial
 
 -- the words in front of the type or name of a `TypeSpecial` or `NameSpecial`
 abbrev pub special_text : List ℕ → List ℕ

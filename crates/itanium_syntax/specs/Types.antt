@@ -9,9 +9,9 @@ use Rattle.itanium_syntax.specs.declared.encodings.EncodingEnd.{EncodingEnd}
 use Rattle.itanium_syntax.specs.Encodings.{ends_here}
 use Rattle.itanium_syntax.specs.Bytes.{letter, is, begins, begins_one_of, past_letter}
 use Rattle.itanium_syntax.specs.Cases.{TypeCase, BuiltinType, ExpansionType, VendorType, ArrayType, FunctionType}
-use Rattle.itanium_syntax.specs.Cases.{MemberType, PointerType, CvType, ElaboratedType, ParameterType, SubstitutionType}
-use Rattle.itanium_syntax.specs.Cases.{UnreadType, NameType, CvCase, CvFunction, CvOther, FunctionCase, ExternFunction}
-use Rattle.itanium_syntax.specs.Cases.{PlainFunction, ParamsCase, NoParams, SomeParams, TypesCase, EndOfTypes, NextType}
+use Rattle.itanium_syntax.specs.Cases.{PointerToMemberType, PointerType, CvType, ElaboratedType, TemplateParamType, SubstitutionType}
+use Rattle.itanium_syntax.specs.Cases.{UnreadableType, NameType, CvCase, CvFunction, CvOther, FunctionCase, ExternFunction}
+use Rattle.itanium_syntax.specs.Cases.{PlainFunction, ParamsCase, NoParams, SomeParams, TypeListCase, EndOfTypes, NextType}
 
 -- each <builtin-type> of one letter, and what it prints
 abbrev pub letter_texts : List (String × String)
@@ -56,16 +56,16 @@ type_case bytes =
     if begins (codes "u") bytes then VendorType else
     if begins (codes "A") bytes then ArrayType else
     if begins (codes "F") bytes then FunctionType else
-    if begins (codes "M") bytes then MemberType else
+    if begins (codes "M") bytes then PointerToMemberType else
     if begins (codes "P") bytes then PointerType Pointer.Star else
     if begins (codes "R") bytes then PointerType Pointer.Left else
     if begins (codes "O") bytes then PointerType Pointer.Right else
     if begins_one_of (codes "rVK") bytes then CvType else
     if begins (codes "T") bytes && begins_one_of (codes "sue") (drop 1 bytes) then ElaboratedType else
-    if begins (codes "T") bytes then ParameterType else
+    if begins (codes "T") bytes then TemplateParamType else
     if begins (codes "St") bytes then NameType else
     if begins (codes "S") bytes then SubstitutionType else
-    if begins (codes "U") bytes then UnreadType else NameType
+    if begins (codes "U") bytes then UnreadableType else NameType
 
 -- <CV-qualifiers> ::= [r] [V] [K]. A reference after them is read by `with_reference`
 abbrev pub cv_quals : List ℕ → Quals
@@ -110,8 +110,8 @@ abbrev pub params_case : EncodingEnd → List ℕ → ParamsCase
 params_case end bytes = if begins (codes "v") bytes && ends_here end (drop 1 bytes) then NoParams else SomeParams
 
 -- types go up to the end, those of a <function-type> also to a <ref-qualifier> in front of its E
-abbrev pub types_case : EncodingEnd → Bool → List ℕ → TypesCase
-types_case end of_function bytes =
+abbrev pub type_list_case : EncodingEnd → Bool → List ℕ → TypeListCase
+type_list_case end of_function bytes =
     if ends_here end bytes then EndOfTypes else
     if of_function && (begins (codes "RE") bytes || begins (codes "OE") bytes) then EndOfTypes else NextType
 

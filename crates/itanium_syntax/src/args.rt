@@ -11,7 +11,7 @@ pub enum AttachedCase {
 
 /// Whether one more template argument is next, or the end of `<template-args>`.
 #[derive(Clone, Copy)]
-pub enum ArgsCase {
+pub enum ArgumentListCase {
     EndOfArguments,
     NextArgument,
 }
@@ -37,12 +37,12 @@ pub fn attached_case(bytes: &[u8]) -> AttachedCase
 }
 
 /// Returns whether one more `<template-arg>` is next, or the `E` after them.
-pub fn args_case(bytes: &[u8]) -> ArgsCase
-    ensures case { result ≡ spec.args_case bytes.now }
+pub fn argument_list_case(bytes: &[u8]) -> ArgumentListCase
+    ensures case { result ≡ spec.argument_list_case bytes.now }
 {
     match bytes {
-        [b'E', ..] => ArgsCase::EndOfArguments,
-        _ => ArgsCase::NextArgument,
+        [b'E', ..] => ArgumentListCase::EndOfArguments,
+        _ => ArgumentListCase::NextArgument,
     }
 }
 

@@ -42,6 +42,15 @@ impl EncodingEnd {
     }
 }
 
+/// The cases of `<encoding>`: a special name; a name that is the whole encoding; a name that a return type and
+/// parameters may follow.
+#[derive(Clone, Copy)]
+pub enum EncodingCase {
+    SpecialEncoding,
+    NameEncoding,
+    FullEncoding,
+}
+
 /// Whether a return type follows the name of an `<encoding>`.
 #[derive(Clone, Copy)]
 pub enum ReturnCase {
@@ -62,7 +71,28 @@ pub enum EntityCase {
     StringLiteralEntity,
     DefaultArgumentEntity,
     NameEntity,
-    UnreadEntity,
+    UnreadableEntity,
+}
+
+/// Returns whether a `<special-name>` is next. A special name begins with `T` or `G`, and no other name does.
+#[inline(always)]
+pub fn begins_special(bytes: &[u8]) -> bool
+    ensures value { result ≡ spec.begins_special bytes.now }
+{
+    matches!(bytes, [b'T' | b'G', ..])
+}
+
+/// Returns which `<encoding>` with this end is next.
+pub fn encoding_case(end: EncodingEnd, bytes: &[u8]) -> EncodingCase
+    ensures case { result ≡ spec.encoding_case end bytes.now }
+{
+    if begins_special(bytes) {
+        return EncodingCase::SpecialEncoding;
+    }
+    match end {
+        EncodingEnd::AfterName => EncodingCase::NameEncoding,
+        _ => EncodingCase::FullEncoding,
+    }
 }
 
 /// Returns whether a return type is next, after a name with these flags. A template has one, unless it is a
@@ -96,6 +126,6 @@ pub fn entity_case(bytes: &[u8]) -> EntityCase
         [b'E', b's', ..] => EntityCase::StringLiteralEntity,
         [b'E', b'd', b'_' | b'0'..=b'9', ..] => EntityCase::DefaultArgumentEntity,
         [b'E', ..] => EntityCase::NameEntity,
-        _ => EntityCase::UnreadEntity,
+        _ => EntityCase::UnreadableEntity,
     }
 }

@@ -11,7 +11,7 @@ use std::str::from_utf8;
 pub enum PrimaryCase {
     ExternalName,
     ValueLiteral,
-    UnreadPrimary,
+    UnreadablePrimary,
 }
 
 /// The cases of `<expression>`, by how each is printed.
@@ -31,9 +31,9 @@ pub enum ExpressionCase {
     GreaterExpression,
     /// `?` and `:` between three operands.
     ConditionalExpression,
-    ParameterExpression,
+    TemplateParamExpression,
     PrimaryExpression,
-    UnreadExpression,
+    UnreadableExpression,
 }
 
 /// Returns whether an external name is next.
@@ -49,7 +49,7 @@ pub fn primary_case(bytes: &[u8]) -> PrimaryCase
 {
     match bytes {
         [b'L', b'_', b'Z', ..] => PrimaryCase::ExternalName,
-        [b'L', b'_' | b'Z', ..] => PrimaryCase::UnreadPrimary,
+        [b'L', b'_' | b'Z', ..] => PrimaryCase::UnreadablePrimary,
         _ => PrimaryCase::ValueLiteral,
     }
 }
@@ -117,8 +117,8 @@ pub fn expression_case(bytes: &[u8]) -> ExpressionCase
     let (first, second, rest) = match bytes {
         [first, second, rest @ ..] => (*first, *second, rest),
         [b'L'] => return ExpressionCase::PrimaryExpression,
-        [b'T'] => return ExpressionCase::ParameterExpression,
-        _ => return ExpressionCase::UnreadExpression,
+        [b'T'] => return ExpressionCase::TemplateParamExpression,
+        _ => return ExpressionCase::UnreadableExpression,
     };
     match (first, second) {
         (b'p', b'p') | (b'm', b'm') => match rest {
@@ -128,14 +128,14 @@ pub fn expression_case(bytes: &[u8]) -> ExpressionCase
         (b'a', b'd') if is_external(rest) => ExpressionCase::AddressExpression,
         (b'g', b't') => ExpressionCase::GreaterExpression,
         (b'L', _) => ExpressionCase::PrimaryExpression,
-        (b'T', b's' | b'u' | b'e' | b'L') => ExpressionCase::UnreadExpression,
-        (b'T', _) => ExpressionCase::ParameterExpression,
-        _ if expression_refused(first, second) => ExpressionCase::UnreadExpression,
+        (b'T', b's' | b'u' | b'e' | b'L') => ExpressionCase::UnreadableExpression,
+        (b'T', _) => ExpressionCase::TemplateParamExpression,
+        _ if expression_refused(first, second) => ExpressionCase::UnreadableExpression,
         _ => match operator_arity(first, second) {
             Some(1) => ExpressionCase::UnaryExpression,
             Some(3) => ExpressionCase::ConditionalExpression,
             Some(_) => ExpressionCase::BinaryExpression,
-            None => ExpressionCase::UnreadExpression,
+            None => ExpressionCase::UnreadableExpression,
         },
     }
 }

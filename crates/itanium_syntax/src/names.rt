@@ -5,20 +5,10 @@ ghost use Rattle.itanium_syntax.specs.Names as spec;
 ghost use Rattle.itanium_syntax.specs.Scalars.{source_name};
 ghost use Rattle.itanium_syntax.specs.Calls as call_spec;
 
-use crate::encodings::EncodingEnd;
 use crate::operators::operator_here;
 use crate::scalar::source_name;
 use crate::types::{cv_quals, ref_qualifier};
 use demangle_quals::Quals;
-
-/// The cases of `<encoding>`: a special name; a name that is the whole encoding; a name that a return type and
-/// parameters may follow.
-#[derive(Clone, Copy)]
-pub enum EncodingCase {
-    SpecialEncoding,
-    NameEncoding,
-    FullEncoding,
-}
 
 /// The cases of `<name>`.
 #[derive(Clone, Copy)]
@@ -39,7 +29,7 @@ pub enum UnscopedCase {
 /// The cases of the first segment of a `<nested-name>`.
 #[derive(Clone, Copy)]
 pub enum FirstCase {
-    ParameterFirst,
+    TemplateParamFirst,
     StdFirst,
     SubstitutionFirst,
     NameFirst,
@@ -70,7 +60,7 @@ pub enum OrdinaryCase {
     ConversionName,
     LiteralOperatorName,
     OperatorName,
-    UnreadName,
+    UnreadableName,
 }
 
 /// Whether an `<abi-tag>` follows.
@@ -85,27 +75,6 @@ pub enum TagCase {
 pub enum SubstitutionCase {
     AbbreviationSubstitution,
     ComponentSubstitution,
-}
-
-/// Returns whether a `<special-name>` is next. A special name begins with `T` or `G`, and no other name does.
-#[inline(always)]
-pub fn begins_special(bytes: &[u8]) -> bool
-    ensures value { result ≡ spec.begins_special bytes.now }
-{
-    matches!(bytes, [b'T' | b'G', ..])
-}
-
-/// Returns which `<encoding>` with this end is next.
-pub fn encoding_case(end: EncodingEnd, bytes: &[u8]) -> EncodingCase
-    ensures case { result ≡ spec.encoding_case end bytes.now }
-{
-    if begins_special(bytes) {
-        return EncodingCase::SpecialEncoding;
-    }
-    match end {
-        EncodingEnd::AfterName => EncodingCase::NameEncoding,
-        _ => EncodingCase::FullEncoding,
-    }
 }
 
 /// Returns which `<name>` is next.
@@ -136,7 +105,7 @@ pub fn first_case(bytes: &[u8]) -> FirstCase
 {
     match bytes {
         [b'1'..=b'9', ..] => FirstCase::NameFirst,
-        [b'T', ..] => FirstCase::ParameterFirst,
+        [b'T', ..] => FirstCase::TemplateParamFirst,
         [b'S', b't', ..] => FirstCase::StdFirst,
         [b'S', ..] => FirstCase::SubstitutionFirst,
         _ => FirstCase::NameFirst,
@@ -177,7 +146,7 @@ pub fn ordinary_case(bytes: &[u8]) -> OrdinaryCase
         [b'l', b'i', ..] => OrdinaryCase::LiteralOperatorName,
         _ => match operator_here(bytes) {
             Some(_) => OrdinaryCase::OperatorName,
-            None => OrdinaryCase::UnreadName,
+            None => OrdinaryCase::UnreadableName,
         },
     }
 }

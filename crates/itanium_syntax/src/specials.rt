@@ -17,7 +17,7 @@ pub enum SpecialCase {
     /// A thunk.
     ThunkSpecial,
     /// None of these.
-    UnreadSpecial,
+    UnreadableSpecial,
 }
 
 /// Returns which `<special-name>` is next.
@@ -31,7 +31,7 @@ pub fn special_case(bytes: &[u8]) -> SpecialCase
         [b'G', b'R', ..] => SpecialCase::TemporarySpecial,
         [b'T', b'C', ..] => SpecialCase::ConstructionSpecial,
         [b'T', b'h' | b'v' | b'c', ..] => SpecialCase::ThunkSpecial,
-        _ => SpecialCase::UnreadSpecial,
+        _ => SpecialCase::UnreadableSpecial,
     }
 }
 

@@ -15,13 +15,13 @@ pub enum TypeCase {
     VendorType,
     ArrayType,
     FunctionType,
-    MemberType,
+    PointerToMemberType,
     PointerType(Pointer),
     CvType,
     ElaboratedType,
-    ParameterType,
+    TemplateParamType,
     SubstitutionType,
-    UnreadType,
+    UnreadableType,
     NameType,
 }
 
@@ -48,7 +48,7 @@ pub enum ParamsCase {
 
 /// Whether one more parameter type is next, or the end of the parameters, with or without a `<ref-qualifier>`.
 #[derive(Clone, Copy)]
-pub enum TypesCase {
+pub enum TypeListCase {
     EndOfTypes,
     NextType,
 }
@@ -64,16 +64,16 @@ pub fn type_case(bytes: &[u8]) -> TypeCase
         [b'u', ..] => TypeCase::VendorType,
         [b'A', ..] => TypeCase::ArrayType,
         [b'F', ..] => TypeCase::FunctionType,
-        [b'M', ..] => TypeCase::MemberType,
+        [b'M', ..] => TypeCase::PointerToMemberType,
         [b'P', ..] => TypeCase::PointerType(Pointer::Star),
         [b'R', ..] => TypeCase::PointerType(Pointer::Left),
         [b'O', ..] => TypeCase::PointerType(Pointer::Right),
         [b'r' | b'V' | b'K', ..] => TypeCase::CvType,
         [b'T', b's' | b'u' | b'e', ..] => TypeCase::ElaboratedType,
-        [b'T', ..] => TypeCase::ParameterType,
+        [b'T', ..] => TypeCase::TemplateParamType,
         [b'S', b't', ..] => TypeCase::NameType,
         [b'S', ..] => TypeCase::SubstitutionType,
-        [b'U', ..] => TypeCase::UnreadType,
+        [b'U', ..] => TypeCase::UnreadableType,
         [b'D', b'p', ..] => TypeCase::ExpansionType,
         _ if builtin_text(bytes).is_empty() => TypeCase::NameType,
         _ => TypeCase::BuiltinType,
@@ -112,13 +112,13 @@ pub fn params_case(end: EncodingEnd, bytes: &[u8]) -> ParamsCase
 
 /// Returns whether one more parameter type is next, or the end of the parameters. In a `<function-type>` an `R` or `O`
 /// in front of the `E` is the end too.
-pub fn types_case(end: EncodingEnd, of_function: bool, bytes: &[u8]) -> TypesCase
-    ensures case { result ≡ spec.types_case end of_function bytes.now }
+pub fn type_list_case(end: EncodingEnd, of_function: bool, bytes: &[u8]) -> TypeListCase
+    ensures case { result ≡ spec.type_list_case end of_function bytes.now }
 {
     match bytes {
-        _ if end.ends_here(bytes) => TypesCase::EndOfTypes,
-        [b'R' | b'O', b'E', ..] if of_function => TypesCase::EndOfTypes,
-        _ => TypesCase::NextType,
+        _ if end.ends_here(bytes) => TypeListCase::EndOfTypes,
+        [b'R' | b'O', b'E', ..] if of_function => TypeListCase::EndOfTypes,
+        _ => TypeListCase::NextType,
     }
 }
 

@@ -1,8 +1,8 @@
 -- What the calls that are told at run time may ask of a form.
 use Rattle.std.proofs.Common.{◌≡◌, refl, Some, None}
 use Rattle.std.specs.Prelude.{◌≢◌, is_some, true, false}
-use Rattle.demangle_text.specs.declared.shape.Kind.TheVariants.{Array, Function}
-use Rattle.demangle_text.specs.declared.shape.Place.TheVariants.{Suffix}
+use Rattle.demangle_text.specs.declared.pieces.Kind.TheVariants.{Array, Function}
+use Rattle.demangle_text.specs.declared.pieces.Place.TheVariants.{Suffix}
 use Rattle.demangle_text.specs.Shape.{Form, Plain, Declared}
 use Rattle.demangle_text.specs.Calls.{IsNotFunction, CanInsert, kind_of, group_of}
 

@@ -1,8 +1,8 @@
 -- What is held over a call.
 use Rattle.std.proofs.Common.{◌∙◌, sym, subst, Option, Some, None}
 use Rattle.std.specs.Prelude.{IfSome}
-use Rattle.demangle_text.specs.declared.shape.Piece.{Piece}
-use Rattle.demangle_text.specs.declared.shape.Mark.{Mark}
+use Rattle.demangle_text.specs.declared.pieces.Piece.{Piece}
+use Rattle.demangle_text.specs.declared.pieces.Mark.{Mark}
 use Rattle.demangle_text.specs.declared.buffer.Buffer.{Buffer}
 use Rattle.demangle_text.specs.State.{IsLiving, IsOlder, IsRun, IsEdit, SameFrame, KeepsAll, Opens, Closes}
 use Rattle.demangle_text.proofs.Laws.{IsRun-edit, IsRun-same, SameFrame-keeps}

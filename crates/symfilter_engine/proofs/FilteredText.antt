@@ -7,8 +7,8 @@ use Rattle.std.proofs.lemmas.List.Elements.{All-nil, All-push}
 use Rattle.std.specs.Str.{is_utf8}
 use Rattle.std.proofs.lemmas.Str.{IsUtf8-from_is_utf8, is_utf8-from_IsUtf8}
 use Rattle.std.proofs.lemmas.Bool.{false≢true, cases_eq}
-use Rattle.symfilter_engine.specs.Shown.{IsShown}
-use Rattle.symfilter_engine.proofs.Shown.{each_shown}
+use Rattle.symfilter_engine.specs.Printed.{IsPrintedAs}
+use Rattle.symfilter_engine.proofs.Printed.{each_printed}
 use Rattle.std.proofs.KnownBytes.{Appends-nil, Appends-trans, Appends-kept}
 use Rattle.std.specs.Io.KnownBytes.{Appends, Keeps}
 use Rattle.symfilter_engine.specs.declared.symbols.Placement.{Placement}
@@ -65,13 +65,13 @@ IsFront-append text written more is_front =
     (is_front.0, ap (λ l. text ++ l) is_front.1 ∙ sym (append_assoc text written is_front.0))
 
 -- a line has an answer, or stands for itself
-answer_of_line : (printing : Printing) (line : List ℕ) (b : Bool) → is_utf8 line ≡ b → (found : Option (List ℕ)) → IsShown printing line found → (text : List ℕ) × IsLineAnswer printing line text
+answer_of_line : (printing : Printing) (line : List ℕ) (b : Bool) → is_utf8 line ≡ b → (found : Option (List ℕ)) → IsPrintedAs printing line found → (text : List ℕ) × IsLineAnswer printing line text
 answer_of_line printing line false bad found is_answer = (line, not_utf8 (λ good. false≢true (sym bad ∙ is_utf8-from_IsUtf8 line good)))
 answer_of_line printing line true good None is_answer = (line, unanswered (IsUtf8-from_is_utf8 line good) is_answer)
 answer_of_line printing line true good (Some text) is_answer = (text, answered (IsUtf8-from_is_utf8 line good) is_answer)
 
 line_answered : (printing : Printing) (line : List ℕ) → (text : List ℕ) × IsLineAnswer printing line text
-line_answered printing line = let found = each_shown printing line in answer_of_line printing line (is_utf8 line) refl found.0 found.1
+line_answered printing line = let found = each_printed printing line in answer_of_line printing line (is_utf8 line) refl found.0 found.1
 
 -- a last line has an answer, or stands for itself
 last_answered : (printing : Printing) (line : List ℕ) → HasNoLineFeed line → (text : List ℕ) × IsAnswered printing line text

@@ -2,11 +2,11 @@ pub mod ReplacedText
 pub mod WordPlaces
 mod WordLanes
 pub mod FilteredText
-pub mod Writing
+pub mod WrittenFronts
 pub mod LineAnswers
 pub mod LineEnds
-pub mod Chunks
+pub mod ChunkBytes
 pub mod Copied
-mod Shown
+mod Printed
 mod PrefixChars
 mod WordTurns

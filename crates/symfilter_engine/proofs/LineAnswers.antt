@@ -6,8 +6,8 @@ use Rattle.std.proofs.lemmas.Str.{IsUtf8-from_is_utf8, is_utf8-from_IsUtf8}
 use Rattle.std.proofs.lemmas.Bool.{false≢true, ne_eqb}
 use Rattle.itanium_grammar.specs.Answer.{after_prefix}
 use Rattle.symfilter_engine.specs.Filtered.{IsLineAnswer, answered, unanswered, not_utf8}
-use Rattle.symfilter_engine.specs.Shown.{IsShown}
-use Rattle.symfilter_engine.proofs.Shown.{not_shown}
+use Rattle.symfilter_engine.specs.Printed.{IsPrintedAs}
+use Rattle.symfilter_engine.proofs.Printed.{not_printed}
 use Rattle.symfilter_engine.specs.declared.symbols.Printing.{Printing}
 
 -- a line that isn't UTF-8
@@ -16,18 +16,18 @@ not_text no_text = not_utf8 no_text
 
 -- a line without an answer
 pub line_without : {A : Type 0} (printing : Printing) (text_of : A → List ℕ) (line symbol : List ℕ) (found : Option A)
-    → symbol ≡ line → IsUtf8 line → IsShown printing symbol (option_map text_of found) → found ≡ None → IsLineAnswer printing line line
+    → symbol ≡ line → IsUtf8 line → IsPrintedAs printing symbol (option_map text_of found) → found ≡ None → IsLineAnswer printing line line
 line_without printing text_of line symbol found symbol_is is_utf8 is_answer found_is =
-    unanswered is_utf8 (subst (λ s. IsShown printing s None) symbol_is (subst (λ o. IsShown printing symbol (option_map text_of o)) found_is is_answer))
+    unanswered is_utf8 (subst (λ s. IsPrintedAs printing s None) symbol_is (subst (λ o. IsPrintedAs printing symbol (option_map text_of o)) found_is is_answer))
 
 -- a line with one
 pub line_with : {A : Type 0} (printing : Printing) (text_of : A → List ℕ) (line symbol text : List ℕ) (found : Option A) (answer : A)
-    → symbol ≡ line → IsUtf8 line → IsShown printing symbol (option_map text_of found) → found ≡ Some answer → text ≡ text_of answer → IsLineAnswer printing line text
+    → symbol ≡ line → IsUtf8 line → IsPrintedAs printing symbol (option_map text_of found) → found ≡ Some answer → text ≡ text_of answer → IsLineAnswer printing line text
 line_with printing text_of line symbol text found answer symbol_is is_utf8 is_answer found_is text_is =
     answered is_utf8 (subst
-    (λ t. IsShown printing line (Some t)) (sym text_is) (subst
-    (λ s. IsShown printing s (Some (text_of answer))) symbol_is (subst
-    (λ o. IsShown printing symbol (option_map text_of o)) found_is is_answer)))
+    (λ t. IsPrintedAs printing line (Some t)) (sym text_is) (subst
+    (λ s. IsPrintedAs printing s (Some (text_of answer))) symbol_is (subst
+    (λ o. IsPrintedAs printing symbol (option_map text_of o)) found_is is_answer)))
 
 -- a symbol begins with an underscore
 no_prefix : (line : List ℕ) → get_or line 0 0 ≢ 95 → after_prefix line ≡ None
@@ -35,9 +35,9 @@ no_prefix [] ordinary = refl
 no_prefix (byte ∷ bytes) ordinary = rw (ne_eqb byte 95 ordinary) refl
 
 -- a line that is ordinary stands for itself, whether it is UTF-8 or not
-by_utf8 : (printing : Printing) (line : List ℕ) → IsShown printing line None → (b : Bool) → is_utf8 line ≡ b → IsLineAnswer printing line line
+by_utf8 : (printing : Printing) (line : List ℕ) → IsPrintedAs printing line None → (b : Bool) → is_utf8 line ≡ b → IsLineAnswer printing line line
 by_utf8 printing line none false bad = not_utf8 (λ good. false≢true (sym bad ∙ is_utf8-from_IsUtf8 line good))
 by_utf8 printing line none true good = unanswered (IsUtf8-from_is_utf8 line good) none
 
 pub other_line : (printing : Printing) (line : List ℕ) → get_or line 0 0 ≢ 95 → IsLineAnswer printing line line
-other_line printing line ordinary = by_utf8 printing line (not_shown printing line (no_prefix line ordinary)) (is_utf8 line) refl
+other_line printing line ordinary = by_utf8 printing line (not_printed printing line (no_prefix line ordinary)) (is_utf8 line) refl

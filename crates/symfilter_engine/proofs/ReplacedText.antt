@@ -8,8 +8,8 @@ use Rattle.std.proofs.lemmas.Bool.{false≢true, and_parts, eqb-true, cases_lt, 
 use Rattle.std.proofs.Math.Seq.{take-add}
 use Rattle.std.specs.Prelude.{All}
 use Rattle.itanium_syntax.specs.Bytes.{is, begins}
-use Rattle.symfilter_engine.specs.Shown.{IsShown}
-use Rattle.symfilter_engine.proofs.Shown.{each_shown}
+use Rattle.symfilter_engine.specs.Printed.{IsPrintedAs}
+use Rattle.symfilter_engine.proofs.Printed.{each_printed}
 use Rattle.symfilter_engine.specs.Replaced.{is_word_byte, IsWordByte, begins_word, ends_word, IsDot, ends_in_dot, prefix_chars_len, prefix_chars}
 use Rattle.symfilter_engine.specs.Replaced.{past_prefix_chars, symbol_at, symbol_in, IsWordAnswer, answered, unanswered}
 use Rattle.symfilter_engine.specs.Replaced.{no_symbol, IsReplaced, no_byte, other, one_word}
@@ -213,14 +213,14 @@ record WordText (options : Replacement) (word : List ℕ) : Type 0 where
   is_answer : IsWordAnswer options word answer
   same : HasNoPrefix word → answer ≡ word
 
-symbol_text : (options : Replacement) (word symbol : List ℕ) → symbol_in options.strip word ≡ Some symbol → (found : Option (List ℕ)) → IsShown options.printing symbol found → WordText options word
+symbol_text : (options : Replacement) (word symbol : List ℕ) → symbol_in options.strip word ≡ Some symbol → (found : Option (List ℕ)) → IsPrintedAs options.printing symbol found → WordText options word
 symbol_text options word symbol is None none = record { answer = word; is_answer = unanswered is none; same = λ _. refl }
 symbol_text options word symbol is (Some text) has =
     record { answer = prefix_chars word ++ text; is_answer = answered is has; same = λ none. absurd (word_has_prefix options.strip word symbol is none) }
 
 word_text : (options : Replacement) (word : List ℕ) (found : Option (List ℕ)) → symbol_in options.strip word ≡ found → WordText options word
 word_text options word None is = record { answer = word; is_answer = no_symbol is; same = λ _. refl }
-word_text options word (Some symbol) is = let found = each_shown options.printing symbol in symbol_text options word symbol is found.0 found.1
+word_text options word (Some symbol) is = let found = each_printed options.printing symbol in symbol_text options word symbol is found.0 found.1
 
 -- bytes have a replaced text: they themselves, where no prefix is in them
 record BytesText (options : Replacement) (bytes : List ℕ) : Type 0 where

@@ -8,8 +8,8 @@ use Rattle.std.proofs.KnownBytes.{Appends-nil, Appends-trans, Appends-kept}
 use Rattle.std.specs.Io.KnownBytes.{Appends, Consumes, Keeps}
 use Rattle.std.specs.Prelude.{All}
 use Rattle.symfilter_engine.specs.declared.symbols.Placement.TheVariants.{Words}
-use Rattle.symfilter_engine.specs.Replaced.{is_word_byte, IsWordByte, begins_word, ends_word, IsHeld, may_hold_symbol, IsReplaced, no_byte, other, one_word, no_symbol}
-use Rattle.symfilter_engine.specs.Filtered.{IsFront, FiltersWhole, ReplacesAllButHeld, WritesBeginning, WritesFiltered}
+use Rattle.symfilter_engine.specs.Replaced.{is_word_byte, IsWordByte, begins_word, ends_word, IsKept, may_hold_symbol, IsReplaced, no_byte, other, one_word, no_symbol}
+use Rattle.symfilter_engine.specs.Filtered.{IsFront, FiltersWhole, ReplacesAllButKept, WritesBeginning, WritesFiltered}
 use Rattle.symfilter_engine.specs.Progress.{AreWordBytes, GoesOn, HasFiltered, HasReplaced, IsReplacedIn, Leads, ReplacesBeginning, ReplacesFront, WritesFront, WritesWholeFront}
 use Rattle.symfilter_engine.proofs.ReplacedText.{IsReplaced-append, whole_parted, whole-append, replaced_of, split_of}
 use Rattle.symfilter_engine.proofs.WordPlaces.{first_word}
@@ -65,16 +65,16 @@ goes_of : (options : Replacement) (bytes : List ℕ) → (text : List ℕ) × Go
 goes_of options [] = ([], not_gone_on options [] [] refl no_byte)
 goes_of options (byte ∷ bytes) = goes_at options byte bytes (is_word_byte byte) refl (goes_of options bytes)
 
-replaced_in : (options : Replacement) (inside : Bool) (bytes : List ℕ) → (text : List ℕ) × IsReplacedIn options inside bytes text
+replaced_in : (options : Replacement) (mid_word : Bool) (bytes : List ℕ) → (text : List ℕ) × IsReplacedIn options mid_word bytes text
 replaced_in options true bytes = goes_of options bytes
 replaced_in options false bytes = replaced_of options bytes
 
-nothing_in : (options : Replacement) (inside : Bool) → IsReplacedIn options inside [] []
+nothing_in : (options : Replacement) (mid_word : Bool) → IsReplacedIn options mid_word [] []
 nothing_in options true = not_gone_on options [] [] refl no_byte
 nothing_in options false = no_byte
 
 -- what is left has one too, where no word goes on in it
-left_in : (options : Replacement) (inside : Bool) (left text : List ℕ) → (inside ≡ true → left ≡ []) → IsReplaced options left text → IsReplacedIn options inside left text
+left_in : (options : Replacement) (mid_word : Bool) (left text : List ℕ) → (mid_word ≡ true → left ≡ []) → IsReplaced options left text → IsReplacedIn options mid_word left text
 left_in options true left text none replaced = not_gone_on options left text (ap begins_word (none refl)) replaced
 left_in options false left text none replaced = replaced
 
@@ -83,13 +83,13 @@ none_before : (first second : List ℕ) → first ++ second ≡ [] → (first �
 none_before [] second none = (refl, none)
 none_before (byte ∷ bytes) second none = absurd (cc)
 
-leads_on : (options : Replacement) (inside mid after : Bool) (first text second more : List ℕ) → Leads options inside first text mid → Leads options mid second more after
-    → Leads options inside (first ++ second) (text ++ more) after
-leads_on options inside mid after first text second more one two =
+leads_on : (options : Replacement) (mid_word mid after : Bool) (first text second more : List ℕ) → Leads options mid_word first text mid → Leads options mid second more after
+    → Leads options mid_word (first ++ second) (text ++ more) after
+leads_on options mid_word mid after first text second more one two =
     record {
       goes = λ rest end replaced.
-          subst (λ l. IsReplacedIn options inside l ((text ++ more) ++ end)) (sym (append_assoc first second rest))
-          (subst (IsReplacedIn options inside (first ++ (second ++ rest))) (sym (append_assoc text more end))
+          subst (λ l. IsReplacedIn options mid_word l ((text ++ more) ++ end)) (sym (append_assoc first second rest))
+          (subst (IsReplacedIn options mid_word (first ++ (second ++ rest))) (sym (append_assoc text more end))
           (one.goes (second ++ rest) (more ++ end) (two.goes rest end replaced)));
       ended = λ is. whole-append first second (two.ended is) (λ none. one.ended (two.none is none));
       none = λ is all. let both = none_before first second all in one.none (two.none is both.1) both.0;
@@ -174,30 +174,30 @@ past_leads options word byte all end =
 -- the first word of bytes in which it goes on, and the byte after it
 pub first_leads : (options : Replacement) (bytes : List ℕ) (end : ℕ) → end < length bytes → AreWordBytes bytes 0 end → is_word_byte (get_or bytes end 0) ≡ false
     → Leads options true (take (end + 1) bytes) (take (end + 1) bytes) false
-first_leads options bytes end inside word ended =
-    subst (λ l. Leads options true l l false) (sym (take_more bytes end 0 inside))
-    (past_leads options (take end bytes) (get_or bytes end 0) (first_word bytes end (omega (arith, inside)) word) ended)
+first_leads options bytes end mid_word word ended =
+    subst (λ l. Leads options true l l false) (sym (take_more bytes end 0 mid_word))
+    (past_leads options (take end bytes) (get_or bytes end 0) (first_word bytes end (omega (arith, mid_word)) word) ended)
 
 -- nothing was given yet
 pub none_replaced : (options : Replacement) (given : List ℕ) (at : Option (List ℕ)) → HasReplaced options false given given false at at
 none_replaced options given at = record { done = []; text = []; given_is = refl; leads = none_leads options; written = Appends-nil at }
 
 -- more of what was left was replaced
-pub replaced_on : (options : Replacement) (inside mid after : Bool) (given left left' : List ℕ) (t t' t'' : Option (List ℕ)) → HasReplaced options inside given left mid t t'
-    → HasReplaced options mid left left' after t' t'' → HasReplaced options inside given left' after t t''
-replaced_on options inside mid after given left left' t t' t'' one two =
+pub replaced_on : (options : Replacement) (mid_word mid after : Bool) (given left left' : List ℕ) (t t' t'' : Option (List ℕ)) → HasReplaced options mid_word given left mid t t'
+    → HasReplaced options mid left left' after t' t'' → HasReplaced options mid_word given left' after t t''
+replaced_on options mid_word mid after given left left' t t' t'' one two =
     record {
       done = one.done ++ two.done;
       text = one.text ++ two.text;
       given_is = one.given_is ∙ ap (λ l. one.done ++ l) two.given_is ∙ sym (append_assoc one.done two.done left');
-      leads = leads_on options inside mid after one.done one.text two.done two.text one.leads two.leads;
+      leads = leads_on options mid_word mid after one.done one.text two.done two.text one.leads two.leads;
       written = Appends-trans t t' t'' one.text two.text one.written two.written;
     }
 
 -- more was given
-pub given_more : (options : Replacement) (inside after : Bool) (given left piece : List ℕ) (t t' : Option (List ℕ)) → HasReplaced options inside given left after t t'
-    → HasReplaced options inside (given ++ piece) (left ++ piece) after t t'
-given_more options inside after given left piece t t' so_far =
+pub given_more : (options : Replacement) (mid_word after : Bool) (given left piece : List ℕ) (t t' : Option (List ℕ)) → HasReplaced options mid_word given left after t t'
+    → HasReplaced options mid_word (given ++ piece) (left ++ piece) after t t'
+given_more options mid_word after given left piece t t' so_far =
     record {
       done = so_far.done;
       text = so_far.text;
@@ -218,11 +218,11 @@ words_replaced options given left t t' so_far =
     }
 
 -- a front of the bytes was replaced
-pub front_replaced : (options : Replacement) (inside after : Bool) (bytes front left : List ℕ) (n : ℕ) (t t' : Option (List ℕ)) → HasReplaced options inside front left after t t' → front ≡ take n bytes
-    → HasReplaced options inside bytes (left ++ drop n bytes) after t t'
-front_replaced options inside after bytes front left n t t' so_far front_is =
-    subst (λ l. HasReplaced options inside l (left ++ drop n bytes) after t t') (ap (λ l. l ++ drop n bytes) front_is ∙ take-append-drop n bytes)
-    (given_more options inside after front left (drop n bytes) t t' so_far)
+pub front_replaced : (options : Replacement) (mid_word after : Bool) (bytes front left : List ℕ) (n : ℕ) (t t' : Option (List ℕ)) → HasReplaced options mid_word front left after t t' → front ≡ take n bytes
+    → HasReplaced options mid_word bytes (left ++ drop n bytes) after t t'
+front_replaced options mid_word after bytes front left n t t' so_far front_is =
+    subst (λ l. HasReplaced options mid_word l (left ++ drop n bytes) after t t') (ap (λ l. l ++ drop n bytes) front_is ∙ take-append-drop n bytes)
+    (given_more options mid_word after front left (drop n bytes) t t' so_far)
 
 -- a word was passed on
 pub word_passed : (options : Replacement) (word : List ℕ) (t t' : Option (List ℕ)) → All IsWordByte word → may_hold_symbol options.strip word ≡ false → Appends t t' word
@@ -231,15 +231,15 @@ word_passed options word t t' all plain writes =
     record { done = word; text = word; given_is = sym (append-nil word); leads = plain_leads options word all plain; written = writes }
 
 -- bytes that stay were written
-pub front_passed : (options : Replacement) (inside after : Bool) (bytes : List ℕ) (n : ℕ) (t t' : Option (List ℕ)) → Leads options inside (take n bytes) (take n bytes) after
-    → Appends t t' (take n bytes) → HasReplaced options inside bytes (drop n bytes) after t t'
-front_passed options inside after bytes n t t' leads writes =
+pub front_passed : (options : Replacement) (mid_word after : Bool) (bytes : List ℕ) (n : ℕ) (t t' : Option (List ℕ)) → Leads options mid_word (take n bytes) (take n bytes) after
+    → Appends t t' (take n bytes) → HasReplaced options mid_word bytes (drop n bytes) after t t'
+front_passed options mid_word after bytes n t t' leads writes =
     record { done = take n bytes; text = take n bytes; given_is = sym (take-append-drop n bytes); leads = leads; written = writes }
 
 -- a front of what the bytes lead to
-front_of : (options : Replacement) (inside after : Bool) (bytes text rest written : List ℕ) → Leads options inside bytes text after → IsFront written text
-    → (all : List ℕ) × IsReplacedIn options inside (bytes ++ rest) all × IsFront written all
-front_of options inside after bytes text rest written leads is_front =
+front_of : (options : Replacement) (mid_word after : Bool) (bytes text rest written : List ℕ) → Leads options mid_word bytes text after → IsFront written text
+    → (all : List ℕ) × IsReplacedIn options mid_word (bytes ++ rest) all × IsFront written all
+front_of options mid_word after bytes text rest written leads is_front =
     let found = replaced_in options after rest in (
       text ++ found.0,
       leads.goes rest found.0 found.1,
@@ -247,14 +247,14 @@ front_of options inside after bytes text rest written leads is_front =
     )
 
 -- a front of bytes that stay was written
-pub stay_front : (options : Replacement) (inside after : Bool) (bytes front : List ℕ) (n : ℕ) (t t' : Option (List ℕ)) → Leads options inside front front after → front ≡ take n bytes
-    → WritesFront front t t' → ReplacesFront options inside bytes t t'
-stay_front options inside after bytes front n t t' leads front_is (left, writes) rest =
+pub stay_front : (options : Replacement) (mid_word after : Bool) (bytes front : List ℕ) (n : ℕ) (t t' : Option (List ℕ)) → Leads options mid_word front front after → front ≡ take n bytes
+    → WritesFront front t t' → ReplacesFront options mid_word bytes t t'
+stay_front options mid_word after bytes front n t t' leads front_is (left, writes) rest =
     let whole : bytes ++ rest ≡ front ++ (drop n bytes ++ rest) =
     ap (λ l. l ++ rest) (sym (take-append-drop n bytes) ∙ ap (λ l. l ++ drop n bytes) (sym front_is)) ∙ append_assoc front (drop n bytes) rest in
-    let found = front_of options inside after front front (drop n bytes ++ rest) writes.front leads (left, writes.bytes_are) in (
+    let found = front_of options mid_word after front front (drop n bytes ++ rest) writes.front leads (left, writes.bytes_are) in (
       writes.front,
-      (found.0, subst (λ l. IsReplacedIn options inside l found.0) (sym whole) found.1, found.2),
+      (found.0, subst (λ l. IsReplacedIn options mid_word l found.0) (sym whole) found.1, found.2),
       writes.written,
     )
 
@@ -266,22 +266,22 @@ word_front options word t t' all plain writes rest =
     (front.front, found, front.written)
 
 -- a beginning of what was left
-begins_after : (options : Replacement) (inside mid : Bool) (given left rest : List ℕ) (t t' t'' : Option (List ℕ)) → HasReplaced options inside given left mid t t'
-    → ReplacesBeginning options mid (left ++ rest) t' t'' → ReplacesBeginning options inside (given ++ rest) t t''
-begins_after options inside mid given left rest t t' t'' so_far (written, (text, replaced, is_front), writes) = (
+begins_after : (options : Replacement) (mid_word mid : Bool) (given left rest : List ℕ) (t t' t'' : Option (List ℕ)) → HasReplaced options mid_word given left mid t t'
+    → ReplacesBeginning options mid (left ++ rest) t' t'' → ReplacesBeginning options mid_word (given ++ rest) t t''
+begins_after options mid_word mid given left rest t t' t'' so_far (written, (text, replaced, is_front), writes) = (
   so_far.text ++ written,
   (
     so_far.text ++ text,
-    subst (λ l. IsReplacedIn options inside l (so_far.text ++ text)) (sym (ap (λ l. l ++ rest) so_far.given_is ∙ append_assoc so_far.done left rest))
+    subst (λ l. IsReplacedIn options mid_word l (so_far.text ++ text)) (sym (ap (λ l. l ++ rest) so_far.given_is ∙ append_assoc so_far.done left rest))
         (so_far.leads.goes (left ++ rest) text replaced),
     (is_front.0, ap (λ l. so_far.text ++ l) is_front.1 ∙ sym (append_assoc so_far.text written is_front.0)),
   ),
   Appends-trans t t' t'' so_far.text written so_far.written writes,
 )
 
-pub front_after : (options : Replacement) (inside mid : Bool) (given left : List ℕ) (t t' t'' : Option (List ℕ)) → HasReplaced options inside given left mid t t'
-    → ReplacesFront options mid left t' t'' → ReplacesFront options inside given t t''
-front_after options inside mid given left t t' t'' so_far begins rest = begins_after options inside mid given left rest t t' t'' so_far (begins rest)
+pub front_after : (options : Replacement) (mid_word mid : Bool) (given left : List ℕ) (t t' t'' : Option (List ℕ)) → HasReplaced options mid_word given left mid t t'
+    → ReplacesFront options mid left t' t'' → ReplacesFront options mid_word given t t''
+front_after options mid_word mid given left t t' t'' so_far begins rest = begins_after options mid_word mid given left rest t t' t'' so_far (begins rest)
 
 -- a front of whole words, before other bytes
 pub words_front : (options : Replacement) (bytes words : List ℕ) (n : ℕ) (t t' : Option (List ℕ)) → WritesWholeFront (Words options) words t t' → words ≡ take n bytes
@@ -292,8 +292,8 @@ words_front options bytes words n t t' begins words_are rest =
     subst (λ l. ReplacesBeginning options false l t t') whole (begins (drop n bytes ++ rest))
 
 -- nothing is held back
-pub none_held : (options : Replacement) (word : List ℕ) → word ≡ [] → IsHeld options.strip word
-none_held options word word_is = subst (IsHeld options.strip) (sym word_is) (record { word = All-nil IsWordByte; may_hold = refl })
+pub no_word_kept : (options : Replacement) (word : List ℕ) → word ≡ [] → IsKept options.strip word
+no_word_kept options word word_is = subst (IsKept options.strip) (sym word_is) (record { word = All-nil IsWordByte; may_hold = refl })
 
 -- whole words were written of what was read
 pub whole_words : (options : Replacement) (read left : List ℕ) (s s' t t' : Option (List ℕ)) → Consumes s s' read → HasReplaced options false read left false t t'
@@ -314,36 +314,36 @@ whole_words options read left s s' t t' consumed replaced =
     }
 
 -- the replaced text of what was done
-done_replaced : (options : Replacement) (inside : Bool) (bytes text : List ℕ) → Leads options false bytes text inside → IsReplaced options bytes text
-done_replaced options inside bytes text leads =
+done_replaced : (options : Replacement) (mid_word : Bool) (bytes text : List ℕ) → Leads options false bytes text mid_word → IsReplaced options bytes text
+done_replaced options mid_word bytes text leads =
     subst (λ l. IsReplaced options l text) (append-nil bytes)
-    (subst (IsReplaced options (bytes ++ [])) (append-nil text) (leads.goes [] [] (nothing_in options inside)))
+    (subst (IsReplaced options (bytes ++ [])) (append-nil text) (leads.goes [] [] (nothing_in options mid_word)))
 
 -- what is held back begins a word
-held_begins : (inside : Bool) (done word : List ℕ) → (inside ≡ false → ends_word done ≡ false) → (inside ≡ true → word ≡ []) → ends_word done ≡ true → word ≡ []
+held_begins : (mid_word : Bool) (done word : List ℕ) → (mid_word ≡ false → ends_word done ≡ false) → (mid_word ≡ true → word ≡ []) → ends_word done ≡ true → word ≡ []
 held_begins true done word ended none ends = none refl
 held_begins false done word ended none ends = absurd (false≢true (sym (ended refl) ∙ ends))
 
 -- the source gave these bytes, and all were written but those held back
-pub all_but_held : (options : Replacement) (inside : Bool) (read word : List ℕ) (s s' t t' : Option (List ℕ)) → Consumes s s' read → HasReplaced options false read word inside t t'
-    → (inside ≡ true → word ≡ []) → IsHeld options.strip word → ReplacesAllButHeld options s s' t t'
-all_but_held options inside read word s s' t t' consumed replaced none held =
+pub all_but_kept : (options : Replacement) (mid_word : Bool) (read word : List ℕ) (s s' t t' : Option (List ℕ)) → Consumes s s' read → HasReplaced options false read word mid_word t t'
+    → (mid_word ≡ true → word ≡ []) → IsKept options.strip word → ReplacesAllButKept options s s' t t'
+all_but_kept options mid_word read word s s' t t' consumed replaced none kept =
     record {
       given = replaced.done;
-      held = word;
+      kept = word;
       consumed = subst (Consumes s s') replaced.given_is consumed;
-      is_held = held;
-      begins = held_begins inside replaced.done word replaced.leads.ended none;
+      is_kept = kept;
+      begins = held_begins mid_word replaced.done word replaced.leads.ended none;
       text = replaced.text;
-      replaced = done_replaced options inside replaced.done replaced.text replaced.leads;
+      replaced = done_replaced options mid_word replaced.done replaced.text replaced.leads;
       written = replaced.written;
     }
 
 -- what is written stays a beginning
-pub replaced_begun : (options : Replacement) (inside : Bool) (read word : List ℕ) (t t' : Option (List ℕ)) → HasReplaced options false read word inside t t'
+pub replaced_begun : (options : Replacement) (mid_word : Bool) (read word : List ℕ) (t t' : Option (List ℕ)) → HasReplaced options false read word mid_word t t'
     → WritesBeginning (Words options) read t t'
-replaced_begun options inside read word t t' replaced =
-    let found = replaced_in options inside word in (
+replaced_begun options mid_word read word t t' replaced =
+    let found = replaced_in options mid_word word in (
       replaced.text,
       (
         replaced.text ++ found.0,
@@ -354,33 +354,33 @@ replaced_begun options inside read word t t' replaced =
     )
 
 -- the last word was written too
-pub last_on : (options : Replacement) (inside : Bool) (read word : List ℕ) (t t' t'' : Option (List ℕ)) → HasReplaced options false read word inside t t'
-    → (inside ≡ true → word ≡ []) → WritesFiltered (Words options) word t' t'' → WritesFiltered (Words options) read t t''
-last_on options inside read word t t' t'' replaced none (text, is_replaced, writes) = (
+pub last_on : (options : Replacement) (mid_word : Bool) (read word : List ℕ) (t t' t'' : Option (List ℕ)) → HasReplaced options false read word mid_word t t'
+    → (mid_word ≡ true → word ≡ []) → WritesFiltered (Words options) word t' t'' → WritesFiltered (Words options) read t t''
+last_on options mid_word read word t t' t'' replaced none (text, is_replaced, writes) = (
   replaced.text ++ text,
   subst (λ l. IsReplaced options l (replaced.text ++ text)) (sym replaced.given_is)
-      (replaced.leads.goes word text (left_in options inside word text none is_replaced)),
+      (replaced.leads.goes word text (left_in options mid_word word text none is_replaced)),
   Appends-trans t t' t'' replaced.text text replaced.written writes,
 )
 
 -- a beginning of it was
-pub last_begun : (options : Replacement) (inside : Bool) (read word : List ℕ) (t t' t'' : Option (List ℕ)) → HasReplaced options false read word inside t t'
-    → (inside ≡ true → word ≡ []) → WritesBeginning (Words options) word t' t'' → WritesBeginning (Words options) read t t''
-last_begun options inside read word t t' t'' replaced none (written, (text, is_replaced, is_front), writes) = (
+pub last_begun : (options : Replacement) (mid_word : Bool) (read word : List ℕ) (t t' t'' : Option (List ℕ)) → HasReplaced options false read word mid_word t t'
+    → (mid_word ≡ true → word ≡ []) → WritesBeginning (Words options) word t' t'' → WritesBeginning (Words options) read t t''
+last_begun options mid_word read word t t' t'' replaced none (written, (text, is_replaced, is_front), writes) = (
   replaced.text ++ written,
   (
     replaced.text ++ text,
     subst (λ l. IsReplaced options l (replaced.text ++ text)) (sym replaced.given_is)
-        (replaced.leads.goes word text (left_in options inside word text none is_replaced)),
+        (replaced.leads.goes word text (left_in options mid_word word text none is_replaced)),
     (is_front.0, ap (λ l. replaced.text ++ l) is_front.1 ∙ sym (append_assoc replaced.text written is_front.0)),
   ),
   Appends-trans t t' t'' replaced.text written replaced.written writes,
 )
 
 -- nothing more was written
-pub replaced_kept : (options : Replacement) (inside after : Bool) (given left : List ℕ) (t t' t'' : Option (List ℕ)) → HasReplaced options inside given left after t t' → Keeps t' t''
-    → HasReplaced options inside given left after t t''
-replaced_kept options inside after given left t t' t'' replaced keeps =
+pub replaced_kept : (options : Replacement) (mid_word after : Bool) (given left : List ℕ) (t t' t'' : Option (List ℕ)) → HasReplaced options mid_word given left after t t' → Keeps t' t''
+    → HasReplaced options mid_word given left after t t''
+replaced_kept options mid_word after given left t t' t'' replaced keeps =
     record {
       done = replaced.done;
       text = replaced.text;

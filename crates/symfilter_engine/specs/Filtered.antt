@@ -5,8 +5,8 @@ use Rattle.symfilter_engine.specs.declared.symbols.Printing.{Printing}
 use Rattle.symfilter_engine.specs.declared.symbols.Replacement.{Replacement}
 use Rattle.symfilter_engine.specs.declared.symbols.Placement.{Placement}
 use Rattle.symfilter_engine.specs.declared.symbols.Placement.TheVariants.{Lines, Words}
-use Rattle.symfilter_engine.specs.Shown.{IsShown}
-use Rattle.symfilter_engine.specs.Replaced.{ends_word, IsHeld, IsReplaced}
+use Rattle.symfilter_engine.specs.Printed.{IsPrintedAs}
+use Rattle.symfilter_engine.specs.Replaced.{ends_word, IsKept, IsReplaced}
 
 -- the byte that ends a line
 abbrev pub line_feed : ℕ
@@ -19,9 +19,9 @@ HasNoLineFeed bytes = All (λ byte. byte ≢ line_feed) bytes
 -- a line without its line feed, and what is written for it
 pub data IsLineAnswer (printing : Printing) (line : List ℕ) : List ℕ → Type 0 where
   -- its demangled name, where it is UTF-8 and has one
-  answered : {text : List ℕ} → IsUtf8 line → IsShown printing line (Some text) → IsLineAnswer printing line text
+  answered : {text : List ℕ} → IsUtf8 line → IsPrintedAs printing line (Some text) → IsLineAnswer printing line text
   -- the line itself, where it has none
-  unanswered : IsUtf8 line → IsShown printing line None → IsLineAnswer printing line line
+  unanswered : IsUtf8 line → IsPrintedAs printing line None → IsLineAnswer printing line line
   -- the line itself, where it isn't UTF-8
   not_utf8 : ¬ (IsUtf8 line) → IsLineAnswer printing line line
 
@@ -112,14 +112,14 @@ pub record FiltersLines (placement : Placement)
 
 -- the source gave these bytes and then those that are held back, where its bytes are known, and the sink got the
 -- replaced text of the former and nothing else
-pub record ReplacesAllButHeld (options : Replacement)
+pub record ReplacesAllButKept (options : Replacement)
     (before after written_before written_after : Option (List ℕ)) : Type 0 where
   pub given : List ℕ
-  pub held : List ℕ
-  pub consumed : Consumes before after (given ++ held)
-  pub is_held : IsHeld options.strip held
+  pub kept : List ℕ
+  pub consumed : Consumes before after (given ++ kept)
+  pub is_kept : IsKept options.strip kept
   -- what is held back begins a word
-  pub begins : ends_word given ≡ true → held ≡ []
+  pub begins : ends_word given ≡ true → kept ≡ []
   pub text : List ℕ
   pub replaced : IsReplaced options given text
   pub written : Appends written_before written_after text

@@ -1,5 +1,5 @@
 pub mod Replaced
-pub mod Shown
+pub mod Printed
 pub mod Filtered
 pub mod Fault
 pub mod Progress

@@ -4,8 +4,8 @@ use Rattle.std.specs.Io.KnownBytes.{Appends, Consumes, IsAtEnd}
 use Rattle.symfilter_engine.specs.declared.symbols.Replacement.{Replacement}
 use Rattle.symfilter_engine.specs.declared.symbols.Placement.{Placement}
 use Rattle.symfilter_engine.specs.declared.symbols.Placement.TheVariants.{Lines, Words}
-use Rattle.symfilter_engine.specs.Filtered.{line_feed, HasNoLineFeed, AreWholeFiltered, IsFront, WritesBeginning, FiltersLines, ReplacesAllButHeld}
-use Rattle.symfilter_engine.specs.Replaced.{is_word_byte, IsWordByte, begins_word, ends_word, IsHeld, IsReplaced}
+use Rattle.symfilter_engine.specs.Filtered.{line_feed, HasNoLineFeed, AreWholeFiltered, IsFront, WritesBeginning, FiltersLines, ReplacesAllButKept}
+use Rattle.symfilter_engine.specs.Replaced.{is_word_byte, IsWordByte, begins_word, ends_word, IsKept, IsReplaced}
 
 -- no byte is this one
 abbrev pub HasNone : ℕ → List ℕ → Type 0
@@ -97,7 +97,7 @@ pub record ReadsMore (kept end : ℕ) (old new : List ℕ) (before after : Optio
   pub piece : List ℕ
   pub low : kept ≤ end
   pub inside : end ≤ length new
-  pub held : take end new ≡ take kept old ++ piece
+  pub chunk : take end new ≡ take kept old ++ piece
   pub consumed : Consumes before after piece
   pub ended : end ≡ kept → IsAtEnd after
 
@@ -117,74 +117,74 @@ abbrev pub IsReplacedIn : Replacement → Bool → List ℕ → List ℕ → Typ
 IsReplacedIn options true bytes text = GoesOn options bytes text
 IsReplacedIn options false bytes text = IsReplaced options bytes text
 
--- `text` is the replaced text of `bytes`. `inside`: the bytes begin inside a word without a symbol. `after`: such a
+-- `text` is the replaced text of `bytes`. `mid_word`: the bytes begin inside a word without a symbol. `after`: such a
 -- word continues after them.
-pub record Leads (options : Replacement) (inside : Bool) (bytes text : List ℕ) (after : Bool) : Type 0 where
+pub record Leads (options : Replacement) (mid_word : Bool) (bytes text : List ℕ) (after : Bool) : Type 0 where
   pub goes :
       (rest more : List ℕ)
       → IsReplacedIn options after rest more
-      → IsReplacedIn options inside (bytes ++ rest) (text ++ more)
+      → IsReplacedIn options mid_word (bytes ++ rest) (text ++ more)
   pub ended : after ≡ false → ends_word bytes ≡ false
-  pub none : after ≡ false → bytes ≡ [] → inside ≡ false
+  pub none : after ≡ false → bytes ≡ [] → mid_word ≡ false
 
--- The given bytes are `done ++ left`, and the replaced text of `done` was written. `inside` and `after` are those of
+-- The given bytes are `done ++ left`, and the replaced text of `done` was written. `mid_word` and `after` are those of
 -- `Leads`, for `done`.
-pub record HasReplaced (options : Replacement) (inside : Bool) (given left : List ℕ) (after : Bool)
+pub record HasReplaced (options : Replacement) (mid_word : Bool) (given left : List ℕ) (after : Bool)
     (before_written after_written : Option (List ℕ)) : Type 0 where
   pub done : List ℕ
   pub text : List ℕ
   pub given_is : given ≡ done ++ left
-  pub leads : Leads options inside done text after
+  pub leads : Leads options mid_word done text after
   pub written : Appends before_written after_written text
 
--- A beginning of the replaced text of the given bytes was written. `inside`: they begin inside a word without a symbol.
+-- A beginning of the replaced text of the given bytes was written. `mid_word`: they begin inside a word without a symbol.
 abbrev pub ReplacesBeginning : Replacement → Bool → List ℕ → Option (List ℕ) → Option (List ℕ) → Type 0
-ReplacesBeginning options inside given before after =
+ReplacesBeginning options mid_word given before after =
     (written : List ℕ)
-    × ((text : List ℕ) × IsReplacedIn options inside given text × IsFront written text)
+    × ((text : List ℕ) × IsReplacedIn options mid_word given text × IsFront written text)
     × Appends before after written
 
 -- For all bytes `rest` it holds that a beginning of the replaced text of `given ++ rest` was written.
 abbrev pub ReplacesFront : Replacement → Bool → List ℕ → Option (List ℕ) → Option (List ℕ) → Type 0
-ReplacesFront options inside given before after =
-    (rest : List ℕ) → ReplacesBeginning options inside (given ++ rest) before after
+ReplacesFront options mid_word given before after =
+    (rest : List ℕ) → ReplacesBeginning options mid_word (given ++ rest) before after
 
 -- Bytes that are kept for the next turn. In lines they have no line feed. In words they begin a word that may hold a
 -- symbol, or there are none.
 abbrev pub AreKept : Placement → List ℕ → Type 0
 AreKept (Lines printing) bytes = HasNoLineFeed bytes
-AreKept (Words options) bytes = IsHeld options.strip bytes
+AreKept (Words options) bytes = IsKept options.strip bytes
 
 -- The given bytes end in `left`, and the filtered text of those in front of `left` was written. In lines these are
--- whole lines, and `inside` and `after` say nothing. In words `inside` and `after` are those of `HasReplaced`.
+-- whole lines, and `mid_word` and `after` say nothing. In words `mid_word` and `after` are those of `HasReplaced`.
 abbrev pub HasWritten : Placement → Bool → List ℕ → List ℕ → Bool → Option (List ℕ) → Option (List ℕ) → Type 0
-HasWritten (Lines printing) inside given left after before_written after_written =
+HasWritten (Lines printing) mid_word given left after before_written after_written =
     HasFiltered (Lines printing) given left before_written after_written
-HasWritten (Words options) inside given left after before_written after_written =
-    HasReplaced options inside given left after before_written after_written
+HasWritten (Words options) mid_word given left after before_written after_written =
+    HasReplaced options mid_word given left after before_written after_written
 
 -- The given bytes begin with whole lines or words, and the filtered text of these was written, and nothing else.
 abbrev pub WritesSomeIn : Placement → Bool → List ℕ → Option (List ℕ) → Option (List ℕ) → Type 0
-WritesSomeIn placement inside given before after =
-    (left : List ℕ) × HasWritten placement inside given left false before after
+WritesSomeIn placement mid_word given before after =
+    (left : List ℕ) × HasWritten placement mid_word given left false before after
 
 -- For all bytes `rest` it holds that a beginning of the filtered text of `given ++ rest` was written.
 abbrev pub WritesFrontIn : Placement → Bool → List ℕ → Option (List ℕ) → Option (List ℕ) → Type 0
-WritesFrontIn (Lines printing) inside given before after = WritesWholeFront (Lines printing) given before after
-WritesFrontIn (Words options) inside given before after = ReplacesFront options inside given before after
+WritesFrontIn (Lines printing) mid_word given before after = WritesWholeFront (Lines printing) given before after
+WritesFrontIn (Words options) mid_word given before after = ReplacesFront options mid_word given before after
 
 -- The bytes `read` were read. They end in `left`, and the filtered text of those in front of `left` was written.
--- `inside`: a word without a symbol continues after the written bytes. Then `left` is empty.
-pub record HasCopied (placement : Placement) (inside : Bool) (left : List ℕ)
+-- `mid_word`: a word without a symbol continues after the written bytes. Then `left` is empty.
+pub record HasCopied (placement : Placement) (mid_word : Bool) (left : List ℕ)
     (before after written_before written_after : Option (List ℕ)) : Type 0 where
   pub read : List ℕ
   pub consumed : Consumes before after read
-  pub none : inside ≡ true → left ≡ []
-  pub written : HasWritten placement false read left inside written_before written_after
+  pub none : mid_word ≡ true → left ≡ []
+  pub written : HasWritten placement false read left mid_word written_before written_after
 
 -- The filtered text of all bytes that were read was written, except for the last ones, which may be kept (`AreKept`).
 abbrev pub WritesAllButKept : Placement → Option (List ℕ) → Option (List ℕ) → Option (List ℕ) → Option (List ℕ) → Type 0
 WritesAllButKept (Lines printing) before after written_before written_after =
     FiltersLines (Lines printing) before after written_before written_after
 WritesAllButKept (Words options) before after written_before written_after =
-    ReplacesAllButHeld options before after written_before written_after
+    ReplacesAllButKept options before after written_before written_after

@@ -2,7 +2,7 @@
 use Rattle.std.specs.Prelude.{◌≡◌, ◌≢◌, ℕ, List, [], ◌∷◌, ◌++◌, All, Bool, false, ◌&&◌, ◌||◌, Option, Some, None, IsTrue, is_some, nat_lt, codes, length, take, drop, if◌then◌else◌}
 use Rattle.itanium_syntax.specs.Bytes.{is, is_between, is_digit, one_of, begins, begins_one_of}
 use Rattle.symfilter_engine.specs.declared.symbols.Replacement.{Replacement}
-use Rattle.symfilter_engine.specs.Shown.{IsShown}
+use Rattle.symfilter_engine.specs.Printed.{IsPrintedAs}
 
 -- a byte of words: an ASCII letter, a digit, `_`, `$` or `.`
 abbrev pub is_word_byte : ℕ → Bool
@@ -61,12 +61,12 @@ pub data IsWordAnswer (options : Replacement) (word : List ℕ) : List ℕ → T
   -- its prefix characters stay, and its symbol has a demangled name
   answered : {symbol text : List ℕ}
       → symbol_in options.strip word ≡ Some symbol
-      → IsShown options.printing symbol (Some text)
+      → IsPrintedAs options.printing symbol (Some text)
       → IsWordAnswer options word (prefix_chars word ++ text)
   -- it stays, where its symbol has none
   unanswered : {symbol : List ℕ}
       → symbol_in options.strip word ≡ Some symbol
-      → IsShown options.printing symbol None
+      → IsPrintedAs options.printing symbol None
       → IsWordAnswer options word word
   -- it stays, where it has no symbol
   no_symbol : symbol_in options.strip word ≡ None → IsWordAnswer options word word
@@ -77,7 +77,7 @@ abbrev pub may_hold_symbol : Bool → List ℕ → Bool
 may_hold_symbol strip bytes = nat_lt (length bytes) 10 || is_some (symbol_in strip bytes)
 
 -- bytes that may be held back: they begin a word that may hold a symbol, or there are none
-pub record IsHeld (strip : Bool) (bytes : List ℕ) : Type 0 where
+pub record IsKept (strip : Bool) (bytes : List ℕ) : Type 0 where
   pub word : All IsWordByte bytes
   pub may_hold : IsTrue (may_hold_symbol strip bytes)
 

@@ -4,7 +4,7 @@ ghost use Rattle.symfilter_engine.specs.declared.symbols.Printing.TheVariants.{N
 ghost use Rattle.symfilter_engine.specs.declared.symbols.Placement.TheVariants.{Lines};
 ghost use Rattle.symfilter_engine.specs.Filtered.{FiltersFront, FiltersLines, FiltersWhole, WritesFiltered};
 
-use super::copying::copy;
+use super::chunks::filter_chunks;
 use super::fault::FilterFault;
 use super::streams::{Sink, Source};
 use super::symbols::{Placement, Printing};
@@ -45,7 +45,7 @@ pub fn filter<R: Source, W: Sink>(
     ensures memory { IsErrOf result FilterFault.Memory → FiltersWhole (Lines Names)
         (R.remaining source.old) (R.remaining source.new) (W.taken sink.old) (W.taken sink.new) }
 {
-    filter_by(alloc, Printing::Names, source, sink)
+    filter_with(alloc, Printing::Names, source, sink)
 }
 
 /// Reads to the end, and writes for each line what is printed for it as a symbol: its demangled name, or its
@@ -59,7 +59,7 @@ pub fn filter<R: Source, W: Sink>(
 /// beginning of the filtered text: after `Read` the text of all whole lines that were read, and after `Memory` that of
 /// some whole lines. After `Memory` the output ends right before the line whose allocation failed. The code does so;
 /// no clause says it.
-pub fn filter_by<R: Source, W: Sink>(
+pub fn filter_with<R: Source, W: Sink>(
     alloc: Global,
     printing: Printing,
     source: &mut R,
@@ -85,5 +85,5 @@ pub fn filter_by<R: Source, W: Sink>(
     ensures memory { IsErrOf result FilterFault.Memory → FiltersWhole (Lines printing)
         (R.remaining source.old) (R.remaining source.new) (W.taken sink.old) (W.taken sink.new) }
 {
-    copy(alloc, Placement::Lines(printing), source, sink)
+    filter_chunks(alloc, Placement::Lines(printing), source, sink)
 }

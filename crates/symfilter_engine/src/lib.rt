@@ -1,7 +1,7 @@
 //! The engine of the programs: copies text from a source to a sink, and demangles symbols on the way.
 //!
 //! `filter` takes each line as one symbol, and writes its name, or the line itself if it has none. A line that begins
-//! with a symbol is one: `_Z3foo at main.c` becomes `foo`. `filter_by` does the same, and prints either names or
+//! with a symbol is one: `_Z3foo at main.c` becomes `foo`. `filter_with` does the same, and prints either names or
 //! signatures. `replace` demangles each symbol in a word. Before each read, `filter` has written all whole lines.
 //! `replace` has written all but a last word that may hold a symbol.
 //!
@@ -13,10 +13,9 @@
 #![tactic(auto)]
 
 mod byte_search;
-mod copying;
+mod chunks;
 mod fault;
 mod filtering;
-mod lines;
 mod output;
 mod prefixes;
 mod replacing;
@@ -25,10 +24,11 @@ mod symbols;
 mod tally;
 mod word_bounds;
 mod words;
+mod writing;
 
 pub use fault::FilterFault;
-pub use filtering::{filter, filter_by};
+pub use filtering::{filter, filter_with};
 pub use replacing::replace;
 pub use streams::{Failed, Sink, Source};
-pub use symbols::{Printing, Replacement, prepare_shown};
+pub use symbols::{Printing, Replacement, prepare_for};
 pub use tally::Tally;

@@ -1,9 +1,9 @@
 //! The replacement of symbols in words.
 ghost use Rattle.std.specs.Prelude.{◌≡◌, ◌↔◌, false, [], IsTrue, IsErrOf, IfSome, Some, OnOk, OnErr};
 ghost use Rattle.symfilter_engine.specs.declared.symbols.Placement.TheVariants.{Words};
-ghost use Rattle.symfilter_engine.specs.Filtered.{FiltersFront, FiltersWhole, ReplacesAllButHeld, WritesFiltered};
+ghost use Rattle.symfilter_engine.specs.Filtered.{FiltersFront, FiltersWhole, ReplacesAllButKept, WritesFiltered};
 
-use super::copying::copy;
+use super::chunks::filter_chunks;
 use super::fault::FilterFault;
 use super::streams::{Sink, Source};
 use super::symbols::{Placement, Replacement};
@@ -40,11 +40,11 @@ pub fn replace<R: Source, W: Sink>(
         (R.remaining source.old) (R.remaining source.new) (W.taken sink.old) (W.taken sink.new)) }
     // Any call of the source may fail. All that the source gave is written before each call, except a word that may
     // hold a symbol.
-    ensures put { IsErrOf result FilterFault.Read → ReplacesAllButHeld options
+    ensures put { IsErrOf result FilterFault.Read → ReplacesAllButKept options
         (R.remaining source.old) (R.remaining source.new) (W.taken sink.old) (W.taken sink.new) }
     // After a failed allocation whole words have been written, and nothing of the next word.
     ensures memory { IsErrOf result FilterFault.Memory → FiltersWhole (Words options)
         (R.remaining source.old) (R.remaining source.new) (W.taken sink.old) (W.taken sink.new) }
 {
-    copy(alloc, Placement::Words(options), source, sink)
+    filter_chunks(alloc, Placement::Words(options), source, sink)
 }

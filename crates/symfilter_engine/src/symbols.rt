@@ -1,7 +1,7 @@
 //! Where symbols may be, and what is printed for them.
 ghost use Rattle.std.specs.Prelude.{◌≡◌, OnOk, OnErr};
-ghost use Rattle.itanium_demangle.specs.LastRun.{no_run};
-ghost use Rattle.symfilter_engine.specs.Shown.{IsShown};
+ghost use Rattle.itanium_demangle.specs.LastResult.{no_result};
+ghost use Rattle.symfilter_engine.specs.Printed.{IsPrintedAs};
 
 use itanium_demangle::Demangler;
 use std::alloc::{AllocError, Global};
@@ -37,14 +37,14 @@ pub(crate) enum Placement {
 /// Reads a symbol. Afterwards the demangler has the text that is printed for the symbol, or no text if the symbol is
 /// printed as it is. Returns an error if an allocation fails; then the demangler has no text.
 #[inline(always)]
-pub fn prepare_shown(
+pub fn prepare_for(
     alloc: Global,
     demangler: &mut Demangler,
     printing: Printing,
     symbol: &str,
 ) -> Result<(), AllocError>
-    ensures shown { OnOk result (IsShown printing symbol.now demangler.new.text) }
-    ensures err { OnErr result (demangler.new ≡ no_run) }
+    ensures printed { OnOk result (IsPrintedAs printing symbol.now demangler.new.text) }
+    ensures err { OnErr result (demangler.new ≡ no_result) }
 {
     match printing {
         Printing::Names => demangler.prepare(alloc, symbol)?,

@@ -106,16 +106,16 @@ pub(crate) fn word_end(text: &[u8], place: usize) -> usize
     word_end_from(text, at)
 }
 
-/// Returns the length in bytes up to the last byte that is no word byte, that byte included. The first `seen` bytes
+/// Returns the length in bytes up to the last byte that is no word byte, that byte included. The first `kept` bytes
 /// are all word bytes.
-pub(crate) fn whole_words_len(bytes: &[u8], seen: usize) -> usize
-    requires inside { seen ≤ length bytes.now }
-    requires before { All IsWordByte (take seen bytes.now) }
+pub(crate) fn whole_words_len(bytes: &[u8], kept: usize) -> usize
+    requires inside { kept ≤ length bytes.now }
+    requires before { All IsWordByte (take kept bytes.now) }
     ensures bound { result ≤ length bytes.now }
     ensures whole { ends_word (take result bytes.now) ≡ false }
     ensures word { All IsWordByte (drop result bytes.now) }
 {
-    for place in (seen..bytes.len()).rev() {
+    for place in (kept..bytes.len()).rev() {
         if !is_word_byte(bytes[place]) {
             return place + 1;
         }

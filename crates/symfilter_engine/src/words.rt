@@ -5,7 +5,7 @@ ghost use Rattle.symfilter_engine.specs.Replaced.{IsWordByte, IsDot, ends_in_dot
 ghost use Rattle.symfilter_engine.specs.Progress.{AppendsReplaced, Extends};
 
 use super::prefixes::first_prefix;
-use super::symbols::{Replacement, prepare_shown};
+use super::symbols::{Replacement, prepare_for};
 use super::word_bounds::{word_end, word_start};
 use growing_text::Text;
 use itanium_demangle::Demangler;
@@ -50,18 +50,18 @@ fn prefix_chars_len(word: &[u8]) -> usize
 #[inline(always)]
 fn symbol_in(strip: bool, word: &[u8]) -> Option<(usize, &[u8])>
     ensures bound { IfSome result (λ found. found.0 ≤ length word.now) }
-    ensures prefix_len { IfSome result (λ found. found.0 ≡ spec.prefix_chars_len word.now) }
+    ensures chars_len { IfSome result (λ found. found.0 ≡ spec.prefix_chars_len word.now) }
     ensures value { option_map (λ found. found.1.now) result ≡ spec.symbol_in strip word.now }
 {
     // Most words begin with their symbol.
     if let [b'_', b'Z', ..] = word {
         return Some((0, word));
     }
-    let prefix_len = prefix_chars_len(word);
-    let bytes = &word[prefix_len..];
+    let chars_len = prefix_chars_len(word);
+    let bytes = &word[chars_len..];
     match bytes {
-        [b'_', b'Z', ..] | [b'_', b'_', b'Z', ..] => Some((prefix_len, bytes)),
-        [b'_', b'_', b'_', b'Z', ..] if strip => Some((prefix_len, &bytes[1..])),
+        [b'_', b'Z', ..] | [b'_', b'_', b'Z', ..] => Some((chars_len, bytes)),
+        [b'_', b'_', b'_', b'Z', ..] if strip => Some((chars_len, &bytes[1..])),
         _ => None,
     }
 }
@@ -92,13 +92,13 @@ fn word_answer<'a>(
         IsWordAnswer options word.now (take answer.0 word.now ++ answer.1.now))) }
     ensures none { IfOk result (λ found. IfNone found (IsWordAnswer options word.now word.now)) }
 {
-    let Some((prefix_len, symbol)) = symbol_in(options.strip, word) else {
+    let Some((chars_len, symbol)) = symbol_in(options.strip, word) else {
         return Ok(None);
     };
     let symbol = unsafe { str::from_utf8_unchecked(symbol) };
-    prepare_shown(alloc, demangler, options.printing, symbol)?;
+    prepare_for(alloc, demangler, options.printing, symbol)?;
     match demangler.text() {
-        Some(answer) => Ok(Some((prefix_len, answer))),
+        Some(answer) => Ok(Some((chars_len, answer))),
         None => Ok(None),
     }
 }
@@ -125,8 +125,8 @@ fn append_each_word(
         from = (end + 1).min(text.len());
         let word = &text[start..end];
         let stem = stem_len(word);
-        if let Some((prefix_len, answer)) = word_answer(alloc, demangler, options, &word[..stem])? {
-            output.add_pair(&text[done..start + prefix_len], answer.as_bytes())?;
+        if let Some((chars_len, answer)) = word_answer(alloc, demangler, options, &word[..stem])? {
+            output.add_pair(&text[done..start + chars_len], answer.as_bytes())?;
             done = start + stem;
         }
     }

@@ -22,9 +22,9 @@ use Rattle.demangle_edit.specs.Built.{default_arg_opened, enclosed}
 use Rattle.itanium_syntax.specs.Scalars.{ordinal}
 use Rattle.itanium_syntax.specs.Encodings.{entity_case}
 use Rattle.itanium_grammar.specs.Cases.{DefaultArgumentEntity}
-use Rattle.itanium_reader.specs.Outcome.{state, Gives, GivesUnsaved}
+use Rattle.itanium_reader.specs.Outcome.{state, Gives, GivesCandidate}
 use Rattle.itanium_reader.specs.declared.stop.Stop.{Stop}
-use Rattle.itanium_reader.specs.declared.stop.Stop.TheVariants.{Unread, Memory}
+use Rattle.itanium_reader.specs.declared.stop.Stop.TheVariants.{Unreadable, Memory}
 use Rattle.itanium_reader.proofs.Unfold.{first_source_opens}
 use Rattle.itanium_syntax.specs.Names.{first_case}
 use Rattle.itanium_syntax.specs.Calls.{begins_source}
@@ -264,7 +264,7 @@ names::read_prefix-returns-in_err-read_source_segment-clause-reads t c =
     let args = spec.parse_args c.args.depth c.args.context true in
     let r = c.loop-reader.reader in
     let name = shape r.buffer.value r.found in
-    let case = source_segment type param args name (spec.save_if c.loop-reader.unsaved name (state r)) (search rules) in
+    let case = source_segment type param args name (spec.save_if c.loop-reader.candidate name (state r)) (search rules) in
     let f = c.from_residual-in_err-read_source_segment in
     let e = err_from_is_err_and f.result f.ensures.1 in
     rw (e.1, e.2) (stops _ _ (c.in_err-read_source_segment.ensures {u = tt}).reads
@@ -277,7 +277,7 @@ names::read_prefix-returns-in_err-check_width-clause-reads t c =
     let args = spec.parse_args c.args.depth c.args.context true in
     let r = c.loop-reader.reader in
     let name = shape r.buffer.value r.found in
-    let case = source_segment type param args name (spec.save_if c.loop-reader.unsaved name (state r)) (search rules) in
+    let case = source_segment type param args name (spec.save_if c.loop-reader.candidate name (state r)) (search rules) in
     let new = c.read_source_segment.new.self in
     let read = (c.in_ok-read_source_segment.ensures {u = tt}) in
     let f = c.from_residual-in_err-check_width in
@@ -292,7 +292,7 @@ names::read_prefix-loop-reader-preserved-then-begins_source t c =
     let args = spec.parse_args c.args.depth c.args.context true in
     let r = c.loop-reader.reader in
     let name = shape r.buffer.value r.found in
-    let case = source_segment type param args name (spec.save_if c.loop-reader.unsaved name (state r)) (search rules) in
+    let case = source_segment type param args name (spec.save_if c.loop-reader.candidate name (state r)) (search rules) in
     let new = c.read_source_segment.new.self in
     let read = (c.in_ok-read_source_segment.ensures {u = tt}) in
     let longer = length-append (saved new.buffer.value) (shape new.buffer.value new.found ∷ []) in
@@ -328,7 +328,7 @@ names::read_prefix-returns-in_err-read_template_args-in-ArgsSegment-clause-reads
     let args = spec.parse_args c.args.depth c.args.context true in
     let r = c.loop-reader.reader in
     let name = shape r.buffer.value r.found in
-    let s = spec.past_initializer (spec.save_if c.loop-reader.unsaved name (state r)) in
+    let s = spec.past_initializer (spec.save_if c.loop-reader.candidate name (state r)) in
     let f = c.from_residual-in_err-read_template_args-in-ArgsSegment in
     let e = err_from_is_err_and f.result f.ensures.1 in
     rw (e.1, e.2) (stops _ _ (c.in_err-read_template_args-in-ArgsSegment.ensures {u = tt}).reads
@@ -342,7 +342,7 @@ names::read_prefix-returns-in_err-read_segment-in-NameSegment-clause-reads t c =
     let args = spec.parse_args c.args.depth c.args.context true in
     let r = c.loop-reader.reader in
     let name = shape r.buffer.value r.found in
-    let s = spec.past_initializer (spec.save_if c.loop-reader.unsaved name (state r)) in
+    let s = spec.past_initializer (spec.save_if c.loop-reader.candidate name (state r)) in
     let f = c.from_residual-in_err-read_segment-in-NameSegment in
     let e = err_from_is_err_and f.result f.ensures.1 in
     rw (e.1, e.2) (stops _ _ (c.in_err-read_segment-in-NameSegment.ensures {u = tt}).reads
@@ -356,7 +356,7 @@ names::read_prefix-returns-in_err-check_width-2-clause-reads t c =
     let args = spec.parse_args c.args.depth c.args.context true in
     let r = c.loop-reader.reader in
     let name = shape r.buffer.value r.found in
-    let s = spec.past_initializer (spec.save_if c.loop-reader.unsaved name (state r)) in
+    let s = spec.past_initializer (spec.save_if c.loop-reader.candidate name (state r)) in
     let m = c.match-segment_case.reader in
     let later : IsLater (spec.parse_unqualified type param) args name s (Some (shape m.buffer.value m.found, state m)) = elim c.match-segment_case.branch [
       | names::read_prefix-in-ArgsSegment+in_ok-save_if-in-ArgsSegment+in_ok-read_template_args-in-ArgsSegment w ↦
@@ -376,7 +376,7 @@ names::read_prefix-loop-reader-preserved t c =
     let args = spec.parse_args c.args.depth c.args.context true in
     let r = c.loop-reader.reader in
     let name = shape r.buffer.value r.found in
-    let s = spec.past_initializer (spec.save_if c.loop-reader.unsaved name (state r)) in
+    let s = spec.past_initializer (spec.save_if c.loop-reader.candidate name (state r)) in
     let m = c.match-segment_case.reader in
     let later : IsLater (spec.parse_unqualified type param) args name s (Some (shape m.buffer.value m.found, state m)) = elim c.match-segment_case.branch [
       | names::read_prefix-in-ArgsSegment+in_ok-save_if-in-ArgsSegment+in_ok-read_template_args-in-ArgsSegment w ↦
@@ -539,7 +539,7 @@ specials::read_construction-returns-clause-reads t c =
       saved = saved pushed;
       scopes = scopes pushed;
       entered = one.entered;
-      most_saved = max one.most_noted (length (saved pushed));
+      most_saved = max one.recorded_peak (length (saved pushed));
     } ≡ spec.with_rest c.in-Some.rest.now (state one) = rw (saved_as, scopes_as) refl in
     let saved_end : saved joined_in ≡ saved b = cc (join.edit.lists.saved_same, c.deref_mut-2.ensures.value) in
     let scopes_end : scopes joined_in ≡ scopes b = cc (join.edit.lists.scopes_same, c.deref_mut-2.ensures.value) in
@@ -548,7 +548,7 @@ specials::read_construction-returns-clause-reads t c =
       saved = saved joined_in;
       scopes = scopes joined_in;
       entered = two.entered;
-      most_saved = max two.most_noted (length (saved joined_in));
+      most_saved = max two.recorded_peak (length (saved joined_in));
     } ≡ state two = rw (saved_end, scopes_end) refl in
     let offset : past_base_offset one.rest.now ≡ Some c.in-Some.rest.now = search rules in (
       join.shape.living,
@@ -568,8 +568,8 @@ first_tagged : (type param : spec.Parses Shape) (x : Context) (s : spec.ParserSt
 first_tagged type param x s begins read tags = first_source_opens type param x s begins ∙ rw (read, tags) refl
 
 -- a first segment isn't read where what it calls isn't
-first_stops : (after : Reader) {inner whole : Option (Shape × spec.ParserState)} (e : Stop) → Gives (Err e) after inner → (inner ≡ None → whole ≡ None) → GivesUnsaved (Err e) after whole
-first_stops after Unread none follows = follows none
+first_stops : (after : Reader) {inner whole : Option (Shape × spec.ParserState)} (e : Stop) → Gives (Err e) after inner → (inner ≡ None → whole ≡ None) → GivesCandidate (Err e) after whole
+first_stops after Unreadable none follows = follows none
 first_stops after Memory gives follows = tt
 
 pub names::read_first_segment-returns-in_err-read_tags-clause-reads : goal.names::read_first_segment-returns-in_err-read_tags-clause-reads
@@ -617,11 +617,11 @@ types::read_type-returns-in_err-read_substitution-in-SubstitutionType-clause-rea
 pub types::read_type-returns-in_err-read_type_attached-in-SubstitutionType-clause-reads : goal.types::read_type-returns-in_err-read_type_attached-in-SubstitutionType-clause-reads
 types::read_type-returns-in_err-read_type_attached-in-SubstitutionType-clause-reads t c = grind (arith, types)
 
-pub types::read_type-returns-in_err-read_template_param-in-ParameterType-clause-reads : goal.types::read_type-returns-in_err-read_template_param-in-ParameterType-clause-reads
-types::read_type-returns-in_err-read_template_param-in-ParameterType-clause-reads t c = grind (arith, types)
+pub types::read_type-returns-in_err-read_template_param-in-TemplateParamType-clause-reads : goal.types::read_type-returns-in_err-read_template_param-in-TemplateParamType-clause-reads
+types::read_type-returns-in_err-read_template_param-in-TemplateParamType-clause-reads t c = grind (arith, types)
 
-pub types::read_type-returns-in_err-read_type_attached-in-ParameterType-clause-reads : goal.types::read_type-returns-in_err-read_type_attached-in-ParameterType-clause-reads
-types::read_type-returns-in_err-read_type_attached-in-ParameterType-clause-reads t c = grind (arith, types)
+pub types::read_type-returns-in_err-read_type_attached-in-TemplateParamType-clause-reads : goal.types::read_type-returns-in_err-read_type_attached-in-TemplateParamType-clause-reads
+types::read_type-returns-in_err-read_type_attached-in-TemplateParamType-clause-reads t c = grind (arith, types)
 
 pub types::read_type-returns-in_err-read_pointer-in-PointerType-clause-reads : goal.types::read_type-returns-in_err-read_pointer-in-PointerType-clause-reads
 types::read_type-returns-in_err-read_pointer-in-PointerType-clause-reads t c = grind (arith, types)
@@ -635,8 +635,8 @@ types::read_type-returns-in_err-read_function_type-in-FunctionType-clause-reads 
 pub types::read_type-returns-in_err-read_array_type-in-ArrayType-clause-reads : goal.types::read_type-returns-in_err-read_array_type-in-ArrayType-clause-reads
 types::read_type-returns-in_err-read_array_type-in-ArrayType-clause-reads t c = grind (arith, types)
 
-pub types::read_type-returns-in_err-read_pointer_to_member_type-in-MemberType-clause-reads : goal.types::read_type-returns-in_err-read_pointer_to_member_type-in-MemberType-clause-reads
-types::read_type-returns-in_err-read_pointer_to_member_type-in-MemberType-clause-reads t c = grind (arith, types)
+pub types::read_type-returns-in_err-read_pointer_to_member_type-in-PointerToMemberType-clause-reads : goal.types::read_type-returns-in_err-read_pointer_to_member_type-in-PointerToMemberType-clause-reads
+types::read_type-returns-in_err-read_pointer_to_member_type-in-PointerToMemberType-clause-reads t c = grind (arith, types)
 
 pub types::read_type-returns-in_err-read_expansion-in-ExpansionType-clause-reads : goal.types::read_type-returns-in_err-read_expansion-in-ExpansionType-clause-reads
 types::read_type-returns-in_err-read_expansion-in-ExpansionType-clause-reads t c = grind (arith, types)
@@ -647,8 +647,8 @@ types::read_type-returns-in_err-read_elaborated-in-ElaboratedType-clause-reads t
 pub types::read_type-returns-in_err-read_vendor_type-in-VendorType-clause-reads : goal.types::read_type-returns-in_err-read_vendor_type-in-VendorType-clause-reads
 types::read_type-returns-in_err-read_vendor_type-in-VendorType-clause-reads t c = grind (arith, types)
 
-pub types::read_type-returns-in-UnreadType-clause-reads : goal.types::read_type-returns-in-UnreadType-clause-reads
-types::read_type-returns-in-UnreadType-clause-reads t c = grind (arith, types)
+pub types::read_type-returns-in-UnreadableType-clause-reads : goal.types::read_type-returns-in-UnreadableType-clause-reads
+types::read_type-returns-in-UnreadableType-clause-reads t c = grind (arith, types)
 
 pub types::read_type-returns-clause-reads : goal.types::read_type-returns-clause-reads
 types::read_type-returns-clause-reads t c = grind (arith, types)
@@ -662,8 +662,8 @@ names::framed_name-returns-clause-kept t c = grind (arith, common_steps)
 pub names::read_first_segment-returns-in_err-read_source_name-clause-reads : goal.names::read_first_segment-returns-in_err-read_source_name-clause-reads
 names::read_first_segment-returns-in_err-read_source_name-clause-reads t c = grind (arith, first_segments)
 
-pub names::read_first_segment-returns-in_ok-copy_found-in-ParameterFirst-clause-run : goal.names::read_first_segment-returns-in_ok-copy_found-in-ParameterFirst-clause-run
-names::read_first_segment-returns-in_ok-copy_found-in-ParameterFirst-clause-run t c = grind (arith, common_steps)
+pub names::read_first_segment-returns-in_ok-copy_found_to_end-in-TemplateParamFirst-clause-run : goal.names::read_first_segment-returns-in_ok-copy_found_to_end-in-TemplateParamFirst-clause-run
+names::read_first_segment-returns-in_ok-copy_found_to_end-in-TemplateParamFirst-clause-run t c = grind (arith, common_steps)
 
 pub names::read_first_segment-returns-in_ok-reader-in-StdFirst-clause-last : goal.names::read_first_segment-returns-in_ok-reader-in-StdFirst-clause-last
 names::read_first_segment-returns-in_ok-reader-in-StdFirst-clause-last t c = grind (arith, first_segments)

@@ -97,20 +97,20 @@ decreases-names::read_prefix l = prefix l.depth
 
 -- What was found, and the state once it is saved, where it isn't saved yet.
 abbrev saved_so_far : Bool → Reader → spec.ParserState
-saved_so_far unsaved r = spec.save_if unsaved (shape r.buffer.value r.found) (state r)
+saved_so_far candidate r = spec.save_if candidate (shape r.buffer.value r.found) (state r)
 
 abbrev pub invariant-names::read_prefix-loop-reader : goal.invariant-names::read_prefix-loop-reader
 invariant-names::read_prefix-loop-reader l = record {
   reads : LoopSoFar (spec.parse_after_quals (spec.unqualified_name l.depth l.context)
       (spec.parse_args l.depth l.context true) l.context (state l.fn.reader))
       (spec.segment_turn (spec.unqualified_name l.depth l.context) (spec.parse_args l.depth l.context true))
-      (l.unsaved, shape l.reader.buffer.value l.reader.found) (spec.past_initializer (saved_so_far l.unsaved l.reader));
+      (l.candidate, shape l.reader.buffer.value l.reader.found) (spec.past_initializer (saved_so_far l.candidate l.reader));
   living : IsLiving l.reader.buffer.value l.reader.found;
   last : IsLast l.reader.buffer.value l.reader.found;
   run : IsRun l.fn.reader.buffer.value l.reader.buffer.value;
   cost : CostBounds 1 1 (state l.fn.reader) (state l.reader);
-  list : length (saved_so_far l.unsaved l.reader).saved + length l.reader.rest.now ≤ length (saved l.fn.reader.buffer.value) + length l.fn.reader.rest.now;
-  most : (saved_so_far l.unsaved l.reader).most_saved ≤ max (state l.fn.reader).most_saved (length (saved l.fn.reader.buffer.value) + length l.fn.reader.rest.now);
+  list : length (saved_so_far l.candidate l.reader).saved + length l.reader.rest.now ≤ length (saved l.fn.reader.buffer.value) + length l.fn.reader.rest.now;
+  most : (saved_so_far l.candidate l.reader).most_saved ≤ max (state l.fn.reader).most_saved (length (saved l.fn.reader.buffer.value) + length l.fn.reader.rest.now);
 }
 
 abbrev pub decreases-names::read_prefix-loop-reader : goal.decreases-names::read_prefix-loop-reader

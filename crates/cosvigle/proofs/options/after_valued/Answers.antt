@@ -11,7 +11,7 @@ returns-in-Value c =
     record {
       value =
           c.after_format.ensures.value ∙ ap (after_format c.in-Value.next) (take_rest bytes (len + 1))
-          ∙ sym (valued_value c.args.flags c.in-Value.next c.args.letter len bytes c.if-len-bytes.false (sym c.after_letter-step.ensures.value ∙ c.in-Value.is));
+          ∙ sym (valued_value c.args.flags c.in-Value.next c.args.letter len bytes c.if-len-bytes.false (sym c.after_letter-state.ensures.value ∙ c.in-Value.is));
     }
 
 pub returns-in_default : goal.returns-in_default
@@ -19,5 +19,5 @@ returns-in_default c =
     record {
       value =
           sym (valued_none c.args.flags c.args.letter c.args.len c.args.bytes.now c.if-len-bytes.false
-          (λ next is. c.in_default.not-Value next (c.after_letter-step.ensures.value ∙ is)));
+          (λ next is. c.in_default.not-Value next (c.after_letter-state.ensures.value ∙ is)));
     }

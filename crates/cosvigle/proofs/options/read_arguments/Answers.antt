@@ -1,8 +1,8 @@
 use Rattle.std.proofs.Common.{◌+◌, ◌<◌, length, drop, get_or, [], refl, sym, subst, ◌∙◌, arith}
 use Rattle.std.proofs.lemmas.List.{take_rest}
 use Rattle.cosvigle.specs.declared.options.Kind.TheVariants.{End, Name, Letters, Symbol}
-use Rattle.cosvigle.specs.declared.options.Asked.TheVariants.{Symbols, Stopped}
-use Rattle.cosvigle.specs.Options.{Asks, texts}
+use Rattle.cosvigle.specs.declared.options.Request.TheVariants.{Symbols, Stopped}
+use Rattle.cosvigle.specs.Options.{IsRequestAfter, texts}
 use Rattle.cosvigle.proofs.Turns.{value_turn, go_turn, stop_turn, read_ended, next_symbol, symbols_after}
 use Rattle.cosvigle.proofs.options.read_arguments.Goals as goal
 use Rattle.cosvigle.proofs.options.read_arguments.Goals.{in-Name, in-Letters, in-Symbol+in_ok-push-in-Symbol}
@@ -12,7 +12,7 @@ loop-at-preserved-in-Value c =
     let all = c.args.arguments.now in
     let at = c.loop-at.at in
     let inside : at < length all = omega arith in
-    value_turn all at _ _ c.loop-at.step c.after_format-step.result c.in-Value.flags _ _ inside c.in-Value.is c.after_format-step.ensures.value c.loop-at.invariant
+    value_turn all at _ _ c.loop-at.state c.after_format-state.result c.in-Value.flags _ _ inside c.in-Value.is c.after_format-state.ensures.value c.loop-at.invariant
 
 pub returns-in-Stop : goal.returns-in-Stop
 returns-in-Stop c =
@@ -21,8 +21,8 @@ returns-in-Stop c =
     let inside : at < length all = omega arith in
     record {
       asked =
-          subst (λ s. Asks s (Stopped c.in-Stop.stop c.loop-at.word))
-          (sym (stop_turn all at record { ref_ptr = (0, 0); now = [] } _ c.loop-at.step c.in-Stop.stop _ _ inside c.in-Stop.is c.loop-at.invariant)) (refl, refl);
+          subst (λ s. IsRequestAfter s (Stopped c.in-Stop.stop c.loop-at.last))
+          (sym (stop_turn all at record { ref_ptr = (0, 0); now = [] } _ c.loop-at.state c.in-Stop.stop _ _ inside c.in-Stop.is c.loop-at.invariant)) (refl, refl);
     }
 
 pub returns-in-End : goal.returns-in-End
@@ -30,11 +30,11 @@ returns-in-End c =
     let all = c.args.arguments.now in
     let at = c.loop-at.at in
     let inside : at < length all = omega arith in
-    let read_all = go_turn all at _ _ c.loop-at.step c.in-Go.flags _ _ End inside c.in-Go.is (sym c.kind_of.ensures.value ∙ c.in-End.is) c.loop-at.invariant
+    let read_all = go_turn all at _ _ c.loop-at.state c.in-Go.flags _ _ End inside c.in-Go.is (sym c.kind_of.ensures.value ∙ c.in-End.is) c.loop-at.invariant
     ∙ read_ended c.in-Go.flags (texts c.loop-at.symbols.items) (drop (at + 1) (texts all)) in
     record {
       asked =
-          subst (λ s. Asks s (Symbols c.in-Go.flags c.extend_from_slice.new.self)) (sym read_all)
+          subst (λ s. IsRequestAfter s (Symbols c.in-Go.flags c.extend_from_slice.new.self)) (sym read_all)
           (refl, symbols_after c.loop-at.symbols.items c.extend_from_slice.new.self.items all (at + 1) c.in_ok-extend_from_slice-in-End.ensures.items);
     }
 
@@ -46,12 +46,12 @@ loop-at-preserved c =
     let says = sym c.kind_of.ensures.value in
     elim c.match-kind_of.branch [
       | in-Name w ↦
-          rw (w.step-is, w.symbols-is, w.word-is, w.after_name-step.ensures.value, take_rest (get_or all at record { ref_ptr = (0, 0); now = [] }).now 2)
-          (go_turn all at _ _ c.loop-at.step c.in-Go.flags _ _ Name inside c.in-Go.is (says ∙ w.in-Name.is) c.loop-at.invariant)
+          rw (w.state-is, w.symbols-is, w.last-is, w.after_name-state.ensures.value, take_rest (get_or all at record { ref_ptr = (0, 0); now = [] }).now 2)
+          (go_turn all at _ _ c.loop-at.state c.in-Go.flags _ _ Name inside c.in-Go.is (says ∙ w.in-Name.is) c.loop-at.invariant)
       | in-Letters w ↦
-          rw (w.step-is, w.symbols-is, w.word-is, w.after_letters-step.ensures.value)
-          (go_turn all at _ _ c.loop-at.step c.in-Go.flags _ _ Letters inside c.in-Go.is (says ∙ w.in-Letters.is) c.loop-at.invariant)
+          rw (w.state-is, w.symbols-is, w.last-is, w.after_letters-state.ensures.value)
+          (go_turn all at _ _ c.loop-at.state c.in-Go.flags _ _ Letters inside c.in-Go.is (says ∙ w.in-Letters.is) c.loop-at.invariant)
       | in-Symbol+in_ok-push-in-Symbol w ↦
-          rw (w.step-is, w.symbols-is, w.word-is, next_symbol _ _ _ w.in_ok-push-in-Symbol.ensures.items)
-          (go_turn all at _ _ c.loop-at.step c.in-Go.flags _ _ Symbol inside c.in-Go.is (says ∙ w.in-Symbol.is) c.loop-at.invariant)
+          rw (w.state-is, w.symbols-is, w.last-is, next_symbol _ _ _ w.in_ok-push-in-Symbol.ensures.items)
+          (go_turn all at _ _ c.loop-at.state c.in-Go.flags _ _ Symbol inside c.in-Go.is (says ∙ w.in-Symbol.is) c.loop-at.invariant)
     ]

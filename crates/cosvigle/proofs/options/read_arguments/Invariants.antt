@@ -5,4 +5,4 @@ use Rattle.cosvigle.proofs.options.read_arguments.Given as goal
 
 abbrev pub invariant-loop-at : goal.invariant-loop-at
 invariant-loop-at l =
-    read (reading (Go no_flags) [] []) (texts l.arguments) ≡ read (reading l.step (texts l.symbols.items) l.word) (drop l.at (texts l.arguments))
+    read (reading (Go no_flags) [] []) (texts l.arguments) ≡ read (reading l.state (texts l.symbols.items) l.last) (drop l.at (texts l.arguments))

@@ -1,6 +1,6 @@
 use Rattle.std.proofs.Common.{ℕ, List, ◌++◌, codes, ap, ◌∙◌, subst, IfOk}
 use Rattle.demangle_quals.specs.Quals.{words_text}
-use Rattle.demangle_text.specs.declared.shape.Place.TheVariants.{End}
+use Rattle.demangle_text.specs.declared.pieces.Place.TheVariants.{End}
 use Rattle.demangle_text.specs.Shape.{Shape, appended}
 use Rattle.demangle_text.specs.State.{shape, Lives}
 use Rattle.demangle_edit.proofs.Insertions.{inserted_thrice}

@@ -2,7 +2,7 @@ use Rattle.std.proofs.Common.{arith}
 use Rattle.std.proofs.lemmas.Grind.{common_steps}
 use Rattle.std.proofs.Common.{rules, true, List, [], map, ap, ◌∙◌, refl, subst, IfOk}
 use Rattle.std.proofs.lemmas.List.{take_all}
-use Rattle.demangle_text.specs.declared.shape.Piece.{Piece}
+use Rattle.demangle_text.specs.declared.pieces.Piece.{Piece}
 use Rattle.demangle_text.specs.Shape.{Shape, plain_shape, whole_shape}
 use Rattle.demangle_text.specs.State.{shape, Lives}
 use Rattle.demangle_text.proofs.Laws.{Opens-edit, Appends-close}

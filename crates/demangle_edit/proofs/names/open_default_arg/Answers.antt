@@ -1,6 +1,6 @@
 use Rattle.std.proofs.Common.{codes, decimal, ap, ◌∙◌, subst, IfOk}
 use Rattle.std.proofs.lemmas.Result.{IfOk-weaker}
-use Rattle.demangle_text.specs.declared.shape.Place.TheVariants.{End}
+use Rattle.demangle_text.specs.declared.pieces.Place.TheVariants.{End}
 use Rattle.demangle_text.specs.Shape.{Shape, appended, flattened}
 use Rattle.demangle_text.specs.State.{shape, Lives}
 use Rattle.demangle_text.proofs.Laws.{IsEdit-trans, StaysInPlace-edit, StaysInPlace-trans, StaysInPlace-of}

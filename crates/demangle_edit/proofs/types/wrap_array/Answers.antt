@@ -1,6 +1,6 @@
 -- A dimension goes in front of the other dimensions of an array without a group.
 use Rattle.std.proofs.Common.{rules, ◌≡◌, ◌+◌, ◌-◌, false, min, Some, sym, ◌∙◌, arith, is_some}
-use Rattle.demangle_text.specs.declared.shape.Kind.TheVariants.{Array}
+use Rattle.demangle_text.specs.declared.pieces.Kind.TheVariants.{Array}
 use Rattle.demangle_text.specs.Calls.{after_of, kind_of, group_of}
 use Rattle.demangle_text.specs.State.{shape}
 use Rattle.demangle_edit.proofs.Arrays.{outer_shape, outer_found}

@@ -1,5 +1,5 @@
 use Rattle.std.proofs.Common.{rules, ◌≡◌, ◌++◌, ◌-◌, ℕ, List, Some, None, codes, ap, ◌∙◌, refl}
-use Rattle.demangle_text.specs.declared.shape.Kind.TheVariants.{Function}
+use Rattle.demangle_text.specs.declared.pieces.Kind.TheVariants.{Function}
 use Rattle.demangle_text.specs.Shape.{text, text_len, plain_shape, gap_after}
 use Rattle.demangle_text.specs.Calls.{front_text, kind_of}
 use Rattle.demangle_text.specs.State.{shape}

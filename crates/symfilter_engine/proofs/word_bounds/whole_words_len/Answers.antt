@@ -11,7 +11,7 @@ use Rattle.symfilter_engine.proofs.word_bounds.whole_words_len.Goals as goal
 pub returns-clause-word : goal.returns-clause-word
 returns-clause-word c =
     let bytes = c.args.bytes.now in
-    All-same IsWordByte _ _ (sym (take-append-drop c.args.seen bytes)) (All-append IsWordByte _ _ c.requires.before
+    All-same IsWordByte _ _ (sym (take-append-drop c.args.kept bytes)) (All-append IsWordByte _ _ c.requires.before
     (subst (λ n. All IsWordByte (drop n bytes)) (omega arith) c.loop-place.invariant.word))
 
 pub returns-then-not-is_word_byte-clause-whole : goal.returns-then-not-is_word_byte-clause-whole

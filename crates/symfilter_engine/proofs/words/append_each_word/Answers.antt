@@ -31,17 +31,17 @@ loop-more-preserved-in-Some-2 c =
     let end = c.word_end-end.result in
     let word = part text start end in
     let stem = c.stem_len-stem.result in
-    let front = c.in-Some-2.prefix_len in
+    let front = c.in-Some-2.chars_len in
     let answer = c.as_bytes.result.now in
     let all = word_slice text start end (omega arith) c.word_end-end.ensures.high
     (words_joined text start (c.loop-more.from + c.in-Some.more) end c.word_start-start.ensures.word c.word_end-end.ensures.word) in
     let some = some_word text c.loop-more.from c.in-Some.more end c.in-Some.ensures.found c.word_end-end.ensures.low c.word_end-end.ensures.ended in
     let stem_in : start + stem ≤ end = omega (arith, c.stem_len-stem.ensures.bound, part_len text start end c.word_end-end.ensures.high) in
     let front_in : front ≤ stem =
-    omega (arith, subst (λ found. IfSome found (λ a. a.0 ≤ length (take stem word))) c.in-Some-2.is c.in_ok-prefix_len.ensures.bound, length-take-le stem word c.stem_len-stem.ensures.bound) in
+    omega (arith, subst (λ found. IfSome found (λ a. a.0 ≤ length (take stem word))) c.in-Some-2.is c.in_ok-chars_len.ensures.bound, length-take-le stem word c.stem_len-stem.ensures.bound) in
     let is_answer : IsWordAnswer c.args.options (take stem word) (take front (take stem word) ++ answer) =
     subst (λ l. IsWordAnswer c.args.options (take stem word) (take front (take stem word) ++ l)) (sym c.as_bytes.ensures.value)
-    (subst (λ found. IfSome found (λ a. IsWordAnswer c.args.options (take stem word) (take a.0 (take stem word) ++ a.1.now))) c.in-Some-2.is c.in_ok-prefix_len.ensures.some) in
+    (subst (λ found. IfSome found (λ a. IsWordAnswer c.args.options (take stem word) (take a.0 (take stem word) ++ a.1.now))) c.in-Some-2.is c.in_ok-chars_len.ensures.some) in
     let past_is : c.min-from.result ≡ min (end + 1) (length text) = omega (arith, c.min-from.ensures) in
     record {
       ordered = omega (arith, stem_in, past_is, c.word_end-end.ensures.high);
@@ -67,7 +67,7 @@ loop-more-preserved c =
     (words_joined text start (c.loop-more.from + c.in-Some.more) end c.word_start-start.ensures.word c.word_end-end.ensures.word) in
     let some = some_word text c.loop-more.from c.in-Some.more end c.in-Some.ensures.found c.word_end-end.ensures.low c.word_end-end.ensures.ended in
     let is_answer : IsWordAnswer c.args.options (take stem word) (take stem word) =
-    subst (λ found. IfNone found (IsWordAnswer c.args.options (take stem word) (take stem word))) c.in_default-2.is c.in_ok-prefix_len.ensures.none in
+    subst (λ found. IfNone found (IsWordAnswer c.args.options (take stem word) (take stem word))) c.in_default-2.is c.in_ok-chars_len.ensures.none in
     let past_is : c.min-from.result ≡ min (end + 1) (length text) = omega (arith, c.min-from.ensures) in
     let kept : c.loop-more.done ≤ end = omega (arith, c.loop-more.invariant.ordered, c.word_end-end.ensures.low) in
     record {

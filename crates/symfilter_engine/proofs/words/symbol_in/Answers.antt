@@ -8,7 +8,7 @@ use Rattle.symfilter_engine.proofs.words.symbol_in.Goals.{in_default-bytes-via-t
 pub returns-in_default-bytes-clause-value : goal.returns-in_default-bytes-clause-value
 returns-in_default-bytes-clause-value c =
     let word = c.args.word.now in
-    let front = c.prefix_chars_len-prefix_len.result in
+    let front = c.prefix_chars_len-chars_len.result in
     let none : None ≡ spec.symbol_at c.args.strip (take (length word - front) (drop front word)) =
     elim c.in_default-bytes.branch [
       | in_default-bytes-via-then-bytes-lt2 w ↦ search rules
@@ -23,4 +23,4 @@ returns-in_default-bytes-clause-value c =
       | in_default-bytes-via-else-bytes-lt2+else-bytes-lt3+else-bytes-lt4+in-95+in_default-1 w ↦ grind (arith, common_steps)
       | in_default-bytes-via-else-bytes-lt2+else-bytes-lt3+else-bytes-lt4+in_default-1 w ↦ grind (arith, common_steps)
     ] in
-    none ∙ ap (spec.symbol_at c.args.strip) (take_rest word front) ∙ ap (λ n. spec.symbol_at c.args.strip (drop n word)) c.prefix_chars_len-prefix_len.ensures.value
+    none ∙ ap (spec.symbol_at c.args.strip) (take_rest word front) ∙ ap (λ n. spec.symbol_at c.args.strip (drop n word)) c.prefix_chars_len-chars_len.ensures.value

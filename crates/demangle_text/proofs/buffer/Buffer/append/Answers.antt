@@ -2,7 +2,7 @@
 use Rattle.demangle_text.proofs.States.{states, internals, on_err_from}
 use Rattle.std.proofs.lemmas.Grind.{common_steps}
 use Rattle.std.proofs.Common.{◌≡◌, ◌-◌, ◌++◌, ℕ, OnOk, OnErr, length, refl, sym, ap, ◌∙◌, subst, arith}
-use Rattle.demangle_text.specs.declared.shape.Place.TheVariants.{End}
+use Rattle.demangle_text.specs.declared.pieces.Place.TheVariants.{End}
 use Rattle.demangle_text.specs.Pieces.{IsAt, outline_of, own_at}
 use Rattle.demangle_text.specs.Shape.{moved}
 use Rattle.demangle_text.specs.View.{store_of}
@@ -13,7 +13,7 @@ use Rattle.demangle_text.proofs.buffer.Buffer.append.Goals as goal
 pub returns-in_err-truncated_on_err-clause-err : goal.returns-in_err-truncated_on_err-clause-err
 returns-in_err-truncated_on_err-clause-err c =
     let s = store_of c.self.inside in
-    let mid = c.at_end.new.output in
+    let mid = c.ensure_at_end.new.output in
     let done = c.add-added.new.self in
     let failed : done ≡ mid = subst (λ r. OnErr r (done ≡ mid)) (sym c.in_err-truncated_on_err.ensures.same) c.add-added.ensures.err in
     on_err_from c.from_residual-in_err-truncated_on_err.result (rw (← c.self.view_is)
@@ -21,7 +21,7 @@ returns-in_err-truncated_on_err-clause-err c =
 
 pub invariant_of-self-2 : goal.invariant_of-self-2
 invariant_of-self-2 c =
-    let mid = c.at_end.new.output in
+    let mid = c.ensure_at_end.new.output in
     let more = c.args.bytes.now in
     let done = c.add-added.new.self in
     let is = c.in_ok-truncated_on_err.ensures.ok ∙ subst (λ r. OnOk r (done ≡ mid ++ more)) (sym c.in_ok-truncated_on_err.ensures.same) c.add-added.ensures.ok in
@@ -29,7 +29,7 @@ invariant_of-self-2 c =
 
 pub returns-clause-edit : goal.returns-clause-edit
 returns-clause-edit c =
-    let mid = c.at_end.new.output in
+    let mid = c.ensure_at_end.new.output in
     let more = c.args.bytes.now in
     let done = c.add-added.new.self in
     let is = c.in_ok-truncated_on_err.ensures.ok ∙ subst (λ r. OnOk r (done ≡ mid ++ more)) (sym c.in_ok-truncated_on_err.ensures.same) c.add-added.ensures.ok in
@@ -41,7 +41,7 @@ with_bytes-requires-clause-own_fits c =
     let s = store_of c.self.inside in
     let p = c.args.piece in
     let done = c.add-added.new.self in
-    let added = subst (λ r. OnOk r (done ≡ c.at_end.new.output ++ c.args.bytes.now)) (sym c.in_ok-truncated_on_err.ensures.same) c.add-added.ensures.ok in
+    let added = subst (λ r. OnOk r (done ≡ c.ensure_at_end.new.output ++ c.args.bytes.now)) (sym c.in_ok-truncated_on_err.ensures.same) c.add-added.ensures.ok in
     let splice = IsSplice-added s b c.truncated_on_err.new.output p _ _ c.in_ok-from.from c.self.view_is c.requires.living c.in_ok-from.ensures.brought (c.in_ok-truncated_on_err.ensures.ok ∙ added) in
     let fits = own-fits b _ p (p.to_byte - p.from_byte) c.args.bytes.now c.in_ok-from.from c.requires.living splice in
     omega (arith, fits, c.len.ensures.value, c.len.type_inv)
@@ -52,7 +52,7 @@ with_bytes-requires-clause-layout_fits c =
     let s = store_of c.self.inside in
     let p = c.args.piece in
     let done = c.add-added.new.self in
-    let added = subst (λ r. OnOk r (done ≡ c.at_end.new.output ++ c.args.bytes.now)) (sym c.in_ok-truncated_on_err.ensures.same) c.add-added.ensures.ok in
+    let added = subst (λ r. OnOk r (done ≡ c.ensure_at_end.new.output ++ c.args.bytes.now)) (sym c.in_ok-truncated_on_err.ensures.same) c.add-added.ensures.ok in
     let splice = IsSplice-added s b c.truncated_on_err.new.output p _ _ c.in_ok-from.from c.self.view_is c.requires.living c.in_ok-from.ensures.brought (c.in_ok-truncated_on_err.ensures.ok ∙ added) in
     let fits = layout-fits b _ p (p.to_byte - p.from_byte) c.args.bytes.now c.in_ok-from.from c.requires.living splice in
     omega (arith, fits, c.len.ensures.value, c.len.type_inv)
@@ -66,7 +66,7 @@ returns-clause-shape c =
     let bytes = c.args.bytes.now in
     let m = c.with_bytes.ensures in
     let done = c.add-added.new.self in
-    let added = subst (λ r. OnOk r (done ≡ c.at_end.new.output ++ bytes)) (sym c.in_ok-truncated_on_err.ensures.same) c.add-added.ensures.ok in
+    let added = subst (λ r. OnOk r (done ≡ c.ensure_at_end.new.output ++ bytes)) (sym c.in_ok-truncated_on_err.ensures.same) c.add-added.ensures.ok in
     let splice = IsSplice-added s b c.truncated_on_err.new.output p _ _ from c.self.view_is c.requires.living c.in_ok-from.ensures.brought (c.in_ok-truncated_on_err.ensures.ok ∙ added) in
     let k = c.len.ensures.value in
     Lives-inserted b _ p (p.to_byte - p.from_byte) bytes from c.requires.living splice c.with_bytes.result (subst (IsAt c.with_bytes.result from) k m.stands)
@@ -82,13 +82,13 @@ returns-clause-edit_of c =
     let q = c.with_bytes.result in
     let from = c.in_ok-from.from in
     let done = c.add-added.new.self in
-    let added = subst (λ r. OnOk r (done ≡ c.at_end.new.output ++ c.args.bytes.now)) (sym c.in_ok-truncated_on_err.ensures.same) c.add-added.ensures.ok in
+    let added = subst (λ r. OnOk r (done ≡ c.ensure_at_end.new.output ++ c.args.bytes.now)) (sym c.in_ok-truncated_on_err.ensures.same) c.add-added.ensures.ok in
     let splice = IsSplice-added s b c.truncated_on_err.new.output p _ _ from c.self.view_is c.requires.living c.in_ok-from.ensures.brought (c.in_ok-truncated_on_err.ensures.ok ∙ added) in
     IsEditOf-spliced b _ p q (p.to_byte - p.from_byte) from c.args.bytes.now splice (subst (IsAt q from) c.len.ensures.value c.with_bytes.ensures.stands)
 
-pub at_end-requires-clause-ordered : goal.at_end-requires-clause-ordered
+pub ensure_at_end-requires-clause-ordered : goal.ensure_at_end-requires-clause-ordered
 unfolding internals
-at_end-requires-clause-ordered c = grind (arith, states)
+ensure_at_end-requires-clause-ordered c = grind (arith, states)
 
 pub truncated_on_err-requires : goal.truncated_on_err-requires
 unfolding internals

@@ -3,7 +3,7 @@ use Rattle.demangle_text.specs.State.{IsAsOld, IsLiving, IsOlder, Stands, frame,
 use Rattle.std.proofs.lemmas.Grind.{common_steps}
 use Rattle.std.proofs.Common.{◌≡◌, ◌+◌, ◌-◌, ◌++◌, ℕ, List, length, refl, ap, ◌∙◌, subst, arith}
 use Rattle.std.proofs.lemmas.List.{length-append}
-use Rattle.demangle_text.specs.declared.shape.Place.TheVariants.{End}
+use Rattle.demangle_text.specs.declared.pieces.Place.TheVariants.{End}
 use Rattle.demangle_text.specs.Pieces.{Store, IsAt, outline_of, own_at, own_text, layout_with}
 use Rattle.demangle_text.specs.Shape.{moved, appended}
 use Rattle.demangle_text.specs.State.{shape, Lives, IsEditOf}

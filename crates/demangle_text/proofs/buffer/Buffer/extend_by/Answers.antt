@@ -14,7 +14,7 @@ use Rattle.demangle_text.proofs.buffer.Buffer.extend_by.Goals as goal
 pub returns-in_err-truncated_on_err-clause-err : goal.returns-in_err-truncated_on_err-clause-err
 returns-in_err-truncated_on_err-clause-err c =
     let s = store_of c.self.inside in
-    let mid = c.at_end.new.output in
+    let mid = c.ensure_at_end.new.output in
     let done = c.add-added.new.self in
     let failed : done ≡ mid = subst (λ r. OnErr r (done ≡ mid)) (sym c.in_err-truncated_on_err.ensures.same) c.add-added.ensures.err in
     on_err_from c.from_residual-in_err-truncated_on_err.result (rw (← c.self.view_is)
@@ -23,7 +23,7 @@ returns-in_err-truncated_on_err-clause-err c =
 pub returns-in_err-truncated_on_err-2-clause-err : goal.returns-in_err-truncated_on_err-2-clause-err
 returns-in_err-truncated_on_err-2-clause-err c =
     let s = store_of c.self.inside in
-    let mid = c.at_end.new.output in
+    let mid = c.ensure_at_end.new.output in
     let bytes = c.args.bytes.now in
     let longer = c.in_ok-from.ensures.brought.longer in
     let one = c.in_ok-truncated_on_err.ensures.ok ∙ subst (λ r. OnOk r (c.add-added.new.self ≡ mid ++ bytes)) (sym c.in_ok-truncated_on_err.ensures.same) c.add-added.ensures.ok in
@@ -37,7 +37,7 @@ returns-in_err-truncated_on_err-2-clause-err c =
 pub invariant_of-self-2 : goal.invariant_of-self-2
 invariant_of-self-2 c =
     let s = store_of c.self.inside in
-    let mid = c.at_end.new.output in
+    let mid = c.ensure_at_end.new.output in
     let bytes = c.args.bytes.now in
     let longer = c.in_ok-from.ensures.brought.longer in
     let one = c.in_ok-truncated_on_err.ensures.ok ∙ subst (λ r. OnOk r (c.add-added.new.self ≡ mid ++ bytes)) (sym c.in_ok-truncated_on_err.ensures.same) c.add-added.ensures.ok in
@@ -51,7 +51,7 @@ invariant_of-self-2 c =
 pub returns-clause-edit : goal.returns-clause-edit
 returns-clause-edit c =
     let s = store_of c.self.inside in
-    let mid = c.at_end.new.output in
+    let mid = c.ensure_at_end.new.output in
     let bytes = c.args.bytes.now in
     let longer = c.in_ok-from.ensures.brought.longer in
     let one = c.in_ok-truncated_on_err.ensures.ok ∙ subst (λ r. OnOk r (c.add-added.new.self ≡ mid ++ bytes)) (sym c.in_ok-truncated_on_err.ensures.same) c.add-added.ensures.ok in
@@ -65,7 +65,7 @@ returns-clause-edit c =
 pub returns-clause-splice : goal.returns-clause-splice
 returns-clause-splice c =
     let s = store_of c.self.inside in
-    let mid = c.at_end.new.output in
+    let mid = c.ensure_at_end.new.output in
     let bytes = c.args.bytes.now in
     let longer = c.in_ok-from.ensures.brought.longer in
     let one = c.in_ok-truncated_on_err.ensures.ok ∙ subst (λ r. OnOk r (c.add-added.new.self ≡ mid ++ bytes)) (sym c.in_ok-truncated_on_err.ensures.same) c.add-added.ensures.ok in

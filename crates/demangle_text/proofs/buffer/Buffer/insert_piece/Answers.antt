@@ -3,7 +3,7 @@ use Rattle.demangle_text.specs.State.{IsAsOld, IsLiving, IsOlder, Stands, frame,
 use Rattle.std.proofs.lemmas.Grind.{common_steps}
 use Rattle.std.proofs.Common.{true, ◌≡◌, ◌+◌, ◌-◌, ◌++◌, List, ℕ, Bool, length, take, drop, slice_range, refl, ap, sym, ◌∙◌, subst, arith}
 use Rattle.std.proofs.lemmas.List.{length-append, length-take-le}
-use Rattle.demangle_text.specs.declared.shape.Piece.{Piece}
+use Rattle.demangle_text.specs.declared.pieces.Piece.{Piece}
 use Rattle.demangle_text.specs.Pieces.{Store, IsStore, home_bytes, piece_text}
 use Rattle.demangle_text.specs.State.{IsEdit}
 use Rattle.demangle_text.specs.View.{store_of}

@@ -1,6 +1,6 @@
 -- What would be torn is set aside, and then the rest moves on.
 use Rattle.std.proofs.Common.{◌≡◌, ◌≤◌, ◌+◌, ◌-◌, List, ℕ, length, take, drop, ap, ◌∙◌, subst, arith}
-use Rattle.demangle_text.specs.declared.shape.Piece.{Piece}
+use Rattle.demangle_text.specs.declared.pieces.Piece.{Piece}
 use Rattle.demangle_text.specs.Pieces.{Store, IsSpilled}
 use Rattle.growing_text.specs.Room.{HasRoom}
 use Rattle.demangle_text.specs.View.{store_of}

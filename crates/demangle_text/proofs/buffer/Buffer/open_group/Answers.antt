@@ -5,8 +5,8 @@ use Rattle.std.proofs.Common.{true, ◌≡◌, ◌-◌, ◌+◌, ◌++◌, ◌�
 use Rattle.std.proofs.lemmas.List.{length-append, length-take-le}
 use Rattle.growing_text.proofs.Rooms.{room-fits, fits-first, fits-second, three-put}
 use Rattle.demangle_text.specs.Pieces.{IsAt, outline_of, own_at, place_at, layout_opened, group_from, piece_text}
-use Rattle.demangle_text.specs.declared.shape.Piece.{Piece}
-use Rattle.demangle_text.specs.declared.shape.Place.TheVariants.{Suffix}
+use Rattle.demangle_text.specs.declared.pieces.Piece.{Piece}
+use Rattle.demangle_text.specs.declared.pieces.Place.TheVariants.{Suffix}
 use Rattle.demangle_text.specs.Shape.{moved, gap_after}
 use Rattle.demangle_text.specs.State.{IsLiving, IsEditOf, shape}
 use Rattle.demangle_text.specs.View.{store_of}

@@ -4,7 +4,7 @@ use Rattle.std.proofs.Common.{arith}
 use Rattle.std.proofs.lemmas.Grind.{common_steps}
 use Rattle.std.proofs.Common.{◌≡◌, ◌-◌, ℕ, length, refl, sym, ap, ◌∙◌, subst}
 use Rattle.std.proofs.lemmas.List.{length-drop}
-use Rattle.demangle_text.specs.declared.shape.Place.TheVariants.{End}
+use Rattle.demangle_text.specs.declared.pieces.Place.TheVariants.{End}
 use Rattle.demangle_text.specs.Pieces.{Store, IsAt, outline_of, own_at, layout_with}
 use Rattle.demangle_text.specs.Shape.{moved}
 use Rattle.demangle_text.specs.Calls.{text_after}

@@ -1,7 +1,7 @@
 use Rattle.std.proofs.Common.{◌<◌, ◌≤◌, length, ap, ◌∙◌, arith, get_or, sym, subst}
 use Rattle.std.proofs.Math.Seq.{take-set-lt, map-set_same}
 use Rattle.std.proofs.lemmas.List.{length-take-le, get_or-take, map-set}
-use Rattle.demangle_text.specs.declared.shape.Piece.{Piece}
+use Rattle.demangle_text.specs.declared.pieces.Piece.{Piece}
 use Rattle.demangle_text.specs.declared.piece_list.Entry.{Entry}
 use Rattle.demangle_text.specs.Pieces.{EndsBy, pieces_of, reaches_of}
 use Rattle.demangle_text.proofs.Reaches.{reached-set}

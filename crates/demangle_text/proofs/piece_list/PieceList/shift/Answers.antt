@@ -4,7 +4,7 @@ use Rattle.std.proofs.lemmas.List.{get_or-take, get_or-map, length-take-le, leng
 use Rattle.std.specs.List.{AllWithin}
 use Rattle.std.proofs.lemmas.List.Edits.{map_over_more}
 use Rattle.std.proofs.lemmas.List.Elements.{AllWithin-more_set}
-use Rattle.demangle_text.specs.declared.shape.Piece.{Piece}
+use Rattle.demangle_text.specs.declared.pieces.Piece.{Piece}
 use Rattle.demangle_text.specs.declared.piece_list.Entry.{Entry}
 use Rattle.demangle_text.specs.Pieces.{EndsBy, IsApart, carried, pieces_of, reaches_of}
 use Rattle.demangle_text.proofs.Bounds.{carried-stays, carried-moves}

@@ -62,8 +62,8 @@ returns-clause-saved c =
     rw (kept.text, kept.saved) (kept_shapes c.args.signature c.args.symbol.now c.in-Some.inside.now _ _ _
     (state c.read_mangled_name.new.reader) c.end_answer.new.reader.buffer c.in_ok-answered.answered prefix (found c) ended.saved)
 
-pub returns-in-Err-Unread-clause-one : goal.returns-in-Err-Unread-clause-one
-returns-in-Err-Unread-clause-one c = grind (arith, answers)
+pub returns-in-Err-Unreadable-clause-one : goal.returns-in-Err-Unreadable-clause-one
+returns-in-Err-Unreadable-clause-one c = grind (arith, answers)
 
 pub returns-in-Err-Memory-clause-one : goal.returns-in-Err-Memory-clause-one
 returns-in-Err-Memory-clause-one c = grind (arith, answers)

@@ -16,5 +16,5 @@ returns-clause-reads c =
     let all : take (length bytes - to) (drop to bytes) ≡ drop to bytes = rw (sym (length-drop to bytes)) (take-length (drop to bytes)) in
     let parent = shape c.args.self.now.buffer.value c.args.self.now.found in
     gives_same _ _ c.read_tags.ensures.reads
-    (source_in_read parent (spec.save_if c.args.unsaved parent (state c.args.self.now)) {name = slice_range bytes c.in-Some.from to} {rest = drop to bytes} {mid = state c.save_if-2.new.self}
+    (source_in_read parent (spec.save_if c.args.candidate parent (state c.args.self.now)) {name = slice_range bytes c.in-Some.from to} {rest = drop to bytes} {mid = state c.save_if-2.new.self}
     (search rules) (search (rules, named_is)) (c.in_ok-save_if-2.ensures {u = tt}).state (search (rules, all)))

@@ -1,0 +1,22 @@
+-- What a demangler keeps of the last symbol.
+use Rattle.std.specs.Prelude.{ℕ, Bool, false, List, [], Option, None}
+use Rattle.demangle_text.specs.Shape.{Shape}
+
+-- what is left of the last symbol that was prepared
+pub record LastResult : Type 0 where
+  -- the text of the last symbol: its name or its signature, if it has one
+  pub text : Option (List ℕ)
+  -- true if the text is the symbol's signature; false if it is its name, or if there is none
+  pub signature : Bool
+  -- the counted productions that were entered
+  pub entered : ℕ
+  -- the most components that were saved at one moment
+  pub most_saved : ℕ
+  -- if there is a text, the texts of the components that are left saved
+  pub components : List (List ℕ)
+  -- the shapes of these components, in the same order
+  pub saved : List Shape
+
+-- nothing is left, as on a new value
+abbrev pub no_result : LastResult
+no_result = record { text = None; signature = false; entered = 0; most_saved = 0; components = []; saved = [] }

@@ -1,0 +1,12 @@
+use Rattle.std.proofs.Common.{sym, subst}
+use Rattle.symfilter_engine.specs.Printed.{IsPrintedAs, name_printed, signature_printed}
+use Rattle.symfilter_engine.proofs.symbols.prepare_for.Goals as goal
+
+pub returns-in_ok-prepare-in-Names-clause-printed : goal.returns-in_ok-prepare-in-Names-clause-printed
+returns-in_ok-prepare-in-Names-clause-printed c =
+    subst (λ p. IsPrintedAs p c.args.symbol.now c.prepare.new.self.text) (sym c.in-Names.is) (name_printed c.in_ok-prepare-in-Names.ensures.answer)
+
+pub returns-in_ok-prepare_signature-in-Signatures-clause-printed : goal.returns-in_ok-prepare_signature-in-Signatures-clause-printed
+returns-in_ok-prepare_signature-in-Signatures-clause-printed c =
+    subst (λ p. IsPrintedAs p c.args.symbol.now c.prepare_signature.new.self.text) (sym c.in-Signatures.is)
+    (signature_printed c.prepare_signature.new.self.signature c.in_ok-prepare_signature-in-Signatures.ensures.answer)

@@ -1,0 +1,19 @@
+use Rattle.std.proofs.Common.{subst}
+use Rattle.symfilter_engine.specs.Progress.{WritesFront}
+use Rattle.symfilter_engine.proofs.FilteredText.{at_fault, lines_unwritten, lines_begin}
+use Rattle.symfilter_engine.proofs.writing.write_next.Goals as goal
+
+pub returns-in_err-write_all-clause-err : goal.returns-in_err-write_all-clause-err
+returns-in_err-write_all-clause-err g c =
+    at_fault _ (lines_begin c.args.placement c.args.whole.now _ c.ordinary_len-ordinary.result _ _ c.ordinary_len-ordinary.ensures.ordinary c.in_err-write_all.ensures.err)
+
+pub returns-in_err-reserve-clause-err : goal.returns-in_err-reserve-clause-err
+returns-in_err-reserve-clause-err g c = at_fault _ (lines_unwritten c.args.placement c.args.whole.now _)
+
+pub returns-in_err-len-clause-err : goal.returns-in_err-len-clause-err
+returns-in_err-len-clause-err g c = at_fault _ (lines_unwritten c.args.placement c.args.whole.now _)
+
+pub returns-in_err-write_all-2-clause-err : goal.returns-in_err-write_all-2-clause-err
+returns-in_err-write_all-2-clause-err g c =
+    at_fault _ (lines_begin c.args.placement c.args.whole.now _ c.in_ok-len.len _ _ c.in_ok-len.ensures.filtered
+    (subst (λ l. WritesFront l (g.W.Sink.taken c.args.sink.now) (g.W.Sink.taken c.write_all-2.new.sink)) c.as_slice.ensures.value c.in_err-write_all-2.ensures.err))

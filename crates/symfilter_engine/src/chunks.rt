@@ -1,0 +1,171 @@
+//! Copies the input to the output in chunks, and filters it on the way.
+ghost use Rattle.std.specs.Prelude.{◌≡◌, ◌<◌, ◌≤◌, true, false, [], length, take, drop, IsErrOf, IfOk, IfSome, Some, OnOk, OnErr};
+ghost use Rattle.std.specs.Io.KnownBytes.{Keeps};
+ghost use Rattle.symfilter_engine.specs.declared.symbols.Replacement.{Replacement};
+ghost use Rattle.symfilter_engine.specs.Fault.{IsRunOutcome, IsReadOutcome, IsWriteOutcome};
+ghost use Rattle.symfilter_engine.specs.Filtered.{FiltersFront, FiltersWhole, WritesFiltered};
+ghost use Rattle.symfilter_engine.specs.Progress.{AreKept, HasWritten, Leads, ReadsMore, WritesAllButKept, WritesFrontIn, WritesSomeIn};
+
+use super::fault::FilterFault;
+use super::output::write_all;
+use super::streams::{Failed, Sink, Source};
+use super::symbols::Placement;
+use super::word_bounds::{whole_words_len, word_end};
+use super::words::may_hold_symbol;
+use super::writing::{ended_len, write_last, write_whole};
+use growing_text::Text;
+use itanium_demangle::Demangler;
+use std::alloc::Global;
+
+/// The length of a chunk in bytes. A chunk grows by as many bytes if a longer line or word must be kept.
+const CHUNK_LEN: usize = 131072;
+
+/// Reads to the end in chunks, and writes the filtered text. The front of the chunk keeps the beginning of a line that
+/// isn't whole, or of a word that may hold a symbol.
+pub(crate) fn filter_chunks<R: Source, W: Sink>(
+    alloc: Global,
+    placement: Placement,
+    source: &mut R,
+    sink: &mut W,
+) -> Result<(), FilterFault>
+    requires source_not_failed { R.failed source.old ≡ false }
+    requires sink_not_failed { W.failed sink.old ≡ false }
+    ensures outcome { IsRunOutcome result (R.failed source.new) (W.failed sink.new) }
+    ensures source_in_time { R.called_late source.new ≡ R.called_late source.old }
+    ensures sink_in_time { W.called_late sink.new ≡ W.called_late sink.old }
+    ensures used_up { OnOk result (IfSome (R.remaining source.old) (λ _. R.remaining source.new ≡ Some [])) }
+    ensures ok { OnOk result (IfSome (R.remaining source.old) (λ given.
+        WritesFiltered placement given (W.taken sink.old) (W.taken sink.new))) }
+    ensures err { OnErr result (FiltersFront placement
+        (R.remaining source.old) (R.remaining source.new) (W.taken sink.old) (W.taken sink.new)) }
+    ensures put { IsErrOf result FilterFault.Read → WritesAllButKept placement
+        (R.remaining source.old) (R.remaining source.new) (W.taken sink.old) (W.taken sink.new) }
+    ensures memory { IsErrOf result FilterFault.Memory → FiltersWhole placement
+        (R.remaining source.old) (R.remaining source.new) (W.taken sink.old) (W.taken sink.new) }
+{
+    let mut chunk = vec![in alloc; 0u8; CHUNK_LEN]?;
+    let mut demangler = Demangler::new();
+    let mut output = Text::new(alloc);
+    let mut kept = 0;
+    let mut mid_word = false;
+    'chunks: loop {
+        let end = read_more(source, &mut chunk, kept)?;
+        if end == kept {
+            return write_last(alloc, &mut demangler, placement, &chunk[..kept], sink);
+        }
+        let (done, goes_on) = write_chunk(
+            alloc,
+            &mut demangler,
+            placement,
+            &chunk[..end],
+            kept,
+            mid_word,
+            &mut output,
+            sink,
+        )?;
+        // What isn't written moves to the front.
+        if done > 0 {
+            chunk.copy_within(done..end, 0);
+        }
+        kept = end - done;
+        mid_word = goes_on;
+    }
+}
+
+/// Reads into the chunk after its first `kept` bytes. Returns `kept` plus the number of bytes read. If the chunk is
+/// full, it grows first. The result is `kept` only at the end of the input.
+fn read_more<R: Source>(
+    source: &mut R,
+    chunk: &mut Vec<u8>,
+    kept: usize,
+) -> Result<usize, FilterFault>
+    requires not_failed { R.failed source.old ≡ false }
+    requires inside { kept ≤ length chunk.old.items }
+    ensures outcome { IsReadOutcome result (R.failed source.new) }
+    ensures in_time { R.called_late source.new ≡ R.called_late source.old }
+    ensures ok { IfOk result (λ end. ReadsMore kept end chunk.old.items chunk.new.items
+        (R.remaining source.old) (R.remaining source.new)) }
+    ensures fewer { IfOk result (λ end. kept < end → R.calls_left source.new < R.calls_left source.old) }
+    ensures err { OnErr result (Keeps (R.remaining source.old) (R.remaining source.new)) }
+    ensures full { IsErrOf result FilterFault.Memory → kept ≡ length chunk.old.items }
+{
+    if kept == chunk.len() {
+        chunk.resize(kept + CHUNK_LEN, 0)?;
+    }
+    match source.take(&mut chunk[kept..]) {
+        Ok(count) => Ok(kept + count),
+        Err(Failed) => Err(FilterFault::Read),
+    }
+}
+
+/// Writes the text for these bytes, up to a last line that isn't whole or a last word that may hold a symbol. Returns
+/// how many of the bytes were consumed, and whether they stop in the middle of a word that holds no symbol. If
+/// `mid_word` is true, the bytes begin inside such a word. The first `kept` bytes were kept.
+fn write_chunk<W: Sink>(
+    alloc: Global,
+    demangler: &mut Demangler,
+    placement: Placement,
+    bytes: &[u8],
+    kept: usize,
+    mid_word: bool,
+    output: &mut Text,
+    sink: &mut W,
+) -> Result<(usize, bool), FilterFault>
+    requires not_failed { W.failed sink.old ≡ false }
+    requires within { kept ≤ length bytes.now }
+    requires kept { AreKept placement (take kept bytes.now) }
+    requires none { mid_word ≡ true → kept ≡ 0 }
+    ensures outcome { IsWriteOutcome result (W.failed sink.new) }
+    ensures in_time { W.called_late sink.new ≡ W.called_late sink.old }
+    ensures bound { IfOk result (λ written. written.0 ≤ length bytes.now) }
+    ensures kept { IfOk result (λ written. AreKept placement (drop written.0 bytes.now)) }
+    ensures none { IfOk result (λ written. written.1 ≡ true → drop written.0 bytes.now ≡ []) }
+    ensures ok { IfOk result (λ written. HasWritten placement mid_word bytes.now
+        (drop written.0 bytes.now) written.1 (W.taken sink.old) (W.taken sink.new)) }
+    ensures err { OnErr result (WritesFrontIn placement mid_word bytes.now (W.taken sink.old) (W.taken sink.new)) }
+    ensures memory { IsErrOf result FilterFault.Memory →
+        WritesSomeIn placement mid_word bytes.now (W.taken sink.old) (W.taken sink.new) }
+{
+    match placement {
+        Placement::Lines(_) => {
+            let ended = ended_len(bytes, kept);
+            write_whole(alloc, demangler, placement, &bytes[..ended], output, sink)?;
+            Ok((ended, false))
+        }
+        Placement::Words(options) => {
+            let (first, goes_on) = first_word(mid_word, bytes);
+            write_all(sink, &bytes[..first])?;
+            if goes_on {
+                return Ok((first, goes_on));
+            }
+            let rest = &bytes[first..];
+            let whole = whole_words_len(rest, kept);
+            write_whole(alloc, demangler, placement, &rest[..whole], output, sink)?;
+            let word = &rest[whole..];
+            if may_hold_symbol(options.strip, word) {
+                return Ok((first + whole, false));
+            }
+            write_all(sink, word)?;
+            Ok((bytes.len(), true))
+        }
+    }
+}
+
+/// Returns how many bytes at the front are written as they are: if `mid_word` is true, those of the first word and the
+/// byte after it, otherwise none. Also returns whether the word may go on after the bytes.
+fn first_word(mid_word: bool, bytes: &[u8]) -> (usize, bool)
+    ensures bound { result.0 ≤ length bytes.now }
+    ensures outside { mid_word ≡ false → result.0 ≡ 0 }
+    ensures goes_on { result.1 ≡ true → result.0 ≡ length bytes.now }
+    ensures leads { (options : Replacement) →
+        Leads options mid_word (take result.0 bytes.now) (take result.0 bytes.now) result.1 }
+{
+    if !mid_word {
+        return (0, false);
+    }
+    let end = word_end(bytes, 0);
+    if end == bytes.len() {
+        return (end, true);
+    }
+    (end + 1, false)
+}

@@ -1,0 +1,340 @@
+//! Writes whole lines or words, and a last line or word.
+//!
+//! If lines are symbols, each call takes whole lines. If words hold symbols, each call takes whole words, that is,
+//! text that ends in a byte that is no word byte. The parameters that have either are called `whole`. Ordinary text is
+//! written as it is: a line that doesn't begin with an underscore, or text that has no `_Z`.
+ghost use Rattle.std.specs.Prelude.{◌≡◌, ◌<◌, ◌≤◌, [], false, length, take, drop, IsTrue, IsErrOf, IsUtf8, IfOk, OnOk, OnErr};
+ghost use Rattle.std.specs.Io.KnownBytes.{Keeps};
+ghost use Rattle.symfilter_engine.specs.Fault.{IsWriteOutcome};
+ghost use Rattle.symfilter_engine.specs.Replaced.{ends_word};
+ghost use Rattle.symfilter_engine.specs.declared.symbols.Printing.{Printing};
+ghost use Rattle.symfilter_engine.specs.declared.symbols.Placement.TheVariants.{Lines, Words};
+ghost use Rattle.symfilter_engine.specs.Filtered.{HasNoLineFeed, EndsInLineFeed, AreWhole, IsLineAnswer, AreLinesAnswered, AreWholeFiltered, WritesFiltered, WritesBeginning};
+ghost use Rattle.symfilter_engine.specs.Progress.{AppendsWhole, HasFiltered, WritesWhole, WritesWholeFront, WritesSomeWhole};
+
+use super::byte_search::first_place;
+use super::fault::FilterFault;
+use super::output::write_all;
+use super::prefixes::unprefixed_len;
+use super::streams::Sink;
+use super::symbols::{Placement, Printing, Replacement, prepare_for};
+use super::word_bounds::{whole_words_len, word_end};
+use super::words::append_words;
+use growing_text::Text;
+use itanium_demangle::{Demangler, is_utf8};
+use std::alloc::{AllocError, Global};
+use std::str;
+
+/// The length in bytes at which the output is written.
+const OUTPUT_LEN: usize = 32768;
+
+/// The capacity that is reserved for the output, in bytes. The capacity is more than `OUTPUT_LEN`.
+const OUTPUT_CAPACITY: usize = 40960;
+
+/// The least length in bytes of ordinary lines or words that are written without a copy.
+const LONG_LEN: usize = 16384;
+
+/// The most bytes whose words are replaced at once, unless the first word is longer.
+const BLOCK_LEN: usize = 8192;
+
+/// The first byte of each symbol.
+const UNDERSCORE: u8 = b'_';
+
+const LINE_FEED: u8 = b'\n';
+
+/// Returns the length in bytes of the whole lines, up to the last line feed and with it. The first `kept` bytes have
+/// no line feed.
+pub(crate) fn ended_len(bytes: &[u8], kept: usize) -> usize
+    requires inside { kept ≤ length bytes.now }
+    requires before { HasNoLineFeed (take kept bytes.now) }
+    ensures bound { result ≤ length bytes.now }
+    ensures ended { EndsInLineFeed (take result bytes.now) }
+    ensures unended { HasNoLineFeed (drop result bytes.now) }
+{
+    for place in (kept..bytes.len()).rev() {
+        if bytes[place] == LINE_FEED {
+            return place + 1;
+        }
+    }
+    0
+}
+
+/// Returns the length in bytes of the first whole lines or words, up to one that isn't ordinary.
+#[inline(always)]
+fn ordinary_len(placement: Placement, whole: &[u8]) -> usize
+    ensures bound { result ≤ length whole.now }
+    ensures ordinary { AreWholeFiltered placement (take result whole.now) (take result whole.now) }
+{
+    match placement {
+        Placement::Lines(_) => unmangled_len(whole),
+        Placement::Words(_) => unprefixed_len(whole),
+    }
+}
+
+/// Returns the length in bytes of the first whole lines, up to one that begins with an underscore.
+fn unmangled_len(lines: &[u8]) -> usize
+    ensures bound { result ≤ length lines.now }
+    ensures ordinary { (printing : Printing) →
+        AreLinesAnswered printing (take result lines.now) (take result lines.now) }
+{
+    let mut len = 0;
+    while len < lines.len() && lines[len] != UNDERSCORE {
+        let Some(end) = first_place(&lines[len..], LINE_FEED) else {
+            return len;
+        };
+        len += end + 1;
+    }
+    len
+}
+
+/// Returns what is written for a line, which has no line feed here: the name or signature of its symbol. Returns the
+/// line itself if there is none, or if the line isn't UTF-8. If `known_utf8` is true, the line is UTF-8 and isn't
+/// tested again.
+#[inline(always)]
+fn line_answer<'a>(
+    alloc: Global,
+    demangler: &'a mut Demangler,
+    printing: Printing,
+    line: &'a [u8],
+    known_utf8: bool,
+) -> Result<&'a [u8], AllocError>
+    requires { IsTrue known_utf8 → IsUtf8 line.now }
+    ensures { IfOk result (λ text. IsLineAnswer printing line.now text.now) }
+{
+    if !known_utf8 && !is_utf8(line) {
+        return Ok(line);
+    }
+    let symbol = unsafe { str::from_utf8_unchecked(line) };
+    prepare_for(alloc, demangler, printing, symbol)?;
+    match demangler.text() {
+        Some(answer) => Ok(answer.as_bytes()),
+        None => Ok(line),
+    }
+}
+
+/// Appends what is written for the first line, and returns the length in bytes of that line with its line feed. Lines
+/// are symbols here. After an error nothing is appended.
+#[inline(always)]
+fn append_line(
+    alloc: Global,
+    demangler: &mut Demangler,
+    printing: Printing,
+    lines: &[u8],
+    known_utf8: bool,
+    output: &mut Text,
+) -> Result<usize, AllocError>
+    requires some { 0 < length lines.now }
+    requires ended { EndsInLineFeed lines.now }
+    requires known { IsTrue known_utf8 → IsUtf8 lines.now }
+    ensures some { IfOk result (λ len. 0 < len) }
+    ensures bound { IfOk result (λ len. len ≤ length lines.now) }
+    ensures ok { IfOk result (λ len. AppendsWhole (Lines printing) (take len lines.now) output.old output.new) }
+    ensures err { OnErr result (output.new ≡ output.old) }
+{
+    let Some(end) = first_place(lines, LINE_FEED) else {
+        unreachable!()
+    };
+    let answer = line_answer(alloc, demangler, printing, &lines[..end], known_utf8)?;
+    output.add_pair(answer, b"\n")?;
+    Ok(end + 1)
+}
+
+/// Returns the length in bytes of the first block of whole words: as many as fit in `most` bytes, and at least one.
+fn block_len(text: &[u8], most: usize) -> usize
+    requires some { 0 < length text.now }
+    requires whole { ends_word text.now ≡ false }
+    ensures some { 0 < result }
+    ensures bound { result ≤ length text.now }
+    ensures whole { ends_word (take result text.now) ≡ false }
+{
+    if text.len() <= most {
+        return text.len();
+    }
+    let len = whole_words_len(&text[..most], 0);
+    if len > 0 {
+        return len;
+    }
+    word_end(text, 0) + 1
+}
+
+/// Appends a block of words with its symbols replaced, or one word if the allocation for the block fails. Returns the
+/// length in bytes of the text that was replaced. After an error nothing is appended.
+fn append_block(
+    alloc: Global,
+    demangler: &mut Demangler,
+    options: Replacement,
+    text: &[u8],
+    output: &mut Text,
+) -> Result<usize, AllocError>
+    requires some { 0 < length text.now }
+    requires whole { ends_word text.now ≡ false }
+    ensures some { IfOk result (λ len. 0 < len) }
+    ensures bound { IfOk result (λ len. len ≤ length text.now) }
+    ensures ok { IfOk result (λ len. AppendsWhole (Words options) (take len text.now) output.old output.new) }
+    ensures err { OnErr result (output.new ≡ output.old) }
+{
+    let len = block_len(text, BLOCK_LEN);
+    if append_words(alloc, demangler, options, &text[..len], output).is_ok() {
+        return Ok(len);
+    }
+    let first = block_len(text, 1);
+    append_words(alloc, demangler, options, &text[..first], output)?;
+    Ok(first)
+}
+
+/// Appends what is written for the first lines or words, ordinary or not, and returns their length in bytes. After an
+/// error nothing is appended.
+#[inline(always)]
+fn append_next(
+    alloc: Global,
+    demangler: &mut Demangler,
+    placement: Placement,
+    whole: &[u8],
+    known_utf8: bool,
+    output: &mut Text,
+) -> Result<usize, AllocError>
+    requires some { 0 < length whole.now }
+    requires whole { AreWhole placement whole.now }
+    requires known { (printing : Printing) → placement ≡ Lines printing → IsTrue known_utf8 → IsUtf8 whole.now }
+    ensures some { IfOk result (λ len. 0 < len) }
+    ensures bound { IfOk result (λ len. len ≤ length whole.now) }
+    ensures ok { IfOk result (λ len. AppendsWhole placement (take len whole.now) output.old output.new) }
+    ensures err { OnErr result (output.new ≡ output.old) }
+{
+    let ordinary = ordinary_len(placement, whole);
+    if ordinary > 0 {
+        output.add(&whole[..ordinary])?;
+        return Ok(ordinary);
+    }
+    match placement {
+        Placement::Lines(printing) => append_line(
+            alloc, demangler, printing, whole, known_utf8, output,
+        ),
+        Placement::Words(options) => append_block(alloc, demangler, options, whole, output),
+    }
+}
+
+/// Appends what is written for the first lines or words to an empty output, and returns their length in bytes. Stops
+/// once the output has `OUTPUT_LEN` bytes, and in front of a line or word for which an allocation fails. Returns an
+/// error if that is the first one.
+fn gather_whole(
+    alloc: Global,
+    demangler: &mut Demangler,
+    placement: Placement,
+    whole: &[u8],
+    known_utf8: bool,
+    output: &mut Text,
+) -> Result<usize, AllocError>
+    requires some { 0 < length whole.now }
+    requires whole { AreWhole placement whole.now }
+    requires known { (printing : Printing) → placement ≡ Lines printing → IsTrue known_utf8 → IsUtf8 whole.now }
+    requires empty { output.old ≡ [] }
+    ensures some { IfOk result (λ len. 0 < len) }
+    ensures bound { IfOk result (λ len. len ≤ length whole.now) }
+    ensures filtered { IfOk result (λ len. AreWholeFiltered placement (take len whole.now) output.new) }
+{
+    let mut rest = whole;
+    while !rest.is_empty() && output.len() < OUTPUT_LEN {
+        match append_next(alloc, demangler, placement, rest, known_utf8, output) {
+            Ok(more) => rest = &rest[more..],
+            Err(error) if rest.len() == whole.len() => return Err(error),
+            Err(_) => break,
+        }
+    }
+    Ok(whole.len() - rest.len())
+}
+
+/// Writes the text for the first lines or words, and returns their length in bytes. Ordinary ones of at least
+/// `LONG_LEN` bytes in all are written without a copy. Others are gathered in the output first.
+fn write_next<W: Sink>(
+    alloc: Global,
+    demangler: &mut Demangler,
+    placement: Placement,
+    whole: &[u8],
+    known_utf8: bool,
+    output: &mut Text,
+    sink: &mut W,
+) -> Result<usize, FilterFault>
+    requires not_failed { W.failed sink.old ≡ false }
+    requires some { 0 < length whole.now }
+    requires whole { AreWhole placement whole.now }
+    requires known { (printing : Printing) → placement ≡ Lines printing → IsTrue known_utf8 → IsUtf8 whole.now }
+    ensures outcome { IsWriteOutcome result (W.failed sink.new) }
+    ensures in_time { W.called_late sink.new ≡ W.called_late sink.old }
+    ensures some { IfOk result (λ len. 0 < len) }
+    ensures bound { IfOk result (λ len. len ≤ length whole.now) }
+    ensures ok { IfOk result (λ len. WritesWhole placement (take len whole.now) (W.taken sink.old) (W.taken sink.new)) }
+    ensures err { OnErr result (WritesWholeFront placement whole.now (W.taken sink.old) (W.taken sink.new)) }
+    ensures memory { IsErrOf result FilterFault.Memory → Keeps (W.taken sink.old) (W.taken sink.new) }
+{
+    let ordinary = ordinary_len(placement, whole);
+    if ordinary >= LONG_LEN {
+        write_all(sink, &whole[..ordinary])?;
+        return Ok(ordinary);
+    }
+    output.clear();
+    output.reserve(OUTPUT_CAPACITY)?;
+    let len = gather_whole(alloc, demangler, placement, whole, known_utf8, output)?;
+    write_all(sink, output.as_slice())?;
+    Ok(len)
+}
+
+/// Writes the text for these whole lines or words.
+pub(crate) fn write_whole<W: Sink>(
+    alloc: Global,
+    demangler: &mut Demangler,
+    placement: Placement,
+    whole: &[u8],
+    output: &mut Text,
+    sink: &mut W,
+) -> Result<(), FilterFault>
+    requires not_failed { W.failed sink.old ≡ false }
+    requires whole { AreWhole placement whole.now }
+    ensures outcome { IsWriteOutcome result (W.failed sink.new) }
+    ensures in_time { W.called_late sink.new ≡ W.called_late sink.old }
+    ensures ok { OnOk result (HasFiltered placement whole.now [] (W.taken sink.old) (W.taken sink.new)) }
+    ensures err { OnErr result (WritesWholeFront placement whole.now (W.taken sink.old) (W.taken sink.new)) }
+    ensures memory { IsErrOf result FilterFault.Memory →
+        WritesSomeWhole placement whole.now (W.taken sink.old) (W.taken sink.new) }
+{
+    let known_utf8 = matches!(placement, Placement::Lines(_)) && is_utf8(whole);
+    let mut rest = whole;
+    while !rest.is_empty() {
+        let len = write_next(alloc, demangler, placement, rest, known_utf8, output, sink)?;
+        rest = &rest[len..];
+    }
+    Ok(())
+}
+
+/// Writes the text for the last bytes of the input: a line without a line feed, a word, or nothing.
+pub(crate) fn write_last<W: Sink>(
+    alloc: Global,
+    demangler: &mut Demangler,
+    placement: Placement,
+    last: &[u8],
+    sink: &mut W,
+) -> Result<(), FilterFault>
+    requires not_failed { W.failed sink.old ≡ false }
+    requires unended { (printing : Printing) → placement ≡ Lines printing → HasNoLineFeed last.now }
+    ensures outcome { IsWriteOutcome result (W.failed sink.new) }
+    ensures in_time { W.called_late sink.new ≡ W.called_late sink.old }
+    ensures ok { OnOk result (WritesFiltered placement last.now (W.taken sink.old) (W.taken sink.new)) }
+    ensures err { OnErr result (WritesBeginning placement last.now (W.taken sink.old) (W.taken sink.new)) }
+    ensures memory { IsErrOf result FilterFault.Memory → Keeps (W.taken sink.old) (W.taken sink.new) }
+    ensures some { IsErrOf result FilterFault.Memory → 0 < length last.now }
+{
+    if last.is_empty() {
+        return Ok(());
+    }
+    match placement {
+        Placement::Lines(printing) => {
+            let answer = line_answer(alloc, demangler, printing, last, false)?;
+            write_all(sink, answer)
+        }
+        Placement::Words(options) => {
+            let mut output = Text::new(alloc);
+            append_words(alloc, demangler, options, last, &mut output)?;
+            write_all(sink, output.as_slice())
+        }
+    }
+}
