@@ -181,18 +181,18 @@ abbrev pub texts : List (Bor (List ℕ)) → List (List ℕ)
 texts arguments = map (λ argument. argument.now) arguments
 
 -- what is asked after these were read
-abbrev pub IsRequestAfter : State → Request → Type 0
-IsRequestAfter (reading (Go flags) symbols last) (Symbols chosen given) = (chosen ≡ flags) × (texts given.items ≡ symbols)
-IsRequestAfter (reading (Value flags) symbols last) (Stopped by argument) = (by ≡ instead.MissingValue) × (argument.now ≡ last)
-IsRequestAfter (reading (Stopping stop) symbols last) (Stopped by argument) = (by ≡ stop) × (argument.now ≡ last)
-IsRequestAfter (ended flags symbols) (Symbols chosen given) = (chosen ≡ flags) × (texts given.items ≡ symbols)
-IsRequestAfter (stopped stop last) (Stopped by argument) = (by ≡ stop) × (argument.now ≡ last)
-IsRequestAfter (reading (Go flags) symbols last) (Stopped by argument) = ⊥
-IsRequestAfter (reading (Value flags) symbols last) (Symbols chosen given) = ⊥
-IsRequestAfter (reading (Stopping stop) symbols last) (Symbols chosen given) = ⊥
-IsRequestAfter (ended flags symbols) (Stopped by argument) = ⊥
-IsRequestAfter (stopped stop last) (Symbols chosen given) = ⊥
+abbrev pub AsksFor : State → Request → Type 0
+AsksFor (reading (Go flags) symbols last) (Symbols chosen given) = (chosen ≡ flags) × (texts given.items ≡ symbols)
+AsksFor (reading (Value flags) symbols last) (Stopped by argument) = (by ≡ instead.MissingValue) × (argument.now ≡ last)
+AsksFor (reading (Stopping stop) symbols last) (Stopped by argument) = (by ≡ stop) × (argument.now ≡ last)
+AsksFor (ended flags symbols) (Symbols chosen given) = (chosen ≡ flags) × (texts given.items ≡ symbols)
+AsksFor (stopped stop last) (Stopped by argument) = (by ≡ stop) × (argument.now ≡ last)
+AsksFor (reading (Go flags) symbols last) (Stopped by argument) = ⊥
+AsksFor (reading (Value flags) symbols last) (Symbols chosen given) = ⊥
+AsksFor (reading (Stopping stop) symbols last) (Symbols chosen given) = ⊥
+AsksFor (ended flags symbols) (Stopped by argument) = ⊥
+AsksFor (stopped stop last) (Symbols chosen given) = ⊥
 
 -- all arguments, and what they ask
 abbrev pub IsRequest : List (List ℕ) → Request → Type 0
-IsRequest arguments request = IsRequestAfter (read (reading (Go no_flags) [] []) arguments) request
+IsRequest arguments request = AsksFor (read (reading (Go no_flags) [] []) arguments) request

@@ -111,7 +111,8 @@ fn copy_input(rt: &HostRuntime, output: &mut Output<Stdout>) -> Result<(), Filte
     Err(FilterFault::Read)
 }
 
-/// Copies standard input to standard output, and replaces symbols by names. If `pass_through` is set, nothing is replaced.
+/// Copies standard input to standard output, and replaces symbols by names. If `pass_through` is set, nothing is
+/// replaced.
 fn replace_input(
     rt: &HostRuntime,
     output: &mut Output<Stdout>,

@@ -1,7 +1,7 @@
 //! Reads what the arguments ask.
 ghost use Rattle.std.specs.Prelude.{◌≡◌, ◌≤◌, length, IfOk};
 ghost use Rattle.cosvigle.specs.Options as spec;
-ghost use Rattle.cosvigle.specs.Options.{reading, texts, IsRequestAfter, IsRequest};
+ghost use Rattle.cosvigle.specs.Options.{reading, texts, AsksFor, IsRequest};
 
 use super::option_names::{Found, find_option};
 use std::alloc::{AllocError, Global};
@@ -215,7 +215,7 @@ fn kind_of(argument: &[u8]) -> Kind
 /// Returns what the arguments ask, once all have been read. `state` is the state then, and `last` the last argument
 /// that was an option or the value of one.
 fn request_at_end<'a>(state: OptionState, symbols: Vec<&'a [u8]>, last: &'a [u8]) -> Request<'a>
-    ensures request { IsRequestAfter (reading state (texts symbols.entry.items) last.now) result }
+    ensures request { AsksFor (reading state (texts symbols.entry.items) last.now) result }
 {
     match state {
         OptionState::Go(flags) => Request::Symbols(flags, symbols),

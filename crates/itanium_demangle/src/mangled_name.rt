@@ -54,8 +54,8 @@ fn read_signature(reader: &mut Reader, depth: usize, context: Context) -> ReadRe
 pub(crate) fn read_mangled_name(reader: &mut Reader, depth: usize, signature: bool) -> ReadResult
     requires room { HasRoom 2 (state reader.old) }
     ensures reads { Gives result reader.new (parse_mangled depth signature (state reader.old)) }
-    // In terms of trees: `Ok` is a reading of the bytes, with which every other agrees. `Stop::Unreadable` means that no
-    // reading is within the limits.
+    // In terms of trees: `Ok` is a reading of the bytes, with which every other agrees. `Stop::Unreadable` means that
+    // no reading is within the limits.
     ensures reading { ReadsAs result signature depth reader.old reader.new }
     ensures run { OnOk result (IsRun reader.old.buffer.value reader.new.buffer.value) }
     ensures bounds { TakesSome 2 result (state reader.old) (state reader.new) }

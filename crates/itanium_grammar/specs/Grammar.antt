@@ -398,8 +398,8 @@ mutual
   pub data Nested : Context → Position → Tree → Position → Cost → Type 0 where
     nested : {x : Context} {p q r : Position} {t u : Tree} {c d : Cost}
         → FirstAs (first_case (past_name_quals p.rest)) x (with_rest (past_name_quals p.rest) p) t q c
-        → SegmentsAs (segment_case (past_initializer q).rest) (first_is_candidate (first_case (past_name_quals p.rest))) x t
-        (past_initializer q) u r d
+        → SegmentsAs (segment_case (past_initializer q).rest)
+        (first_is_candidate (first_case (past_name_quals p.rest))) x t (past_initializer q) u r d
         → Nested x p (nested_of u (name_quals p.rest) x.words_shown) r (both c d)
 
   -- one more segment of a <prefix> after what stands, or the E after it. The truth value says whether the E takes the
@@ -423,14 +423,14 @@ mutual
   -- <template-args> ::= I <template-arg>* E, of a name or of a type: counted
   pub data Args : Bool → Context → Position → List Tree → Position → Cost → Type 0 where
     args : {of_name : Bool} {x : Context} {p q : Position} {ts : List Tree} {c : Cost}
-        → ArgumentListAs (argument_list_case (drop 1 p.rest)) x p.scopes (if opens_scope of_name x then Some [] else None)
-        (skip 1 p) ts q c
+        → ArgumentListAs (argument_list_case (drop 1 p.rest)) x p.scopes
+        (if opens_scope of_name x then Some [] else None) (skip 1 p) ts q c
         → Args of_name x p ts q (counted (length (list_printing ts)) c)
 
   -- one more <template-arg>, or the E after them. It is read inside the scopes outside the list and the list's own, if
   -- it opened one. Then the scopes that it opened are dropped, and it goes into the list's own
-  pub data ArgumentListAs : ArgumentListCase → Context → List (List Tree) → Option (List Tree) → Position → List Tree → Position
-      → Cost → Type 0 where
+  pub data ArgumentListAs : ArgumentListCase → Context → List (List Tree) → Option (List Tree) → Position
+      → List Tree → Position → Cost → Type 0 where
     -- E
     end_of_arguments : {x : Context} {p : Position} {outer : List (List Tree)} {own : Option (List Tree)}
         → ArgumentListAs EndOfArguments x outer own p [] (within_list outer own (skip 1 p)) nothing

@@ -191,7 +191,8 @@ template_param_as false i s = slice_get (last_args s.scopes) i
 -- <template-param>
 unfoldable pub parse_template_param : Context → Parses Shape
 parse_template_param x s =
-    index_of Decimal (drop 1 s.rest) >>= λ found. template_param_as x.lambda found.0 s >>= λ t. Some (t, with_rest found.1 s)
+    index_of Decimal (drop 1 s.rest) >>= λ found.
+    template_param_as x.lambda found.0 s >>= λ t. Some (t, with_rest found.1 s)
 
 -- a template parameter that is saved
 abbrev pub saved_template_param : Context → Parses Shape

@@ -38,8 +38,8 @@ pub fn text_limit() -> usize
 }
 
 /// Reads mangled bytes. Each production has a function over a `Reader`, or a method. The function returns `Ok` if the
-/// production was read; then `found` is the piece of its printing. It returns `Stop::Unreadable` if the bytes aren't read
-/// as the production, and `Stop::Memory` if an allocation fails.
+/// production was read; then `found` is the piece of its printing. It returns `Stop::Unreadable` if the bytes aren't
+/// read as the production, and `Stop::Memory` if an allocation fails.
 #[derive(Drop)]
 pub struct Reader<'a> {
     /// The bytes that aren't read yet.

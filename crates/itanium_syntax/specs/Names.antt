@@ -52,7 +52,7 @@ abbrev pub begins_destructor : List ℕ → Bool
 begins_destructor bytes =
     begins (codes "D") bytes && (begins_between "0" "2" (drop 1 bytes) || begins_between "4" "5" (drop 1 bytes))
 
--- an <unqualified-name> that is no <ctor-dtor-name>, so it needs no parent. `UnreadableName`: none, and this isn't read.
+-- an <unqualified-name> that is no <ctor-dtor-name>, so it needs no parent. `UnreadableName`: there is none
 abbrev pub ordinary_case : List ℕ → OrdinaryCase
 ordinary_case bytes =
     if begins_between "1" "9" bytes then SourceName else

@@ -137,7 +137,7 @@ pub record HasReplaced (options : Replacement) (mid_word : Bool) (given left : L
   pub leads : Leads options mid_word done text after
   pub written : Appends before_written after_written text
 
--- A beginning of the replaced text of the given bytes was written. `mid_word`: they begin inside a word without a symbol.
+-- A beginning of the replaced text of the given bytes was written. `mid_word` is that of `Leads`.
 abbrev pub ReplacesBeginning : Replacement → Bool → List ℕ → Option (List ℕ) → Option (List ℕ) → Type 0
 ReplacesBeginning options mid_word given before after =
     (written : List ℕ)

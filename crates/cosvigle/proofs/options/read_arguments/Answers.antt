@@ -2,7 +2,7 @@ use Rattle.std.proofs.Common.{◌+◌, ◌<◌, length, drop, get_or, [], refl, 
 use Rattle.std.proofs.lemmas.List.{take_rest}
 use Rattle.cosvigle.specs.declared.options.Kind.TheVariants.{End, Name, Letters, Symbol}
 use Rattle.cosvigle.specs.declared.options.Request.TheVariants.{Symbols, Stopped}
-use Rattle.cosvigle.specs.Options.{IsRequestAfter, texts}
+use Rattle.cosvigle.specs.Options.{AsksFor, texts}
 use Rattle.cosvigle.proofs.Turns.{value_turn, go_turn, stop_turn, read_ended, next_symbol, symbols_after}
 use Rattle.cosvigle.proofs.options.read_arguments.Goals as goal
 use Rattle.cosvigle.proofs.options.read_arguments.Goals.{in-Name, in-Letters, in-Symbol+in_ok-push-in-Symbol}
@@ -21,7 +21,7 @@ returns-in-Stop c =
     let inside : at < length all = omega arith in
     record {
       asked =
-          subst (λ s. IsRequestAfter s (Stopped c.in-Stop.stop c.loop-at.last))
+          subst (λ s. AsksFor s (Stopped c.in-Stop.stop c.loop-at.last))
           (sym (stop_turn all at record { ref_ptr = (0, 0); now = [] } _ c.loop-at.state c.in-Stop.stop _ _ inside c.in-Stop.is c.loop-at.invariant)) (refl, refl);
     }
 
@@ -34,7 +34,7 @@ returns-in-End c =
     ∙ read_ended c.in-Go.flags (texts c.loop-at.symbols.items) (drop (at + 1) (texts all)) in
     record {
       asked =
-          subst (λ s. IsRequestAfter s (Symbols c.in-Go.flags c.extend_from_slice.new.self)) (sym read_all)
+          subst (λ s. AsksFor s (Symbols c.in-Go.flags c.extend_from_slice.new.self)) (sym read_all)
           (refl, symbols_after c.loop-at.symbols.items c.extend_from_slice.new.self.items all (at + 1) c.in_ok-extend_from_slice-in-End.ensures.items);
     }
 
