@@ -13,7 +13,7 @@ of symbols.
   -P, --params               print names with their parameters
   -p, --no-params            print names without parameters (default)
   -l, --lines                each line of the input is one symbol; -_ is ignored
-  -s, --format=FORMAT        auto or gnu-v3 (no effect), or none: read no symbol
+  -s, --format=FORMAT        auto or gnu-v3: read symbols; none: read no symbol
   -h, --help                 print this text
   -v, --version              print the version
   @FILE                      stands for the words of this file

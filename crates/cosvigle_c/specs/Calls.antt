@@ -9,9 +9,9 @@ use Rattle.symfilter_engine.specs.Replaced.{IsReplaced}
 use Rattle.cosvigle_c.specs.Room.{Fills, IsShort}
 
 -- the demangled name of a symbol; or its signature, and where it has none its demangled name
-abbrev pub IsAsked : Printing → List ℕ → Option (List ℕ) → Type 0
-IsAsked Names symbol answer = IsAnswer symbol answer
-IsAsked Signatures symbol answer = (signature : Bool) × IsSignatureOrName signature symbol answer
+abbrev pub IsNameOrSignature : Printing → List ℕ → Option (List ℕ) → Type 0
+IsNameOrSignature Names symbol answer = IsAnswer symbol answer
+IsNameOrSignature Signatures symbol answer = (signature : Bool) × IsSignatureOrName signature symbol answer
 
 -- symbols in words are replaced by their demangled names
 abbrev pub by_names : Bool → Replacement
@@ -20,17 +20,17 @@ by_names strip = record { strip = strip; printing = Names }
 -- what was asked of the symbol is written
 pub record WritesAnswer (printing : Printing) (symbol old new : List ℕ) (needed : ℕ) : Type 0 where
   pub text : List ℕ
-  pub answer : IsAsked printing symbol (Some text)
+  pub answer : IsNameOrSignature printing symbol (Some text)
   pub fills : Fills text old new needed
 
 -- there is too little room for what was asked of the symbol
 pub record LacksRoom (printing : Printing) (symbol old new : List ℕ) (needed : ℕ) : Type 0 where
   pub text : List ℕ
-  pub answer : IsAsked printing symbol (Some text)
+  pub answer : IsNameOrSignature printing symbol (Some text)
   pub short : IsShort text old new needed
 
 -- the filtered text of the lines is written
-pub record WritesWhole (lines old new : List ℕ) (needed : ℕ) : Type 0 where
+pub record WritesLines (lines old new : List ℕ) (needed : ℕ) : Type 0 where
   pub text : List ℕ
   pub filtered : IsAnswered Names lines text
   pub fills : Fills text old new needed

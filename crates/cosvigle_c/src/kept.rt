@@ -1,7 +1,7 @@
 //! What a handle keeps between calls.
 ghost use Rattle.std.specs.Prelude.{◌≡◌, [], OnOk};
 ghost use Rattle.itanium_demangle.specs.LastResult.{no_result};
-ghost use Rattle.cosvigle_c.specs.Calls.{IsAsked};
+ghost use Rattle.cosvigle_c.specs.Calls.{IsNameOrSignature};
 ghost use Rattle.cosvigle_c.specs.Kept.{HasRead};
 
 use itanium_demangle::Demangler;
@@ -35,7 +35,7 @@ impl Kept {
         printing: Printing,
         symbol: &str,
     ) -> Result<(), AllocError>
-        ensures answer { OnOk result (IsAsked printing symbol.now self.new.demangler.text) }
+        ensures answer { OnOk result (IsNameOrSignature printing symbol.now self.new.demangler.text) }
         ensures read { OnOk result (HasRead printing symbol.now self.new.demangler) }
         ensures text { self.new.text ≡ self.old.text }
     {

@@ -15,7 +15,7 @@ ghost use Rattle.itanium_grammar.specs.Answer.{IsAnswer};
 ghost use Rattle.itanium_demangle.specs.LastResult.{no_result};
 ghost use Rattle.cosvigle_c.specs.Kept.{run_of, text_of, KeepsSymbol};
 ghost use Rattle.symfilter_engine.specs.declared.symbols.Printing.TheVariants.{Names, Signatures};
-ghost use Rattle.cosvigle_c.specs.Calls.{IsAsked, WritesAnswer, LacksRoom};
+ghost use Rattle.cosvigle_c.specs.Calls.{IsNameOrSignature, WritesAnswer, LacksRoom};
 
 mod handle;
 mod kept;
@@ -52,7 +52,7 @@ fn ask(
 ) -> i32
     ensures status { result ≢ pos 0 → result ≢ pos 1 → result ≢ pos 2 → result ≢ pos 3 → result ≡ pos 4 }
     ensures written { result ≡ pos 0 → WritesAnswer printing symbol.now answer.old answer.new needed.new }
-    ensures no_answer { result ≡ pos 1 → IsAsked printing symbol.now None }
+    ensures no_answer { result ≡ pos 1 → IsNameOrSignature printing symbol.now None }
     ensures no_room { result ≡ pos 3 → LacksRoom printing symbol.now answer.old answer.new needed.new }
     ensures not_utf8 { result ≡ pos 4 ↔ (IsUtf8 symbol.now → ⊥) }
     ensures stays { result ≢ pos 0 → answer.new ≡ answer.old }
@@ -132,7 +132,7 @@ pub extern "C" fn cosvigle_ask_signature(
 ) -> i32
     ensures status { result ≢ pos 0 → result ≢ pos 1 → result ≢ pos 2 → result ≢ pos 3 → result ≡ pos 4 }
     ensures written { result ≡ pos 0 → WritesAnswer Signatures symbol.now answer.old answer.new needed.new }
-    ensures no_answer { result ≡ pos 1 → IsAsked Signatures symbol.now None }
+    ensures no_answer { result ≡ pos 1 → IsNameOrSignature Signatures symbol.now None }
     ensures no_room { result ≡ pos 3 → LacksRoom Signatures symbol.now answer.old answer.new needed.new }
     ensures not_utf8 { result ≡ pos 4 ↔ (IsUtf8 symbol.now → ⊥) }
     ensures stays { result ≢ pos 0 → answer.new ≡ answer.old }

@@ -6,7 +6,7 @@ ghost use Rattle.symfilter_engine.specs.Filtered.{IsAnswered};
 ghost use Rattle.symfilter_engine.specs.Replaced.{IsReplaced};
 ghost use Rattle.cosvigle_c.specs.Room.{Fills, IsShort};
 ghost use Rattle.cosvigle_c.specs.Kept.{run_of, text_of};
-ghost use Rattle.cosvigle_c.specs.Calls.{by_names, WritesWhole, LacksLines, KeepsLines, WritesWords, KeepsWords};
+ghost use Rattle.cosvigle_c.specs.Calls.{by_names, WritesLines, LacksLines, KeepsLines, WritesWords, KeepsWords};
 
 use crate::handle::Handle;
 use crate::kept::Kept;
@@ -87,7 +87,7 @@ pub extern "C" fn cosvigle_filter(
     needed: &mut usize,
 ) -> i32
     ensures status { result ≢ pos 0 → result ≢ pos 3 → result ≡ pos 2 }
-    ensures written { result ≡ pos 0 → WritesWhole lines.now into.old into.new needed.new }
+    ensures written { result ≡ pos 0 → WritesLines lines.now into.old into.new needed.new }
     ensures no_room { result ≡ pos 3 → LacksLines lines.now into.old into.new needed.new }
     ensures stays { result ≢ pos 0 → into.new ≡ into.old }
     ensures nothing { result ≡ pos 2 → needed.new ≡ 0 }
@@ -150,7 +150,7 @@ pub extern "C" fn cosvigle_filter_with(
     needed: &mut usize,
 ) -> i32
     ensures status { result ≢ pos 0 → result ≢ pos 3 → result ≡ pos 2 }
-    ensures written { result ≡ pos 0 → WritesWhole lines.now into.old into.new needed.new }
+    ensures written { result ≡ pos 0 → WritesLines lines.now into.old into.new needed.new }
     ensures no_room { result ≡ pos 3 →
         KeepsLines lines.now into.old into.new needed.new (text_of handle.new.kept) }
     ensures stays { result ≢ pos 0 → into.new ≡ into.old }

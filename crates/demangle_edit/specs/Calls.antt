@@ -10,7 +10,7 @@ use Rattle.demangle_edit.specs.Types.{array_shape, may_be_element, may_be_member
 use Rattle.demangle_edit.specs.Built.{function_opened}
 use Rattle.demangle_text.specs.declared.pieces.Piece.{Piece}
 use Rattle.demangle_text.specs.declared.buffer.Buffer.{Buffer}
-use Rattle.demangle_text.specs.State.{StaysInPlace, JoinsInPlace, Appends}
+use Rattle.demangle_text.specs.State.{StaysInPlace, JoinsInPlace, AppendsPiece}
 use Rattle.demangle_edit.specs.declared.expressions.LiteralForm.{LiteralForm}
 use Rattle.demangle_edit.specs.declared.expressions.LiteralForm.TheVariants.{Boolean, Null, Integer, Float, Cast}
 use Rattle.demangle_edit.specs.Expressions.{literal_shape, has_literal, sign_text, digits_text}
@@ -62,18 +62,18 @@ opening_step ret = if is_plain ret.form then Some (function_opened ret) else Non
 
 -- where a literal is put, by its form: around its type, where that is shown, and else after the output
 abbrev pub IsPut : LiteralForm → Buffer → Buffer → Piece → Piece → Type 0
-IsPut Boolean old new type literal = Appends old new literal
-IsPut Null old new type literal = Appends old new literal
-IsPut Integer old new type literal = Appends old new literal
-IsPut Float old new type literal = Appends old new literal
+IsPut Boolean old new type literal = AppendsPiece old new literal
+IsPut Null old new type literal = AppendsPiece old new literal
+IsPut Integer old new type literal = AppendsPiece old new literal
+IsPut Float old new type literal = AppendsPiece old new literal
 IsPut Cast old new type literal = StaysInPlace old new type literal
 
 -- the same of one that may begin with a parenthesis that is there
 abbrev pub IsPutAfter : LiteralForm → Buffer → Buffer → Piece → Piece → Piece → Type 0
-IsPutAfter Boolean old new paren type literal = Appends old new literal
-IsPutAfter Null old new paren type literal = Appends old new literal
-IsPutAfter Integer old new paren type literal = Appends old new literal
-IsPutAfter Float old new paren type literal = Appends old new literal
+IsPutAfter Boolean old new paren type literal = AppendsPiece old new literal
+IsPutAfter Null old new paren type literal = AppendsPiece old new literal
+IsPutAfter Integer old new paren type literal = AppendsPiece old new literal
+IsPutAfter Float old new paren type literal = AppendsPiece old new literal
 IsPutAfter Cast old new paren type literal = JoinsInPlace old new paren type literal
 
 -- the sign and the digits of a literal's value

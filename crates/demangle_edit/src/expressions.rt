@@ -2,7 +2,7 @@
 ghost use Rattle.std.specs.Prelude.{◌≡◌, codes, [], false, IfOk, OnOk};
 ghost use Rattle.demangle_text.specs.Shape.{text, plain_shape, appended, whole_shape};
 ghost use Rattle.demangle_text.specs.State.{IsLiving, shape, Lives, IsEdit, KeepsAll, main_bytes};
-ghost use Rattle.demangle_text.specs.State.{StaysInPlace, IsLeftOrStays, JoinsInPlace, Appends};
+ghost use Rattle.demangle_text.specs.State.{StaysInPlace, IsLeftOrStays, JoinsInPlace, AppendsPiece};
 ghost use Rattle.demangle_edit.specs.Answers.{Answers, IfFound, OnNone};
 ghost use Rattle.demangle_edit.specs.Expressions as spec;
 ghost use Rattle.demangle_edit.specs.Calls as calls;

@@ -1,7 +1,7 @@
 //! Edits that join texts, and edits that build lists as they are read.
 ghost use Rattle.std.specs.Prelude.{◌≡◌, ℕ, ◌<◌, ◌++◌, All, map, length, decimal, IfOk, OnOk};
 ghost use Rattle.demangle_text.specs.Shape.{text_len, appended};
-ghost use Rattle.demangle_text.specs.State.{IsLiving, shape, Lives, IsEdit, KeepsAll, StaysInPlace, Appends};
+ghost use Rattle.demangle_text.specs.State.{IsLiving, shape, Lives, IsEdit, KeepsAll, StaysInPlace, AppendsPiece};
 ghost use Rattle.demangle_text.specs.State.{Stands, main_bytes};
 ghost use Rattle.demangle_text.specs.Calls.{IsLast, IsInner, text_after};
 ghost use Rattle.demangle_edit.specs.Lists.{glued, pack_shape};
@@ -21,7 +21,7 @@ pub fn glue(buf: &mut Buffer, parts: &[Glue]) -> Result<Piece, AllocError>
     requires parts { All (IsLivingPart buf.old) parts.now }
     ensures shape { IfOk result (λ p. Lives buf.new p (glued (map (part_text (shape buf.old)) parts.now))) }
     ensures edit { OnOk result (IsEdit buf.old buf.new) }
-    ensures appends { IfOk result (λ p. Appends buf.old buf.new p) }
+    ensures appends { IfOk result (λ p. AppendsPiece buf.old buf.new p) }
 {
     let mark = buf.open();
     let mut all = buf.push(b"")?;
@@ -42,7 +42,7 @@ pub(crate) fn list_pieces(buf: &mut Buffer, pieces: &[Piece]) -> Result<Piece, A
     requires pieces { All (IsLiving buf.old) pieces.now }
     ensures shape { IfOk result (λ p. Lives buf.new p (pack_shape (map (shape buf.old) pieces.now))) }
     ensures kept { OnOk result (KeepsAll buf.old buf.new) }
-    ensures appends { IfOk result (λ p. Appends buf.old buf.new p) }
+    ensures appends { IfOk result (λ p. AppendsPiece buf.old buf.new p) }
 {
     let mark = buf.open();
     let mut list = buf.push(b"")?;

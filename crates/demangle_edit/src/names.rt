@@ -2,7 +2,7 @@
 ghost use Rattle.std.specs.Prelude.{◌≡◌, All, map, false, IfOk, OnOk, OnErr};
 ghost use Rattle.demangle_quals.specs.Quals.{has_quals};
 ghost use Rattle.demangle_text.specs.Shape.{plain_shape};
-ghost use Rattle.demangle_text.specs.State.{IsLiving, shape, Lives, IsEdit, StaysInPlace, IsLeftOrStays, JoinsInPlace, Appends};
+ghost use Rattle.demangle_text.specs.State.{IsLiving, shape, Lives, IsEdit, StaysInPlace, IsLeftOrStays, JoinsInPlace, AppendsPiece};
 ghost use Rattle.demangle_edit.specs.Names.{qualified, qualified_ctor, angle_gap, attached, tagged};
 ghost use Rattle.demangle_edit.specs.Names.{encoding_shape, with_name_qualifiers, default_arg_shape};
 ghost use Rattle.demangle_edit.specs.Built.{parent_opened, default_arg_opened, enclosed};
@@ -105,7 +105,7 @@ pub fn default_arg(
     ensures shape { IfOk result (λ p. Lives buf.new p
         (default_arg_shape (shape buf.old parent) number (shape buf.old entity))) }
     ensures edit { OnOk result (IsEdit buf.old buf.new) }
-    ensures appends { IfOk result (λ p. Appends buf.old buf.new p) }
+    ensures appends { IfOk result (λ p. AppendsPiece buf.old buf.new p) }
 {
     let mark = buf.open();
     let opened = open_default_arg(buf, parent, number)?;
@@ -164,7 +164,7 @@ pub fn format_params(
     ensures shape { IfOk result (λ p. Lives buf.new p
         (encoding_shape (shape buf.old name) (map (shape buf.old) params.now) quals)) }
     ensures edit { OnOk result (IsEdit buf.old buf.new) }
-    ensures appends { IfOk result (λ p. Appends buf.old buf.new p) }
+    ensures appends { IfOk result (λ p. AppendsPiece buf.old buf.new p) }
 {
     let mark = buf.open();
     let mut list = open_params(buf, name)?;

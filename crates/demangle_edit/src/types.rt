@@ -3,7 +3,7 @@ ghost use Rattle.std.specs.Prelude.{◌≡◌, ◌≢◌, ◌+◌, ◌++◌, All
 ghost use Rattle.demangle_text.specs.Shape.{text, plain_shape, inserted};
 ghost use Rattle.demangle_text.specs.Calls.{CanInsert, IsPlain, IsDeclared, kind_of, group_of, front_text};
 ghost use Rattle.demangle_text.specs.State.{IsLiving, shape, Lives, IsEdit, KeepsAll, main_bytes};
-ghost use Rattle.demangle_text.specs.State.{StaysInPlace, IsLeftOrStays, JoinsInPlace, Appends, StandsShortened};
+ghost use Rattle.demangle_text.specs.State.{StaysInPlace, IsLeftOrStays, JoinsInPlace, AppendsPiece, StandsShortened};
 ghost use Rattle.demangle_edit.specs.Answers.{Answers, IfFound, OnNone};
 ghost use Rattle.demangle_edit.specs.Types.{pointed, collapse_step, pointer_shape, cv_place, cv_shape};
 ghost use Rattle.demangle_edit.specs.Built.{function_closed};
@@ -211,7 +211,7 @@ pub fn wrap_member_pointer(
     ensures in_place { kind_of (shape buf.old member).form ≡ None
         → IfFound result (λ p. JoinsInPlace buf.old buf.new member class p) }
     ensures appends { kind_of (shape buf.old member).form ≡ Some Kind.Function
-        → IfFound result (λ p. Appends buf.old buf.new p) }
+        → IfFound result (λ p. AppendsPiece buf.old buf.new p) }
 {
     match buf.kind(member) {
         None => {

@@ -2,7 +2,7 @@
 use Rattle.std.proofs.Common.{◌≡◌, ℕ, ◌+◌, ◌-◌, ◌≤◌, Bool, true, false, List, ◌++◌, length, take, drop, slice_range, refl, sym, ap, ◌∙◌, subst, arith, append_assoc}
 use Rattle.std.proofs.lemmas.List.{length-append, length-drop, length-take-le, take_at, drop_at, take_all, drop_all, append-nil, take-append-le, drop-append-le, take-append-drop}
 use Rattle.demangle_text.specs.declared.pieces.Piece.{Piece}
-use Rattle.growing_text.specs.Room.{HasRoom}
+use Rattle.growing_text.specs.Room.{HasGap}
 use Rattle.growing_text.proofs.Parts.{part-append}
 use Rattle.demangle_text.specs.Pieces.{Store, IsStore, IsTail, IsTailAt, IsBrought, IsSplice, IsAdjacent, IsJoint, EndsBy, Extends, home_bytes, piece_text}
 use Rattle.demangle_text.specs.State.{IsLiving, KeepsAll, IsEdit}
@@ -182,7 +182,7 @@ in-copy output text bytes from at starts within =
 -- a gap in a copy
 module _ (s : Store) (p : Piece) (mid all : List ℕ) (at n from : ℕ) (i : IsStore s) (lies : IsLiving s p) (apart : IsTail s p → ⊥)
     (starts : from ≡ length s.output_text) (place : at ≤ p.to_byte - p.from_byte) (copied : mid ≡ s.output_text ++ piece_text s.output_text s.spill_text p)
-    (room : HasRoom (take (from + at) mid) (drop (from + at) mid) all n) where
+    (room : HasGap (take (from + at) mid) (drop (from + at) mid) all n) where
   abbrev text : List ℕ
   text = piece_text s.output_text s.spill_text p
 

@@ -4,20 +4,20 @@ use Rattle.std.proofs.Common.{refl, sym, ap, ◌∙◌, subst, arith, append_ass
 use Rattle.std.proofs.lemmas.List.{length-append, length-drop, length-take-le, take_at}
 use Rattle.demangle_text.specs.declared.pieces.Piece.{Piece}
 use Rattle.demangle_text.specs.Pieces.{Store, IsStore, IsApart, IsSpilled, EndsBy, carried}
-use Rattle.growing_text.specs.Room.{HasRoom}
+use Rattle.growing_text.specs.Room.{HasGap}
 use Rattle.demangle_text.specs.Pieces.{home_bytes, piece_text}
 use Rattle.demangle_text.specs.State.{IsLiving, IsEdit}
 use Rattle.demangle_text.specs.Gaps.{IsGap}
 use Rattle.demangle_text.proofs.Texts.{Moves, part-below}
 use Rattle.growing_text.proofs.Parts.{part-append}
-use Rattle.growing_text.proofs.Rooms.{length-HasRoom, HasRoom-put, HasRoom-filled}
+use Rattle.growing_text.proofs.Rooms.{length-HasGap, HasGap-put, HasGap-filled}
 use Rattle.demangle_text.proofs.Carried.{Moves-inserted, IsStore-after, IsEdit-after}
 
 -- how long the text with the gap is
-pub length-gap : (old new : List ℕ) (at n : ℕ) → at ≤ length old → HasRoom (take at old) (drop at old) new n
+pub length-gap : (old new : List ℕ) (at n : ℕ) → at ≤ length old → HasGap (take at old) (drop at old) new n
     → length new ≡ length old + n
 length-gap old new at n within h =
-    omega (arith, length-HasRoom (take at old) (drop at old) new n h, length-take-le at old within, length-drop at old)
+    omega (arith, length-HasGap (take at old) (drop at old) new n h, length-take-le at old within, length-drop at old)
 
 -- what would be torn is set aside, and all after a place moves on by n bytes
 module _ (s : Store) (m spill : List ℕ) (saved args saved' args' : List Piece) (at n len dest : ℕ)
@@ -46,7 +46,7 @@ module _ (s : Store) (m spill : List ℕ) (saved args saved' args' : List Piece)
         IsEdit-after s m spill saved args same a at at len dest output saved' args' i
         saved_apart args_apart by_saved by_args moves inner
 
-  module _ (output : List ℕ) (h : HasRoom (take at s.output_text) (drop at s.output_text) output n) where
+  module _ (output : List ℕ) (h : HasGap (take at s.output_text) (drop at s.output_text) output n) where
     pub IsStore-opened : IsStore (gapped output)
     IsStore-opened = IsStore-gapped output h.room h.long h.parts
 
@@ -73,16 +73,16 @@ module _ (old s : Store) (at n : ℕ) (gap : IsGap old s at n) (bytes output : L
 
 -- by one text
 pub one-put : (old all bytes new : List ℕ) (at : ℕ) → at ≤ length old
-    → HasRoom (take at old) (drop at old) all (length bytes)
+    → HasGap (take at old) (drop at old) all (length bytes)
     → new ≡ take at all ++ (bytes ++ drop (at + length bytes) all) → new ≡ take at old ++ (bytes ++ drop at old)
 one-put old all bytes new at within h is =
     let low = sym (length-take-le at old within) in
-    HasRoom-filled (take at old ++ bytes) (drop at old) new
-    (HasRoom-put (take at old) (drop at old) all bytes new (length bytes) 0 at (length bytes) h low refl (omega arith) is)
+    HasGap-filled (take at old ++ bytes) (drop at old) new
+    (HasGap-put (take at old) (drop at old) all bytes new (length bytes) 0 at (length bytes) h low refl (omega arith) is)
     ∙ append_assoc (take at old) bytes (drop at old)
 
 -- a part of what stands before the gap stays
-part-before : (old new : List ℕ) (at n a b : ℕ) → at ≤ length old → HasRoom (take at old) (drop at old) new n
+part-before : (old new : List ℕ) (at n a b : ℕ) → at ≤ length old → HasGap (take at old) (drop at old) new n
     → a ≤ b → b ≤ at → slice_range new a b ≡ slice_range old a b
 part-before old new at n a b place h ordered before =
     let low = length-take-le at old place in

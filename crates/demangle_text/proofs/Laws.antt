@@ -10,7 +10,7 @@ use Rattle.demangle_text.specs.State.{Frame, frame, frame_start, inside, main_by
 use Rattle.demangle_text.specs.State.{Lives, SameLists, SameFrame, KeepsFront, KeepsAll, IsEdit, Opens, Closes, IsRun}
 use Rattle.demangle_text.specs.State.{IsSince}
 use Rattle.demangle_text.specs.Calls.{IsLast, IsInner, text_after}
-use Rattle.demangle_text.specs.State.{Stands, StandsAs, StandsBefore, EndsMain, IsEditOf, IsJoinOf, StaysInPlace, JoinsInPlace, Appends}
+use Rattle.demangle_text.specs.State.{Stands, StandsAs, StandsBefore, EndsMain, IsEditOf, IsJoinOf, StaysInPlace, JoinsInPlace, AppendsPiece}
 use Rattle.demangle_text.proofs.States.{Stands-begins, Stands-ordered, Stands-tail}
 pub use Rattle.demangle_text.proofs.States.{main_split, text_after-more, text_after-same, text_after-last}
 
@@ -242,43 +242,43 @@ JoinsInPlace-trans old mid new p q r s e a b = record {
 }
 
 -- a text that is pushed
-pub Appends-push : (old new : Store) (p : Piece) (bytes : List ℕ) → frame_start (frame old) ≤ length (main_bytes old)
-    → main_bytes new ≡ main_bytes old ++ bytes → Stands p (length (main_bytes old)) (length (main_bytes new)) → Appends old new p
-Appends-push old new p bytes inner output stands = record {
+pub AppendsPiece-push : (old new : Store) (p : Piece) (bytes : List ℕ) → frame_start (frame old) ≤ length (main_bytes old)
+    → main_bytes new ≡ main_bytes old ++ bytes → Stands p (length (main_bytes old)) (length (main_bytes new)) → AppendsPiece old new p
+AppendsPiece-push old new p bytes inner output stands = record {
   front = ap (take (length (main_bytes old))) output ∙ take_at (main_bytes old) bytes (length (main_bytes old)) refl;
   inner = inner;
   stands = stands;
 }
 
 -- and edited afterwards
-pub Appends-edit : (old mid new : Store) (p q : Piece) → IsEdit old mid → Appends old mid p → StaysInPlace mid new p q → Appends old new q
-Appends-edit old mid new p q e a s =
+pub AppendsPiece-edit : (old mid new : Store) (p q : Piece) → IsEdit old mid → AppendsPiece old mid p → StaysInPlace mid new p q → AppendsPiece old new q
+AppendsPiece-edit old mid new p q e a s =
     let len = length (main_bytes old) in
     let k = s.stays len (subst (λ (f : Frame). frame_start f ≤ len) (sym e.frame_same) a.inner) a.stands in
     record { front = k.1 ∙ a.front; inner = a.inner; stands = k.0 }
 
 -- and what is answered with no edit for it
-pub Appends-named : (old new : Store) (p q : Piece) → Appends old new p → StandsAs p q → Appends old new q
-Appends-named old new p q a as_piece =
+pub AppendsPiece-named : (old new : Store) (p q : Piece) → AppendsPiece old new p → StandsAs p q → AppendsPiece old new q
+AppendsPiece-named old new p q a as_piece =
     record { front = a.front; inner = a.inner; stands = as_piece (length (main_bytes old)) (length (main_bytes new)) a.stands }
 
 -- a text inside a mark at the end of the output, which is closed again
-pub Appends-closed : (old mid new : Store) (m : Mark) (p : Piece) → frame_start (inside m) ≡ length (main_bytes old) → Opens old mid m → Closes mid new m
-    → Stands p (frame_start (inside m)) (length (main_bytes new)) → Appends old new p
-Appends-closed old mid new m p starts o c stands = record {
+pub AppendsPiece-closed : (old mid new : Store) (m : Mark) (p : Piece) → frame_start (inside m) ≡ length (main_bytes old) → Opens old mid m → Closes mid new m
+    → Stands p (frame_start (inside m)) (length (main_bytes new)) → AppendsPiece old new p
+AppendsPiece-closed old mid new m p starts o c stands = record {
   front = subst (λ (k : ℕ). take k (main_bytes new) ≡ main_bytes old) starts (c.front ∙ o.front);
   inner = subst (λ (k : ℕ). frame_start (frame old) ≤ k) starts o.nested;
   stands = subst (λ (k : ℕ). Stands p k (length (main_bytes new))) starts stands;
 }
 
 -- the same of the call that closes it
-pub Appends-close : {E : Type 0} (old mid new : Store) (m : Mark) (r : Result Piece E) → frame_start (inside m) ≡ length (main_bytes old) → Opens old mid m
-    → OnOk r (Closes mid new m) → IfOk r (λ p. Stands p (frame_start (inside m)) (length (main_bytes new))) → IfOk r (λ p. Appends old new p)
-Appends-close old mid new m (Ok p) starts o c stands = Appends-closed old mid new m p starts o c stands
-Appends-close old mid new m (Err e) starts o c stands = tt
+pub AppendsPiece-close : {E : Type 0} (old mid new : Store) (m : Mark) (r : Result Piece E) → frame_start (inside m) ≡ length (main_bytes old) → Opens old mid m
+    → OnOk r (Closes mid new m) → IfOk r (λ p. Stands p (frame_start (inside m)) (length (main_bytes new))) → IfOk r (λ p. AppendsPiece old new p)
+AppendsPiece-close old mid new m (Ok p) starts o c stands = AppendsPiece-closed old mid new m p starts o c stands
+AppendsPiece-close old mid new m (Err e) starts o c stands = tt
 
 -- a piece and what was put after the output, joined
-module _ (old mid new : Store) (p q r : Piece) (n : ℕ) (lies : IsLiving old p) (same : frame mid ≡ frame old) (a : Appends old mid q) (j : IsJoinOf mid new p q r n) where
+module _ (old mid new : Store) (p q r : Piece) (n : ℕ) (lies : IsLiving old p) (same : frame mid ≡ frame old) (a : AppendsPiece old mid q) (j : IsJoinOf mid new p q r n) where
   -- a piece that stood at the end stays there
   joined_stays : (at : ℕ) → frame_start (frame old) ≤ at → Stands p at (length (main_bytes old))
       → Stands r at (length (main_bytes new)) × (take at (main_bytes new) ≡ take at (main_bytes old))

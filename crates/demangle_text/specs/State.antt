@@ -228,7 +228,7 @@ pub record JoinsInPlace (old new : Store) (first second answer : Piece) : Type 0
       → Stands answer from (length (main_bytes new)) × (take from (main_bytes new) ≡ take from (main_bytes old))
 
 -- The new output is the old output, followed by the answer. The answer begins at the innermost mark or later.
-pub record Appends (old new : Store) (answer : Piece) : Type 0 where
+pub record AppendsPiece (old new : Store) (answer : Piece) : Type 0 where
   pub front : take (length (main_bytes old)) (main_bytes new) ≡ main_bytes old
   pub inner : frame_start (frame old) ≤ length (main_bytes old)
   pub stands : Stands answer (length (main_bytes old)) (length (main_bytes new))

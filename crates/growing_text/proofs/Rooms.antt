@@ -2,22 +2,22 @@
 use Rattle.std.proofs.Common.{◌≡◌, ℕ, ◌+◌, ◌-◌, ◌≤◌, List, [], ◌++◌, length, take, drop, refl, sym, ap, ◌∙◌, subst, arith, append_assoc}
 use Rattle.std.proofs.lemmas.List.{length-append, length-drop, length-take-le, take_at, drop_at, drop-append-le, take-append-drop, drop-drop, nil_from_length, append-nil}
 use Rattle.std.specs.List.{copy_within}
-use Rattle.growing_text.specs.Room.{HasRoom}
+use Rattle.growing_text.specs.Room.{HasGap}
 use Rattle.growing_text.proofs.Fronts.{front-inserted}
 
 -- how long the whole is
-pub length-HasRoom : (front back all : List ℕ) (n : ℕ) → HasRoom front back all n → length all ≡ length front + (n + length back)
-length-HasRoom front back all n h =
+pub length-HasGap : (front back all : List ℕ) (n : ℕ) → HasGap front back all n → length all ≡ length front + (n + length back)
+length-HasGap front back all n h =
     ap length h.parts ∙ length-append front (h.room ++ back) ∙ ap (λ (k : ℕ). length front + k) (length-append h.room back ∙ ap (λ (k : ℕ). k + length back) h.long)
 
 -- no room is left
-pub HasRoom-filled : (front back all : List ℕ) → HasRoom front back all 0 → all ≡ front ++ back
-HasRoom-filled front back all h = h.parts ∙ ap (λ (v : List ℕ). front ++ (v ++ back)) (nil_from_length h.room h.long)
+pub HasGap-filled : (front back all : List ℕ) → HasGap front back all 0 → all ≡ front ++ back
+HasGap-filled front back all h = h.parts ∙ ap (λ (v : List ℕ). front ++ (v ++ back)) (nil_from_length h.room h.long)
 
 -- bytes at the front of the room
-pub HasRoom-put : (front back all bytes new : List ℕ) (n m at k : ℕ) → HasRoom front back all n → at ≡ length front → k ≡ length bytes → n ≡ k + m
-    → new ≡ take at all ++ (bytes ++ drop (at + k) all) → HasRoom (front ++ bytes) back new m
-HasRoom-put front back all bytes new n m at k h by_at by_k by_n is =
+pub HasGap-put : (front back all bytes new : List ℕ) (n m at k : ℕ) → HasGap front back all n → at ≡ length front → k ≡ length bytes → n ≡ k + m
+    → new ≡ take at all ++ (bytes ++ drop (at + k) all) → HasGap (front ++ bytes) back new m
+HasGap-put front back all bytes new n m at k h by_at by_k by_n is =
     let r = h.room in
     let low : take at all ≡ front = ap (take at) h.parts ∙ take_at front (r ++ back) at (sym by_at) in
     let high : drop (at + k) all ≡ drop k r ++ back =
@@ -30,27 +30,27 @@ HasRoom-put front back all bytes new n m at k h by_at by_k by_n is =
     }
 
 -- a text and bytes, one after the other, in room for both
-pub both-put : (front back all one bytes mid new : List ℕ) (n at k : ℕ) → HasRoom front back all n → at ≡ length front → k ≡ length one → n ≡ k + length bytes
+pub both-put : (front back all one bytes mid new : List ℕ) (n at k : ℕ) → HasGap front back all n → at ≡ length front → k ≡ length one → n ≡ k + length bytes
     → mid ≡ take at all ++ (one ++ drop (at + k) all) → new ≡ take (at + k) mid ++ (bytes ++ drop (at + k + length bytes) mid) → new ≡ front ++ ((one ++ bytes) ++ back)
 both-put front back all one bytes mid new n at k h by_at by_k by_n is_mid is_new =
-    let first = HasRoom-put front back all one mid n (length bytes) at k h by_at by_k by_n is_mid in
+    let first = HasGap-put front back all one mid n (length bytes) at k h by_at by_k by_n is_mid in
     let there : at + k ≡ length (front ++ one) = omega (arith, length-append front one) in
-    let second = HasRoom-put (front ++ one) back mid bytes new (length bytes) 0 (at + k) (length bytes) first there refl (omega arith) is_new in
-    HasRoom-filled ((front ++ one) ++ bytes) back new second
+    let second = HasGap-put (front ++ one) back mid bytes new (length bytes) 0 (at + k) (length bytes) first there refl (omega arith) is_new in
+    HasGap-filled ((front ++ one) ++ bytes) back new second
     ∙ ap (λ (v : List ℕ). v ++ back) (append_assoc front one bytes) ∙ append_assoc front (one ++ bytes) back
 
 -- what isn't longer than the room fits in the whole
-pub room-fits : (front back all : List ℕ) (n at k : ℕ) → HasRoom front back all n → at ≡ length front → k ≤ n → at + k ≤ length all
-room-fits front back all n at k h by_at fits = omega (arith, length-HasRoom front back all n h)
+pub room-fits : (front back all : List ℕ) (n at k : ℕ) → HasGap front back all n → at ≡ length front → k ≤ n → at + k ≤ length all
+room-fits front back all n at k h by_at fits = omega (arith, length-HasGap front back all n h)
 
 -- three texts, one after the other, in room for all
-module _ (front back all a b d one two : List ℕ) (n at i j : ℕ) (h : HasRoom front back all n) (by_at : at ≡ length front) (by_n : n ≡ length a + length d + length b)
+module _ (front back all a b d one two : List ℕ) (n at i j : ℕ) (h : HasGap front back all n) (by_at : at ≡ length front) (by_n : n ≡ length a + length d + length b)
     (is_one : one ≡ take at all ++ (a ++ drop (at + length a) all)) (by_i : i ≡ at + length a) where
   there-first : i ≡ length (front ++ a)
   there-first = omega (arith, length-append front a)
 
-  pub room-first : HasRoom (front ++ a) back one (length b + length d)
-  room-first = HasRoom-put front back all a one n (length b + length d) at (length a) h by_at refl (omega arith) is_one
+  pub room-first : HasGap (front ++ a) back one (length b + length d)
+  room-first = HasGap-put front back all a one n (length b + length d) at (length a) h by_at refl (omega arith) is_one
 
   pub fits-first : i + length b ≤ length one
   fits-first = room-fits (front ++ a) back one (length b + length d) i (length b) room-first there-first (omega arith)
@@ -59,22 +59,22 @@ module _ (front back all a b d one two : List ℕ) (n at i j : ℕ) (h : HasRoom
     there-second : j ≡ length ((front ++ a) ++ b)
     there-second = omega (arith, there-first, length-append (front ++ a) b)
 
-    pub room-second : HasRoom ((front ++ a) ++ b) back two (length d)
-    room-second = HasRoom-put (front ++ a) back one b two (length b + length d) (length d) i (length b) room-first there-first refl refl is_two
+    pub room-second : HasGap ((front ++ a) ++ b) back two (length d)
+    room-second = HasGap-put (front ++ a) back one b two (length b + length d) (length d) i (length b) room-first there-first refl refl is_two
 
     pub fits-second : j + length d ≤ length two
     fits-second = room-fits ((front ++ a) ++ b) back two (length d) j (length d) room-second there-second (omega arith)
 
     pub three-put : (new : List ℕ) → new ≡ take j two ++ (d ++ drop (j + length d) two) → new ≡ front ++ ((a ++ (b ++ d)) ++ back)
     three-put new is =
-        let last = HasRoom-put ((front ++ a) ++ b) back two d new (length d) 0 j (length d) room-second there-second refl (omega arith) is in
-        HasRoom-filled (((front ++ a) ++ b) ++ d) back new last
+        let last = HasGap-put ((front ++ a) ++ b) back two d new (length d) 0 j (length d) room-second there-second refl (omega arith) is in
+        HasGap-filled (((front ++ a) ++ b) ++ d) back new last
         ∙ ap (λ (v : List ℕ). v ++ back) (append_assoc (front ++ a) b d ∙ append_assoc front a (b ++ d)) ∙ append_assoc front (a ++ (b ++ d)) back
 
 -- room in the front of a vector, when what lies after it was copied to where it goes
-pub HasRoom-opened : (ys : List ℕ) (len at n : ℕ) → at ≤ len → len + n ≤ length ys
-    → HasRoom (take at (take len ys)) (drop at (take len ys)) (take (len + n) (copy_within ys at len (at + n))) n
-HasRoom-opened ys len at n within fits =
+pub HasGap-opened : (ys : List ℕ) (len at n : ℕ) → at ≤ len → len + n ≤ length ys
+    → HasGap (take at (take len ys)) (drop at (take len ys)) (take (len + n) (copy_within ys at len (at + n))) n
+HasGap-opened ys len at n within fits =
     let zs = copy_within ys at len (at + n) in
     let room = take n (drop at zs) in
     let rest = take (len - at) (drop at ys) in
@@ -93,8 +93,8 @@ HasRoom-opened ys len at n within fits =
     }
 
 -- room after the front of a vector
-HasRoom-after : (ys : List ℕ) (len n : ℕ) → len + n ≤ length ys → HasRoom (take len ys) [] (take (len + n) ys) n
-HasRoom-after ys len n fits =
+HasGap-after : (ys : List ℕ) (len n : ℕ) → len + n ≤ length ys → HasGap (take len ys) [] (take (len + n) ys) n
+HasGap-after ys len n fits =
     let room = take n (drop len ys) in
     let l = take len ys in
     let r = drop len ys in
@@ -110,6 +110,6 @@ HasRoom-after ys len n fits =
     }
 
 -- room after a text, where what is reserved begins with it
-pub HasRoom-made : (xs ys old : List ℕ) (len n : ℕ) → take len ys ≡ take len xs → take len xs ≡ old → len + n ≤ length ys → HasRoom old [] (take (len + n) ys) n
-HasRoom-made xs ys old len n front is room =
-    subst (λ (v : List ℕ). HasRoom v [] (take (len + n) ys) n) (front ∙ is) (HasRoom-after ys len n room)
+pub HasGap-made : (xs ys old : List ℕ) (len n : ℕ) → take len ys ≡ take len xs → take len xs ≡ old → len + n ≤ length ys → HasGap old [] (take (len + n) ys) n
+HasGap-made xs ys old len n front is room =
+    subst (λ (v : List ℕ). HasGap v [] (take (len + n) ys) n) (front ∙ is) (HasGap-after ys len n room)

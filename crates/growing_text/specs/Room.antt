@@ -2,7 +2,7 @@
 use Rattle.std.specs.Prelude.{◌≡◌, ℕ, List, ◌++◌, length}
 
 -- the text is two others with n bytes between them
-pub record HasRoom (front back all : List ℕ) (n : ℕ) : Type 0 where
+pub record HasGap (front back all : List ℕ) (n : ℕ) : Type 0 where
   pub room : List ℕ
   pub long : length room ≡ n
   pub parts : all ≡ front ++ (room ++ back)

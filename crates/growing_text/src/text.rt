@@ -1,7 +1,7 @@
 //! A text that grows.
 ghost use Rattle.std.specs.Prelude.{◌≡◌, ℕ, ◌+◌, ◌-◌, ◌≤◌, List, [], ◌∷◌, ◌++◌, false, length, take, drop, slice_range};
 ghost use Rattle.std.specs.Prelude.{IsTrue, OnOk, OnErr};
-ghost use Rattle.growing_text.specs.Room.{HasRoom};
+ghost use Rattle.growing_text.specs.Room.{HasGap};
 
 use crate::lanes::copy_text;
 use std::alloc::{AllocError, Global};
@@ -141,7 +141,7 @@ impl Text {
     #[inline(always)]
     pub fn open_room(&mut self, at: usize, n: usize) -> Result<(), AllocError>
         requires within { at ≤ length self.old }
-        ensures ok { OnOk result (HasRoom (take at self.old) (drop at self.old) self.new n) }
+        ensures ok { OnOk result (HasGap (take at self.old) (drop at self.old) self.new n) }
         ensures err { OnErr result (self.new ≡ self.old) }
     {
         let len = self.len;

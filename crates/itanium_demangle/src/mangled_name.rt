@@ -3,7 +3,7 @@ ghost use Rattle.std.specs.Prelude.{OnOk};
 ghost use Rattle.demangle_text.specs.State.{IsRun};
 ghost use Rattle.itanium_grammar.specs.Cases.{AfterName};
 ghost use Rattle.itanium_reader.specs.Parser as spec;
-ghost use Rattle.itanium_reader.specs.Outcome.{state, Gives, HasRoom, TakesSome, SavedBounds};
+ghost use Rattle.itanium_reader.specs.Outcome.{state, Gives, CountFits, TakesSome, SavedBounds};
 ghost use Rattle.itanium_demangle.specs.Meaning.{ReadsAs, parse_mangled};
 
 use itanium_productions::{read_encoding, read_name, read_special_name};
@@ -16,7 +16,7 @@ use itanium_syntax::encodings::{EncodingEnd, begins_special};
 #[tactic(auto, using(itanium_reader::proofs::Rules::symbols))]
 #[inline(always)]
 fn read_symbol_name(reader: &mut Reader, depth: usize, context: Context) -> ReadResult
-    requires room { HasRoom 1 (state reader.old) }
+    requires room { CountFits 1 (state reader.old) }
     ensures reads { Gives result reader.new (spec.parse_encoding depth AfterName context (state reader.old)) }
     ensures run { OnOk result (IsRun reader.old.buffer.value reader.new.buffer.value) }
     ensures bounds { TakesSome 1 result (state reader.old) (state reader.new) }
@@ -33,7 +33,7 @@ fn read_symbol_name(reader: &mut Reader, depth: usize, context: Context) -> Read
 /// underscore is next. At most `depth` counted productions may nest, the signature included.
 #[tactic(auto, using(itanium_reader::proofs::Rules::signatures))]
 fn read_signature(reader: &mut Reader, depth: usize, context: Context) -> ReadResult
-    requires room { HasRoom 2 (state reader.old) }
+    requires room { CountFits 2 (state reader.old) }
     ensures reads { Gives result reader.new (spec.parse_signature depth context (state reader.old)) }
     ensures run { OnOk result (IsRun reader.old.buffer.value reader.new.buffer.value) }
     ensures bounds { TakesSome 2 result (state reader.old) (state reader.new) }
@@ -52,7 +52,7 @@ fn read_signature(reader: &mut Reader, depth: usize, context: Context) -> ReadRe
 #[tactic(auto, using(crate::proofs::Rules::readings))]
 #[inline(always)]
 pub(crate) fn read_mangled_name(reader: &mut Reader, depth: usize, signature: bool) -> ReadResult
-    requires room { HasRoom 2 (state reader.old) }
+    requires room { CountFits 2 (state reader.old) }
     ensures reads { Gives result reader.new (parse_mangled depth signature (state reader.old)) }
     // In terms of trees: `Ok` is a reading of the bytes, with which every other agrees. `Stop::Unreadable` means that
     // no reading is within the limits.

@@ -78,8 +78,8 @@ ChecksWidth (Err e) t = (e ≡ Unreadable) × (is_too_wide t ≡ true)
 
 -- The count of productions doesn't overflow: if two were entered for each byte that is left, and `more` besides, it
 -- would still fit 64 bits.
-abbrev pub HasRoom : ℕ → ParserState → Type 0
-HasRoom more s = s.entered + 2 * length s.rest + more < 2 ^ 64
+abbrev pub CountFits : ℕ → ParserState → Type 0
+CountFits more s = s.entered + 2 * length s.rest + more < 2 ^ 64
 
 -- What a successful reading costs.
 pub record CostBounds (least slack : ℕ) (before after : ParserState) : Type 0 where

@@ -10,7 +10,7 @@ ghost use Rattle.itanium_syntax.specs.Names.{past_internal};
 ghost use Rattle.itanium_syntax.specs.Types.{builtin_text, past_builtin};
 ghost use Rattle.itanium_grammar.specs.Answer.{max_text};
 ghost use Rattle.itanium_reader.specs.Parser as spec;
-ghost use Rattle.itanium_reader.specs.Outcome.{state, Enters, Gives, ChecksWidth, HasRoom, TakesSome, SavedBounds};
+ghost use Rattle.itanium_reader.specs.Outcome.{state, Enters, Gives, ChecksWidth, CountFits, TakesSome, SavedBounds};
 
 use crate::stop::{ReadResult, Stop};
 use demangle_edit::Quals;
@@ -214,7 +214,7 @@ impl<'a> Reader<'a> {
     /// may nest inside it, or `Stop::Unreadable` if `depth` is 0.
     #[inline(always)]
     pub fn enter(&mut self, depth: usize) -> Result<usize, Stop>
-        requires room { HasRoom 1 (state self.old) }
+        requires room { CountFits 1 (state self.old) }
         ensures enters { Enters result depth (state self.old) (state self.new) }
         ensures found { self.new.found ≡ self.old.found }
         ensures buffer { self.new.buffer.value ≡ self.old.buffer.value }

@@ -1,4 +1,4 @@
-use Rattle.demangle_text.proofs.Laws.{laws, StaysInPlace-edit, Appends-push, Appends-edit, Appends-named, IsEdit-keeps, IsEdit-trans}
+use Rattle.demangle_text.proofs.Laws.{laws, StaysInPlace-edit, AppendsPiece-push, AppendsPiece-edit, AppendsPiece-named, IsEdit-keeps, IsEdit-trans}
 use Rattle.std.proofs.Common.{rules, ◌≡◌, subst, arith}
 use Rattle.demangle_text.specs.Shape.{text}
 use Rattle.demangle_text.specs.State.{shape}
@@ -31,13 +31,13 @@ returns-in_ok-literal-in-Cast-clause-shape c = grind (arith, common_steps)
 pub returns-in_ok-closed-in-Float-clause-put : goal.returns-in_ok-closed-in-Float-clause-put
 returns-in_ok-closed-in-Float-clause-put c =
     let old = c.args.buf.now in
-    let pushed = Appends-push old c.push-in-Float.new.self c.in_ok-signed-in-Float.signed c.sign_and_digits.result.0.now c.push-in-Float.ensures.mark c.in_ok-signed-in-Float.ensures.output c.in_ok-signed-in-Float.ensures.stands in
+    let pushed = AppendsPiece-push old c.push-in-Float.new.self c.in_ok-signed-in-Float.signed c.sign_and_digits.result.0.now c.push-in-Float.ensures.mark c.in_ok-signed-in-Float.ensures.output c.in_ok-signed-in-Float.ensures.stands in
     let at_signed = IsEdit-keeps _ _ c.push-in-Float.ensures.kept in
     let at_opened = IsEdit-trans _ _ _ at_signed c.in_ok-opened-in-Float.ensures.edit in
     let at_filled = IsEdit-trans _ _ _ at_opened c.in_ok-filled-in-Float.ensures.edit in
-    let opened = Appends-edit _ _ _ _ _ at_signed pushed (StaysInPlace-edit _ _ _ _ _ c.in_ok-opened-in-Float.ensures.edit_of) in
-    let filled = Appends-edit _ _ _ _ _ at_opened opened (StaysInPlace-edit _ _ _ _ _ c.in_ok-filled-in-Float.ensures.edit_of) in
-    let closed = Appends-edit _ _ _ _ _ at_filled filled (StaysInPlace-edit _ _ _ _ _ c.in_ok-closed-in-Float.ensures.edit_of) in
+    let opened = AppendsPiece-edit _ _ _ _ _ at_signed pushed (StaysInPlace-edit _ _ _ _ _ c.in_ok-opened-in-Float.ensures.edit_of) in
+    let filled = AppendsPiece-edit _ _ _ _ _ at_opened opened (StaysInPlace-edit _ _ _ _ _ c.in_ok-filled-in-Float.ensures.edit_of) in
+    let closed = AppendsPiece-edit _ _ _ _ _ at_filled filled (StaysInPlace-edit _ _ _ _ _ c.in_ok-closed-in-Float.ensures.edit_of) in
     let form : Float ≡ spec.literal_form (text (shape old c.args.ty)) (spec.is_minus c.args.value.now) = search rules in
     subst (λ (f : LiteralForm). IsPut f old c.append-in-Float-2.new.self c.args.ty c.whole-literal.result) form
-    (Appends-named _ _ _ c.whole-literal.result closed c.whole-literal.ensures.stands)
+    (AppendsPiece-named _ _ _ c.whole-literal.result closed c.whole-literal.ensures.stands)

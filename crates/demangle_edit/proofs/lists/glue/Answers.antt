@@ -4,7 +4,7 @@ use Rattle.std.proofs.Common.{◌++◌, List, ℕ, sym, subst}
 use Rattle.std.proofs.lemmas.List.{append-nil}
 use Rattle.demangle_text.specs.Shape.{text, plain_shape}
 use Rattle.demangle_text.specs.State.{shape, Lives}
-use Rattle.demangle_text.proofs.Laws.{Opens-edit, Appends-close}
+use Rattle.demangle_text.proofs.Laws.{Opens-edit, AppendsPiece-close}
 use Rattle.demangle_edit.specs.declared.glue.Glue.{Glue}
 use Rattle.demangle_edit.specs.Calls.{part_text}
 use Rattle.demangle_edit.proofs.Glued.{text_put, part_more}
@@ -39,7 +39,7 @@ loop-part-preserved c =
 
 pub returns-clause-appends : goal.returns-clause-appends
 returns-clause-appends c =
-    Appends-close c.args.buf.now c.loop-part.buf c.close.new.self c.open-mark.result c.close.result
+    AppendsPiece-close c.args.buf.now c.loop-part.buf c.close.new.self c.open-mark.result c.close.result
     c.open-mark.ensures.mark c.loop-part.invariant.run c.close.ensures.closed c.close.ensures.stands
 
 pub returns-clause-shape : goal.returns-clause-shape

@@ -5,7 +5,7 @@ use Rattle.std.proofs.lemmas.List.{take_all}
 use Rattle.demangle_text.specs.declared.pieces.Piece.{Piece}
 use Rattle.demangle_text.specs.Shape.{Shape, plain_shape, whole_shape}
 use Rattle.demangle_text.specs.State.{shape, Lives}
-use Rattle.demangle_text.proofs.Laws.{Opens-edit, Appends-close}
+use Rattle.demangle_text.proofs.Laws.{Opens-edit, AppendsPiece-close}
 use Rattle.demangle_edit.specs.Built.{listed_each}
 use Rattle.demangle_edit.proofs.Built.{piece_put, pack_built}
 use Rattle.demangle_edit.proofs.lists.list_pieces.Goals as goal
@@ -28,7 +28,7 @@ returns-clause-shape c =
 
 pub returns-clause-appends : goal.returns-clause-appends
 returns-clause-appends c =
-    Appends-close c.args.buf.now c.loop-i.buf c.close.new.self c.open-mark.result c.close.result
+    AppendsPiece-close c.args.buf.now c.loop-i.buf c.close.new.self c.open-mark.result c.close.result
     c.open-mark.ensures.mark c.loop-i.invariant.run c.close.ensures.closed c.close.ensures.stands
 
 pub returns-clause-kept : goal.returns-clause-kept

@@ -3,7 +3,7 @@ use Rattle.std.proofs.lemmas.Grind.{common_steps}
 use Rattle.std.proofs.Common.{ap, ap₂, ◌∙◌, subst, IfOk}
 use Rattle.demangle_text.specs.Shape.{Shape}
 use Rattle.demangle_text.specs.State.{Lives}
-use Rattle.demangle_text.proofs.Laws.{Opens-edit, Appends-close}
+use Rattle.demangle_text.proofs.Laws.{Opens-edit, AppendsPiece-close}
 use Rattle.demangle_edit.specs.Built.{default_arg_opened, enclosed}
 use Rattle.demangle_edit.proofs.names.default_arg.Goals as goal
 
@@ -20,7 +20,7 @@ returns-clause-shape c =
 pub returns-clause-appends : goal.returns-clause-appends
 returns-clause-appends c =
     let run = Opens-edit _ _ _ _ (Opens-edit _ _ _ _ c.open-mark.ensures.opens c.in_ok-opened.ensures.edit) c.in_ok-named.ensures.edit in
-    Appends-close c.args.buf.now c.close_opened.new.buf c.close.new.self c.open-mark.result c.close.result
+    AppendsPiece-close c.args.buf.now c.close_opened.new.buf c.close.new.self c.open-mark.result c.close.result
     c.open-mark.ensures.mark run c.close.ensures.closed c.close.ensures.stands
 
 pub returns-clause-edit : goal.returns-clause-edit

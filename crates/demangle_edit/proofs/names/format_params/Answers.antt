@@ -6,7 +6,7 @@ use Rattle.std.proofs.lemmas.List.{take_all}
 use Rattle.demangle_text.specs.declared.pieces.Piece.{Piece}
 use Rattle.demangle_text.specs.Shape.{Shape}
 use Rattle.demangle_text.specs.State.{shape, Lives}
-use Rattle.demangle_text.proofs.Laws.{Opens-edit, Appends-close}
+use Rattle.demangle_text.proofs.Laws.{Opens-edit, AppendsPiece-close}
 use Rattle.demangle_edit.specs.Built.{listed_each, params_opened, params_closed}
 use Rattle.demangle_edit.proofs.Built.{piece_put, params_built}
 use Rattle.demangle_edit.proofs.names.format_params.Goals as goal
@@ -32,7 +32,7 @@ returns-clause-shape c =
 pub returns-clause-appends : goal.returns-clause-appends
 returns-clause-appends c =
     let run = Opens-edit _ _ _ _ c.loop-i.invariant.run c.in_ok-whole.ensures.edit in
-    Appends-close c.args.buf.now c.close_params.new.buf c.close.new.self c.open-mark.result c.close.result
+    AppendsPiece-close c.args.buf.now c.close_params.new.buf c.close.new.self c.open-mark.result c.close.result
     c.open-mark.ensures.mark run c.close.ensures.closed c.close.ensures.stands
 
 pub returns-in_err-list-2-clause-shape : goal.returns-in_err-list-2-clause-shape

@@ -5,7 +5,7 @@ use Rattle.demangle_text.specs.Calls.{front_text, kind_of}
 use Rattle.demangle_text.specs.State.{shape}
 use Rattle.demangle_edit.proofs.Declarators.{plain_form}
 use Rattle.demangle_edit.proofs.Members.{member_found, plain_member, function_member, member_pointer_after, member_joined, member_pointer_shape_is, opens_at, opens_before, closes_at}
-use Rattle.demangle_text.proofs.Laws.{StaysInPlace-edit, JoinsInPlace-trans, IsEdit-keeps, KeepsAll-closed, Opens-edit, Appends-closed, Appends-named}
+use Rattle.demangle_text.proofs.Laws.{StaysInPlace-edit, JoinsInPlace-trans, IsEdit-keeps, KeepsAll-closed, Opens-edit, AppendsPiece-closed, AppendsPiece-named}
 use Rattle.demangle_edit.proofs.types.wrap_member_pointer.Goals as goal
 
 -- the class stands in a group
@@ -62,9 +62,9 @@ returns-in_ok-whole-in-Some-Function-clause-edit c =
 pub returns-in_ok-whole-in-Some-Function-clause-appends : goal.returns-in_ok-whole-in-Some-Function-clause-appends
 returns-in_ok-whole-in-Some-Function-clause-appends c = λ e.
     let run = Opens-edit _ _ _ _ (Opens-edit _ _ _ _ c.open-mark.ensures.opens c.in_ok-begun-in-Some-Function.ensures.edit) c.in_ok-joined-in-Some-Function.ensures.edit in
-    let appends = Appends-closed _ _ _ _ _ c.open-mark.ensures.mark run c.in_ok-whole-in-Some-Function.ensures.closed c.in_ok-whole-in-Some-Function.ensures.stands in
-    let declared = Appends-named _ _ _ c.declare_group-declared.result appends c.declare_group-declared.ensures.stands in
-    Appends-named _ _ _ c.with_flags.result declared c.with_flags.ensures.stands
+    let appends = AppendsPiece-closed _ _ _ _ _ c.open-mark.ensures.mark run c.in_ok-whole-in-Some-Function.ensures.closed c.in_ok-whole-in-Some-Function.ensures.stands in
+    let declared = AppendsPiece-named _ _ _ c.declare_group-declared.result appends c.declare_group-declared.ensures.stands in
+    AppendsPiece-named _ _ _ c.with_flags.result declared c.with_flags.ensures.stands
 
 -- a class after a plain text
 pub returns-in_ok-append-in-None-clause-shape : goal.returns-in_ok-append-in-None-clause-shape

@@ -2,7 +2,7 @@
 use Rattle.std.proofs.Common.{◌≡◌, ◌≤◌, ◌+◌, ◌-◌, List, ℕ, length, take, drop, ap, ◌∙◌, subst, arith}
 use Rattle.demangle_text.specs.declared.pieces.Piece.{Piece}
 use Rattle.demangle_text.specs.Pieces.{Store, IsSpilled}
-use Rattle.growing_text.specs.Room.{HasRoom}
+use Rattle.growing_text.specs.Room.{HasGap}
 use Rattle.demangle_text.specs.View.{store_of}
 use Rattle.demangle_text.specs.State.{KeepsAll}
 use Rattle.demangle_text.proofs.States.{on_err_from}
@@ -14,8 +14,8 @@ use Rattle.demangle_text.proofs.buffer.Buffer.open_gap.Goals as goal
 spilled : (m spill was new : List ℕ) (saved saved' args args' : List Piece) → spill ≡ was → IsSpilled m spill new saved saved' args args' → IsSpilled m was new saved saved' args args'
 spilled m spill was new saved saved' args args' same a = subst (λ (v : List ℕ). IsSpilled m v new saved saved' args args') same a
 
-room : (output was new : List ℕ) (at n : ℕ) → output ≡ was → HasRoom (take at output) (drop at output) new n → HasRoom (take at was) (drop at was) new n
-room output was new at n same h = subst (λ (v : List ℕ). HasRoom (take at v) (drop at v) new n) same h
+room : (output was new : List ℕ) (at n : ℕ) → output ≡ was → HasGap (take at output) (drop at output) new n → HasGap (take at was) (drop at was) new n
+room output was new at n same h = subst (λ (v : List ℕ). HasGap (take at v) (drop at v) new n) same h
 
 pub returns-in_err-spill_torn-clause-err : goal.returns-in_err-spill_torn-clause-err
 returns-in_err-spill_torn-clause-err c =
@@ -40,7 +40,7 @@ low s b at same inner = omega (arith, ap (λ (v : Store). v.marked_len) same, in
 
 -- the text is longer by the gap
 longer : (s b : Store) (output : List ℕ) (at n : ℕ) → s ≡ b → at ≤ length b.output_text
-    → HasRoom (take at s.output_text) (drop at s.output_text) output n → length output ≡ length s.output_text + n
+    → HasGap (take at s.output_text) (drop at s.output_text) output n → length output ≡ length s.output_text + n
 longer s b output at n same within room = length-gap s.output_text output at n (place s b at same within) room
 
 pub overflow_sub-dest : goal.overflow_sub-dest

@@ -3,7 +3,7 @@ use Rattle.demangle_text.specs.State.{IsAsOld, IsOlder, Stands, frame, frame_sta
 use Rattle.std.proofs.lemmas.Grind.{common_steps}
 use Rattle.std.proofs.Common.{◌≡◌, ◌+◌, ◌-◌, List, ℕ, OnOk, OnErr, length, take, drop, sym, ap, subst, arith}
 use Rattle.std.proofs.lemmas.List.{length-append}
-use Rattle.growing_text.specs.Room.{HasRoom}
+use Rattle.growing_text.specs.Room.{HasGap}
 use Rattle.demangle_text.specs.Pieces.{Store, IsTail, IsTailAt, piece_text}
 use Rattle.demangle_text.specs.State.{IsLiving}
 use Rattle.demangle_text.specs.View.{store_of}
@@ -46,9 +46,9 @@ invariant_of-self-2 c =
     let place = c.len-2.result - (c.text_len.result - at) in
     let there : place ≡ from + at =
     omega (arith, c.len-2.ensures.value, c.len-from.ensures.value, c.text_len.ensures.value, c.requires.within, ap length copied, length-append s.output_text text, length-text s p lies) in
-    let opened = subst (λ r. OnOk r (HasRoom (take place mid) (drop place mid) done n)) (sym c.in_ok-truncated_on_err.ensures.same) c.open_room-opened.ensures.ok in
-    let moved = subst (λ (i : ℕ). HasRoom (take i mid) (drop i mid) done n) there opened in
-    let room = subst (λ (v : List ℕ). HasRoom (take (from + at) mid) (drop (from + at) mid) v n) (sym c.in_ok-truncated_on_err.ensures.ok) moved in
+    let opened = subst (λ r. OnOk r (HasGap (take place mid) (drop place mid) done n)) (sym c.in_ok-truncated_on_err.ensures.same) c.open_room-opened.ensures.ok in
+    let moved = subst (λ (i : ℕ). HasGap (take i mid) (drop i mid) done n) there opened in
+    let room = subst (λ (v : List ℕ). HasGap (take (from + at) mid) (drop (from + at) mid) v n) (sym c.in_ok-truncated_on_err.ensures.ok) moved in
     IsStore-copied s p mid c.truncated_on_err.new.output at n from c.self.invariant lies apart c.len-from.ensures.value c.requires.within copied room
 
 pub returns-clause-opened : goal.returns-clause-opened
@@ -69,9 +69,9 @@ returns-clause-opened c =
     let place = c.len-2.result - (c.text_len.result - at) in
     let there : place ≡ from + at =
     omega (arith, c.len-2.ensures.value, c.len-from.ensures.value, c.text_len.ensures.value, c.requires.within, ap length copied, length-append s.output_text text, length-text s p lies) in
-    let opened = subst (λ r. OnOk r (HasRoom (take place mid) (drop place mid) done n)) (sym c.in_ok-truncated_on_err.ensures.same) c.open_room-opened.ensures.ok in
-    let moved = subst (λ (i : ℕ). HasRoom (take i mid) (drop i mid) done n) there opened in
-    let room = subst (λ (v : List ℕ). HasRoom (take (from + at) mid) (drop (from + at) mid) v n) (sym c.in_ok-truncated_on_err.ensures.ok) moved in
+    let opened = subst (λ r. OnOk r (HasGap (take place mid) (drop place mid) done n)) (sym c.in_ok-truncated_on_err.ensures.same) c.open_room-opened.ensures.ok in
+    let moved = subst (λ (i : ℕ). HasGap (take i mid) (drop i mid) done n) there opened in
+    let room = subst (λ (v : List ℕ). HasGap (take (from + at) mid) (drop (from + at) mid) v n) (sym c.in_ok-truncated_on_err.ensures.ok) moved in
     rw (← c.self.view_is) (IsOpen-copied s p mid c.truncated_on_err.new.output at n from c.self.invariant lies apart c.len-from.ensures.value c.requires.within copied room)
 
 pub overflow_sub-len : goal.overflow_sub-len

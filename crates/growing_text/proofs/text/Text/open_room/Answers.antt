@@ -1,7 +1,7 @@
 use Rattle.std.proofs.Common.{◌≡◌, ◌+◌, ◌≤◌, List, ℕ, length, take, drop, arith, sym, ap, subst}
 use Rattle.std.proofs.lemmas.List.{length-take-le}
-use Rattle.growing_text.specs.Room.{HasRoom}
-use Rattle.growing_text.proofs.Rooms.{HasRoom-opened}
+use Rattle.growing_text.specs.Room.{HasGap}
+use Rattle.growing_text.proofs.Rooms.{HasGap-opened}
 use Rattle.growing_text.proofs.text.Text.open_room.Goals as goal
 
 pub returns-clause-ok : goal.returns-clause-ok
@@ -13,6 +13,6 @@ returns-clause-ok c =
     let same = c.make_room.ensures.front in
     let long : length (take len c.self.inside.bytes.items) ≡ len = length-take-le len c.self.inside.bytes.items c.self.invariant in
     let within : at ≤ len = omega (arith, long, ap length c.self.view_is) in
-    let done = HasRoom-opened ys len at n within c.in_ok-make_room.ensures.room in
-    let moved = subst (λ (v : List ℕ). HasRoom (take at (take len ys)) (drop at (take len ys)) (take (len + n) v) n) (sym c.copy_within.ensures.items) done in
-    rw (← c.self.view_is) (subst (λ (v : List ℕ). HasRoom (take at v) (drop at v) (take (len + n) c.copy_within.new.self.items) n) same moved)
+    let done = HasGap-opened ys len at n within c.in_ok-make_room.ensures.room in
+    let moved = subst (λ (v : List ℕ). HasGap (take at (take len ys)) (drop at (take len ys)) (take (len + n) v) n) (sym c.copy_within.ensures.items) done in
+    rw (← c.self.view_is) (subst (λ (v : List ℕ). HasGap (take at v) (drop at v) (take (len + n) c.copy_within.new.self.items) n) same moved)
