@@ -15,7 +15,7 @@
 //! bytes. Saved pieces and arguments that a move shifts as a whole get new places. Those that it would split or
 //! overwrite are copied to a second text first, the spill.
 //!
-//! The texts are those of `growing_text`. Begin with `shape.rt`, then read `buffer.rt`, and then the definitions in
+//! The texts are those of `growing_text`. Begin with `pieces.rt`, then read `buffer.rt`, and then the definitions in
 //! `specs/Shape`.
 #![tactic(auto)]
 

@@ -9,7 +9,7 @@
 //! A `FilterFault` says why the copying ended early.
 //!
 //! `itanium_demangle` reads the symbols, and `growing_text` holds the output. Begin with `filtering.rt` and
-//! `replacing.rt`, and with `copying.rt`, which has the loop of both.
+//! `replacing.rt`, and with `chunks.rt`, which has the loop of both.
 #![tactic(auto)]
 
 mod byte_search;
