@@ -270,7 +270,8 @@ impl Demangler {
     /// there is no result.
     ///
     /// The result is all of the buffer's output. The buffer's saved shapes are those of the trees that the symbol
-    /// leaves in the substitution table, and their texts are the components. No scope and no mark is open.
+    /// leaves in the substitution table, and their texts are the components. No scope is open. The innermost mark is at
+    /// the start of the output, or none is open.
     pub fn buffer(&self) -> Option<&Buffer>
         ensures value { option_map (λ buffer. main_bytes buffer.now) result ≡ self.now.text }
         ensures components { IfSome result (λ buffer. map text (saved buffer.now) ≡ self.now.components) }
