@@ -68,8 +68,8 @@ module _ (Z : Al) where
         → Seq K 𝓛 (‵ (owned_pair p a vs) ∷ Γ) G
     pair_out t p a vs k =
         fpick t (λ vss. fsplit t $ feq_l t (λ is. fsplit t $ feq_l t (λ at. fsplit t $
-        handle_tells Z t a vss.1.0 (λ h told fits. move t (1 ∷ []) $ drop t $
-        k h (is ∙ (λ i. vstruct (of_list (at i ++ (told i ++ []))) ∷ [])) fits))))
+        handle_tells Z t a vss.1.0 (λ h reported fits. move t (1 ∷ []) $ drop t $
+        k h (is ∙ (λ i. vstruct (of_list (at i ++ (reported i ++ []))) ∷ [])) fits))))
 
     pub pair_in : K → (p : Ptr) (a : Z.row.Denot) (h : Val)
         → Step K 𝓛 (‵ (owned_pair p a (word p h ∷ [])) ∷ Γ) G (‵ (Z.row.own_val a (h ∷ [])) ∷ Γ) G

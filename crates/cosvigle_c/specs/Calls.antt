@@ -6,7 +6,7 @@ use Rattle.symfilter_engine.specs.declared.symbols.Printing.TheVariants.{Names, 
 use Rattle.symfilter_engine.specs.declared.symbols.Replacement.{Replacement}
 use Rattle.symfilter_engine.specs.Filtered.{IsAnswered}
 use Rattle.symfilter_engine.specs.Replaced.{IsReplaced}
-use Rattle.cosvigle_c.specs.Room.{Fills, IsShort}
+use Rattle.cosvigle_c.specs.Capacity.{Fills, IsShort}
 
 -- the demangled name of a symbol; or its signature, and where it has none its demangled name
 abbrev pub IsNameOrSignature : Printing → List ℕ → Option (List ℕ) → Type 0
@@ -23,8 +23,8 @@ pub record WritesAnswer (printing : Printing) (symbol old new : List ℕ) (neede
   pub answer : IsNameOrSignature printing symbol (Some text)
   pub fills : Fills text old new needed
 
--- there is too little room for what was asked of the symbol
-pub record LacksRoom (printing : Printing) (symbol old new : List ℕ) (needed : ℕ) : Type 0 where
+-- the capacity is too small for what was asked of the symbol
+pub record LacksCapacity (printing : Printing) (symbol old new : List ℕ) (needed : ℕ) : Type 0 where
   pub text : List ℕ
   pub answer : IsNameOrSignature printing symbol (Some text)
   pub short : IsShort text old new needed
@@ -35,7 +35,7 @@ pub record WritesLines (lines old new : List ℕ) (needed : ℕ) : Type 0 where
   pub filtered : IsAnswered Names lines text
   pub fills : Fills text old new needed
 
--- there is too little room for the filtered text of the lines
+-- the capacity is too small for the filtered text of the lines
 pub record LacksLines (lines old new : List ℕ) (needed : ℕ) : Type 0 where
   pub text : List ℕ
   pub filtered : IsAnswered Names lines text
@@ -47,12 +47,12 @@ pub record WritesWords (strip : Bool) (bytes old new : List ℕ) (needed : ℕ) 
   pub replaced : IsReplaced (by_names strip) bytes text
   pub fills : Fills text old new needed
 
--- there is too little room for the filtered text of the lines, which is kept
+-- the capacity is too small for the filtered text of the lines, which is kept
 pub record KeepsLines (lines old new : List ℕ) (needed : ℕ) (kept : List ℕ) : Type 0 where
   pub filtered : IsAnswered Names lines kept
   pub short : IsShort kept old new needed
 
--- there is too little room for the replaced text of the bytes, which is kept
+-- the capacity is too small for the replaced text of the bytes, which is kept
 pub record KeepsWords (strip : Bool) (bytes old new : List ℕ) (needed : ℕ) (kept : List ℕ) : Type 0 where
   pub replaced : IsReplaced (by_names strip) bytes kept
   pub short : IsShort kept old new needed

@@ -1,4 +1,4 @@
-pub mod Room
+pub mod Capacity
 pub mod Handle
 pub mod Kept
 pub mod Calls

@@ -15,7 +15,7 @@ ghost use Rattle.itanium_grammar.specs.Answer.{IsAnswer};
 ghost use Rattle.itanium_demangle.specs.LastResult.{no_result};
 ghost use Rattle.cosvigle_c.specs.Kept.{run_of, text_of, KeepsSymbol};
 ghost use Rattle.symfilter_engine.specs.declared.symbols.Printing.TheVariants.{Names, Signatures};
-ghost use Rattle.cosvigle_c.specs.Calls.{IsNameOrSignature, WritesAnswer, LacksRoom};
+ghost use Rattle.cosvigle_c.specs.Calls.{IsNameOrSignature, WritesAnswer, LacksCapacity};
 
 mod handle;
 mod kept;
@@ -53,7 +53,7 @@ fn ask(
     ensures status { result ≢ pos 0 → result ≢ pos 1 → result ≢ pos 2 → result ≢ pos 3 → result ≡ pos 4 }
     ensures written { result ≡ pos 0 → WritesAnswer printing symbol.now answer.old answer.new needed.new }
     ensures no_answer { result ≡ pos 1 → IsNameOrSignature printing symbol.now None }
-    ensures no_room { result ≡ pos 3 → LacksRoom printing symbol.now answer.old answer.new needed.new }
+    ensures no_room { result ≡ pos 3 → LacksCapacity printing symbol.now answer.old answer.new needed.new }
     ensures not_utf8 { result ≡ pos 4 ↔ (IsUtf8 symbol.now → ⊥) }
     ensures stays { result ≢ pos 0 → answer.new ≡ answer.old }
     ensures nothing { result ≢ pos 0 → result ≢ pos 3 → needed.new ≡ 0 }
@@ -107,7 +107,7 @@ pub extern "C" fn cosvigle_ask(
     ensures status { result ≢ pos 0 → result ≢ pos 1 → result ≢ pos 2 → result ≢ pos 3 → result ≡ pos 4 }
     ensures written { result ≡ pos 0 → WritesAnswer Names symbol.now answer.old answer.new needed.new }
     ensures no_answer { result ≡ pos 1 → IsAnswer symbol.now None }
-    ensures no_room { result ≡ pos 3 → LacksRoom Names symbol.now answer.old answer.new needed.new }
+    ensures no_room { result ≡ pos 3 → LacksCapacity Names symbol.now answer.old answer.new needed.new }
     ensures not_utf8 { result ≡ pos 4 ↔ (IsUtf8 symbol.now → ⊥) }
     ensures stays { result ≢ pos 0 → answer.new ≡ answer.old }
     ensures nothing { result ≢ pos 0 → result ≢ pos 3 → needed.new ≡ 0 }
@@ -133,7 +133,7 @@ pub extern "C" fn cosvigle_ask_signature(
     ensures status { result ≢ pos 0 → result ≢ pos 1 → result ≢ pos 2 → result ≢ pos 3 → result ≡ pos 4 }
     ensures written { result ≡ pos 0 → WritesAnswer Signatures symbol.now answer.old answer.new needed.new }
     ensures no_answer { result ≡ pos 1 → IsNameOrSignature Signatures symbol.now None }
-    ensures no_room { result ≡ pos 3 → LacksRoom Signatures symbol.now answer.old answer.new needed.new }
+    ensures no_room { result ≡ pos 3 → LacksCapacity Signatures symbol.now answer.old answer.new needed.new }
     ensures not_utf8 { result ≡ pos 4 ↔ (IsUtf8 symbol.now → ⊥) }
     ensures stays { result ≢ pos 0 → answer.new ≡ answer.old }
     ensures nothing { result ≢ pos 0 → result ≢ pos 3 → needed.new ≡ 0 }
@@ -157,7 +157,7 @@ pub extern "C" fn cosvigle_demangle(
     ensures status { result ≢ pos 0 → result ≢ pos 1 → result ≢ pos 2 → result ≢ pos 3 → result ≡ pos 4 }
     ensures written { result ≡ pos 0 → WritesAnswer Names symbol.now answer.old answer.new needed.new }
     ensures no_answer { result ≡ pos 1 → IsAnswer symbol.now None }
-    ensures no_room { result ≡ pos 3 → LacksRoom Names symbol.now answer.old answer.new needed.new }
+    ensures no_room { result ≡ pos 3 → LacksCapacity Names symbol.now answer.old answer.new needed.new }
     ensures not_utf8 { result ≡ pos 4 ↔ (IsUtf8 symbol.now → ⊥) }
     ensures stays { result ≢ pos 0 → answer.new ≡ answer.old }
     ensures nothing { result ≢ pos 0 → result ≢ pos 3 → needed.new ≡ 0 }

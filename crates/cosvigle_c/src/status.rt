@@ -2,7 +2,7 @@
 //!
 //! The statuses are numbers, as in C.
 ghost use Rattle.std.specs.Prelude.{◌≡◌, ◌≢◌, pos};
-ghost use Rattle.cosvigle_c.specs.Room.{Fills, IsShort};
+ghost use Rattle.cosvigle_c.specs.Capacity.{Fills, IsShort};
 
 /// The text is written.
 pub(crate) const WRITTEN: i32 = 0;
@@ -17,15 +17,15 @@ pub(crate) const NOT_UTF8: i32 = 4;
 
 /// Writes the text at the front of the caller's memory if it fits, and its length in bytes to `needed` in any case.
 /// Returns `WRITTEN` or `NO_ROOM`.
-pub(crate) fn hand_out(text: &[u8], room: &mut [u8], needed: &mut usize) -> i32
+pub(crate) fn hand_out(text: &[u8], into: &mut [u8], needed: &mut usize) -> i32
     ensures status { result ≢ pos 0 → result ≡ pos 3 }
-    ensures fills { result ≡ pos 0 → Fills text.now room.old room.new needed.new }
-    ensures short { result ≡ pos 3 → IsShort text.now room.old room.new needed.new }
+    ensures fills { result ≡ pos 0 → Fills text.now into.old into.new needed.new }
+    ensures short { result ≡ pos 3 → IsShort text.now into.old into.new needed.new }
 {
     *needed = text.len();
-    if room.len() < text.len() {
+    if into.len() < text.len() {
         return NO_ROOM;
     }
-    room[..text.len()].copy_from_slice(text);
+    into[..text.len()].copy_from_slice(text);
     WRITTEN
 }

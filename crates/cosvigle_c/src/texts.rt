@@ -4,7 +4,7 @@ ghost use Rattle.std.specs.Prelude.{◌≡◌, ◌≢◌, ◌↔◌, [], pos, So
 ghost use Rattle.symfilter_engine.specs.declared.symbols.Printing.TheVariants.{Names};
 ghost use Rattle.symfilter_engine.specs.Filtered.{IsAnswered};
 ghost use Rattle.symfilter_engine.specs.Replaced.{IsReplaced};
-ghost use Rattle.cosvigle_c.specs.Room.{Fills, IsShort};
+ghost use Rattle.cosvigle_c.specs.Capacity.{Fills, IsShort};
 ghost use Rattle.cosvigle_c.specs.Kept.{run_of, text_of};
 ghost use Rattle.cosvigle_c.specs.Calls.{by_names, WritesLines, LacksLines, KeepsLines, WritesWords, KeepsWords};
 
@@ -122,16 +122,16 @@ fn take_kept(alloc: Global, handle: &mut Handle) -> Result<Box<Kept>, AllocError
 
 /// Writes a text at the front of the caller's memory, and its length in bytes to `needed`. If the memory is too small,
 /// keeps the text instead. Returns `WRITTEN` or `NO_ROOM`.
-fn hand_out_or_keep(kept: &mut Kept, made: Vec<u8>, room: &mut [u8], needed: &mut usize) -> i32
+fn hand_out_or_keep(kept: &mut Kept, made: Vec<u8>, into: &mut [u8], needed: &mut usize) -> i32
     requires no_text { kept.old.text.items ≡ [] }
     ensures status { result ≢ pos 0 → result ≡ pos 3 }
-    ensures fills { result ≡ pos 0 → Fills made.items room.old room.new needed.new }
-    ensures short { result ≡ pos 3 → IsShort made.items room.old room.new needed.new }
+    ensures fills { result ≡ pos 0 → Fills made.items into.old into.new needed.new }
+    ensures short { result ≡ pos 3 → IsShort made.items into.old into.new needed.new }
     ensures text { result ≡ pos 3 → kept.new.text.items ≡ made.items }
     ensures no_text { result ≡ pos 0 → kept.new.text.items ≡ [] }
     ensures demangler { kept.new.demangler ≡ kept.old.demangler }
 {
-    let status = hand_out(&made, room, needed);
+    let status = hand_out(&made, into, needed);
     if status == NO_ROOM {
         kept.text = made;
     }

@@ -6,30 +6,30 @@ ghost use Rattle.demangle_edit.specs.Types.{dimension_digits};
 pub const MOST_DIGITS: usize = 20;
 
 /// Writes the digits of a number without leading zeros at the end of these bytes, and returns them.
-pub fn number_bytes(room: &mut [u8], number: u64) -> &[u8]
-    requires room { MOST_DIGITS ≤ length room.old }
+pub fn number_bytes(spare: &mut [u8], number: u64) -> &[u8]
+    requires capacity { MOST_DIGITS ≤ length spare.old }
     ensures value { result.now ≡ decimal number }
 {
     let mut left = number;
-    let mut at = room.len();
+    let mut at = spare.len();
     while left >= 10 {
         at -= 1;
-        room[at] = b'0' + (left % 10) as u8;
+        spare[at] = b'0' + (left % 10) as u8;
         left /= 10;
     }
     at -= 1;
-    room[at] = b'0' + left as u8;
-    &room[at..]
+    spare[at] = b'0' + left as u8;
+    &spare[at..]
 }
 
 /// Writes the digits of a dimension at the end of these bytes, and returns them. Returns no digits for an unknown
 /// dimension.
-pub fn dimension_bytes(room: &mut [u8], dimension: Option<u64>) -> &[u8]
-    requires room { MOST_DIGITS ≤ length room.old }
+pub fn dimension_bytes(spare: &mut [u8], dimension: Option<u64>) -> &[u8]
+    requires capacity { MOST_DIGITS ≤ length spare.old }
     ensures value { result.now ≡ dimension_digits dimension }
 {
     match dimension {
         None => b"",
-        Some(number) => number_bytes(room, number),
+        Some(number) => number_bytes(spare, number),
     }
 }

@@ -133,8 +133,8 @@ pub fn append_number(buf: &mut Buffer, piece: Piece, number: u64) -> Result<Piec
     ensures edit { OnOk result (IsEdit buf.old buf.new) }
     ensures in_place { IfOk result (λ p. StaysInPlace buf.old buf.new piece p) }
 {
-    let mut room = [0; MOST_DIGITS];
-    let digits = number_bytes(&mut room, number);
+    let mut spare = [0; MOST_DIGITS];
+    let digits = number_bytes(&mut spare, number);
     buf.append(piece, digits)
 }
 

@@ -126,8 +126,8 @@ fn insert_dimension(
     ensures edit { OnOk result (IsEdit buf.old buf.new) }
     ensures in_place { IfOk result (λ p. StaysInPlace buf.old buf.new piece p) }
 {
-    let mut room = [0; MOST_DIGITS];
-    let digits = dimension_bytes(&mut room, dimension);
+    let mut spare = [0; MOST_DIGITS];
+    let digits = dimension_bytes(&mut spare, dimension);
     let opened = buf.insert(piece, place, opening)?;
     let filled = buf.insert(opened, place, digits)?;
     buf.insert(filled, place, b"]")

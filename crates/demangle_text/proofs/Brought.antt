@@ -2,7 +2,7 @@
 use Rattle.std.proofs.Common.{◌≡◌, ℕ, ◌+◌, ◌-◌, ◌≤◌, Bool, true, false, List, ◌++◌, length, take, drop, slice_range, refl, sym, ap, ◌∙◌, subst, arith, append_assoc}
 use Rattle.std.proofs.lemmas.List.{length-append, length-drop, length-take-le, take_at, drop_at, take_all, drop_all, append-nil, take-append-le, drop-append-le, take-append-drop}
 use Rattle.demangle_text.specs.declared.pieces.Piece.{Piece}
-use Rattle.growing_text.specs.Room.{HasGap}
+use Rattle.growing_text.specs.Gap.{HasGap}
 use Rattle.growing_text.proofs.Parts.{part-append}
 use Rattle.demangle_text.specs.Pieces.{Store, IsStore, IsTail, IsTailAt, IsBrought, IsSplice, IsAdjacent, IsJoint, EndsBy, Extends, home_bytes, piece_text}
 use Rattle.demangle_text.specs.State.{IsLiving, KeepsAll, IsEdit}
@@ -161,7 +161,7 @@ pub IsOpen-tail : (s t : Store) (p : Piece) (at n : ℕ) → IsTail s p → p.fr
 IsOpen-tail s t p at n h ordered place gap = record {
   output = s.output_text;
   within = omega (arith, h.ends);
-  room = gap.room;
+  gap = gap.gap;
   consistent = gap.consistent;
   edit = gap.edit;
   splice = λ bytes long. IsSplice-inserted s (with_gap_filled s.output_text (p.from_byte + at) bytes t) p at bytes h ordered place refl;
@@ -182,7 +182,7 @@ in-copy output text bytes from at starts within =
 -- a gap in a copy
 module _ (s : Store) (p : Piece) (mid all : List ℕ) (at n from : ℕ) (i : IsStore s) (lies : IsLiving s p) (apart : IsTail s p → ⊥)
     (starts : from ≡ length s.output_text) (place : at ≤ p.to_byte - p.from_byte) (copied : mid ≡ s.output_text ++ piece_text s.output_text s.spill_text p)
-    (room : HasGap (take (from + at) mid) (drop (from + at) mid) all n) where
+    (gap : HasGap (take (from + at) mid) (drop (from + at) mid) all n) where
   abbrev text : List ℕ
   text = piece_text s.output_text s.spill_text p
 
@@ -198,7 +198,7 @@ module _ (s : Store) (p : Piece) (mid all : List ℕ) (at n from : ℕ) (i : IsS
   IsOpen-copied = record {
     output = mid;
     within = omega (arith, ap length copied, length-append s.output_text text, length-text s p lies, starts, place);
-    room = room;
+    gap = gap;
     consistent = λ bytes long. subst (λ (v : List ℕ). IsStore (record s { output_text = v })) (sym (filled-is bytes)) (IsStore-longer s _ i);
     edit = λ bytes long. subst (λ (v : List ℕ). IsEdit s (record s { output_text = v })) (sym (filled-is bytes)) (IsEdit-keeps s _ (KeepsAll-longer s _ i));
     splice = λ bytes long. IsSplice-copied s (record s { output_text = filled bytes }) p at bytes from apart i.main_frame starts (filled-is bytes);
@@ -207,7 +207,7 @@ module _ (s : Store) (p : Piece) (mid all : List ℕ) (at n from : ℕ) (i : IsS
   -- it is consistent whatever stands in the gap
   pub IsStore-copied : IsStore (record s { output_text = all })
   IsStore-copied =
-      subst (λ (v : List ℕ). IsStore (record s { output_text = v })) (sym (room.parts ∙ filled-is room.room)) (IsStore-longer s _ i)
+      subst (λ (v : List ℕ). IsStore (record s { output_text = v })) (sym (gap.parts ∙ filled-is gap.gap)) (IsStore-longer s _ i)
 
 -- the same store has the gap
 pub IsOpen-same : (old s new : Store) (p : Piece) (at n from : ℕ) → s ≡ new → IsOpen old new p at n from → IsOpen old s p at n from

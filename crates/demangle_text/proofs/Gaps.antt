@@ -4,13 +4,13 @@ use Rattle.std.proofs.Common.{refl, sym, ap, ◌∙◌, subst, arith, append_ass
 use Rattle.std.proofs.lemmas.List.{length-append, length-drop, length-take-le, take_at}
 use Rattle.demangle_text.specs.declared.pieces.Piece.{Piece}
 use Rattle.demangle_text.specs.Pieces.{Store, IsStore, IsApart, IsSpilled, EndsBy, carried}
-use Rattle.growing_text.specs.Room.{HasGap}
+use Rattle.growing_text.specs.Gap.{HasGap}
 use Rattle.demangle_text.specs.Pieces.{home_bytes, piece_text}
 use Rattle.demangle_text.specs.State.{IsLiving, IsEdit}
 use Rattle.demangle_text.specs.Gaps.{IsGap}
 use Rattle.demangle_text.proofs.Texts.{Moves, part-below}
 use Rattle.growing_text.proofs.Parts.{part-append}
-use Rattle.growing_text.proofs.Rooms.{length-HasGap, HasGap-put, HasGap-filled}
+use Rattle.growing_text.proofs.Gaps.{length-HasGap, HasGap-put, HasGap-filled}
 use Rattle.demangle_text.proofs.Carried.{Moves-inserted, IsStore-after, IsEdit-after}
 
 -- how long the text with the gap is
@@ -48,11 +48,11 @@ module _ (s : Store) (m spill : List ℕ) (saved args saved' args' : List Piece)
 
   module _ (output : List ℕ) (h : HasGap (take at s.output_text) (drop at s.output_text) output n) where
     pub IsStore-opened : IsStore (gapped output)
-    IsStore-opened = IsStore-gapped output h.room h.long h.parts
+    IsStore-opened = IsStore-gapped output h.gap h.long h.parts
 
     pub IsGap-opened : IsGap s (gapped output) at n
     IsGap-opened = record {
-      room = h;
+      gap = h;
       spill = a.spill;
       consistent = λ bytes long. IsStore-gapped _ bytes long refl;
       edit = λ bytes long. IsEdit-gapped _ bytes long refl;
@@ -87,14 +87,14 @@ part-before : (old new : List ℕ) (at n a b : ℕ) → at ≤ length old → Ha
 part-before old new at n a b place h ordered before =
     let low = length-take-le at old place in
     let same : take at new ≡ take at old =
-    ap (take at) h.parts ∙ take_at (take at old) (h.room ++ drop at old) at low in
+    ap (take at) h.parts ∙ take_at (take at old) (h.gap ++ drop at old) at low in
     part-below old new at a b ordered before place (omega (arith, length-gap old new at n place h)) same
 
 part-kept : (old new : Store) (at n a b : ℕ) (h : Bool) → IsGap old new at n → at ≤ length old.output_text → a ≤ b
     → b ≤ length (home_bytes old.output_text old.spill_text h) → (h ≡ false → b ≤ at)
     → slice_range (home_bytes new.output_text new.spill_text h) a b ≡ slice_range (home_bytes old.output_text old.spill_text h) a b
 part-kept old new at n a b false gap place ordered within before =
-    part-before old.output_text new.output_text at n a b place gap.room ordered (before refl)
+    part-before old.output_text new.output_text at n a b place gap.gap ordered (before refl)
 part-kept old new at n a b true gap place ordered within before =
     ap (λ (v : List ℕ). slice_range v a b) gap.spill.all
     ∙ part-append old.spill_text gap.spill.more a b ordered within
@@ -102,7 +102,7 @@ part-kept old new at n a b true gap place ordered within before =
 home-longer : (old new : Store) (at n b : ℕ) (h : Bool) → IsGap old new at n → at ≤ length old.output_text
     → b ≤ length (home_bytes old.output_text old.spill_text h) → b ≤ length (home_bytes new.output_text new.spill_text h)
 home-longer old new at n b false gap place within =
-    omega (arith, length-gap old.output_text new.output_text at n place gap.room, within)
+    omega (arith, length-gap old.output_text new.output_text at n place gap.gap, within)
 home-longer old new at n b true gap place within =
     omega (arith, ap length gap.spill.all, length-append old.spill_text gap.spill.more, within)
 

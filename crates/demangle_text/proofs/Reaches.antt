@@ -21,7 +21,7 @@ within-apart xs low from to n h k d a b home above = absurd (omega (arith, h k d
 pub reached-fewer : (ps : List Piece) (rs : List ℕ) (c n : ℕ) → n ≤ c → AreReached ps rs c → AreReached ps rs n
 reached-fewer ps rs c n le h = record {
   within = omega (arith, le, h.within);
-  room = h.room;
+  capacity = h.capacity;
   ends = λ i lt. h.ends i (omega (arith, lt, le));
 }
 
@@ -32,17 +32,17 @@ within-set_kept P ps i n p le h k d a b = subst P (sym (get_or-set_other ps i k 
 -- a piece after the first ones, with a byte by which it and all before it end
 pub reached-set_kept : (ps : List Piece) (rs : List ℕ) (i : ℕ) (p : Piece) (end : ℕ) → AreReached ps rs i
     → i < length rs → AllWithin (EndsBy end) ps 0 i → EndsBy end p → AreReached (set ps i p) (set rs i end) (i + 1)
-reached-set_kept ps rs i p end h room all last = record {
-  within = omega (arith, room, length-set rs i end);
-  room = omega (arith, h.room, length-set rs i end, length-set ps i p);
+reached-set_kept ps rs i p end h capacity all last = record {
+  within = omega (arith, capacity, length-set rs i end);
+  capacity = omega (arith, h.capacity, length-set rs i end, length-set ps i p);
   ends = λ j lt. elim (cases_lt j i) [
     | inl below ↦
         subst (λ m. AllWithin (EndsBy m) (set ps i p) 0 (j + 1)) (sym (get_or-set_other rs i j end 0 (λ e. absurd (omega (arith, e, below)))))
         (within-set_kept (EndsBy (get_or rs j 0)) ps i (j + 1) p (omega (arith, below)) (h.ends j below))
     | inr above ↦
         let e : j ≡ i = omega (arith, lt, above) in
-        let here = AllWithin-more_set ps i p (omega (arith, room, h.room)) (EndsBy end) all last in
-        let is : get_or (set rs i end) j 0 ≡ end = ap (λ n. get_or (set rs i end) n 0) e ∙ get_or-set_same rs i end 0 room in
+        let here = AllWithin-more_set ps i p (omega (arith, capacity, h.capacity)) (EndsBy end) all last in
+        let is : get_or (set rs i end) j 0 ≡ end = ap (λ n. get_or (set rs i end) n 0) e ∙ get_or-set_same rs i end 0 capacity in
         subst (λ m. AllWithin (EndsBy m) (set ps i p) 0 (j + 1)) (sym is) (subst (λ n. AllWithin (EndsBy end) (set ps i p) 0 (n + 1)) (sym e) here)
   ];
 }
@@ -50,9 +50,9 @@ reached-set_kept ps rs i p end h room all last = record {
 -- lists that begin with the first pieces and their bytes
 pub reached-front : (ps qs : List Piece) (rs ts : List ℕ) (n : ℕ) → take n qs ≡ take n ps → take n ts ≡ take n rs → n ≤ length ts → length ts ≤ length qs
     → AreReached ps rs n → AreReached qs ts n
-reached-front ps qs rs ts n pieces reaches within room h = record {
+reached-front ps qs rs ts n pieces reaches within capacity h = record {
   within = within;
-  room = room;
+  capacity = capacity;
   ends = λ i lt k d a b.
       let there : k < n = omega (arith, b, lt) in
       let piece = sym (get_or-take n ps k d there) ∙ ap (λ v. get_or v k d) (sym pieces) ∙ get_or-take n qs k d there in
@@ -64,7 +64,7 @@ reached-front ps qs rs ts n pieces reaches within room h = record {
 pub reached-set : (ps : List Piece) (rs : List ℕ) (c i : ℕ) (p : Piece) → AreReached ps rs c → i < length ps → ((end : ℕ) → HoldsAt (EndsBy end) ps i → EndsBy end p) → AreReached (set ps i p) rs c
 reached-set ps rs c i p h there ends = record {
   within = h.within;
-  room = omega (arith, h.room, length-set ps i p);
+  capacity = omega (arith, h.capacity, length-set ps i p);
   ends = λ j lt k d a b. elim (cases_eq k i) [
     | inl e ↦
         let is : get_or (set ps i p) k d ≡ p = ap (λ n. get_or (set ps i p) n d) e ∙ get_or-set_same ps i p d there in

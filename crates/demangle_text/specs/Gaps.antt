@@ -1,7 +1,7 @@
 -- A gap in the output, what fills it, and what else stays as it is.
 use Rattle.std.specs.Prelude.{◌≡◌, ℕ, ◌+◌, ◌≤◌, List, ◌++◌, length, take, drop}
 use Rattle.demangle_text.specs.Pieces.{Store, IsStore, IsSplice, Extends}
-use Rattle.growing_text.specs.Room.{HasGap}
+use Rattle.growing_text.specs.Gap.{HasGap}
 use Rattle.demangle_text.specs.State.{IsEdit}
 use Rattle.demangle_text.specs.declared.pieces.Piece.{Piece}
 
@@ -11,7 +11,7 @@ with_gap_filled output at bytes s = record s { output_text = take at output ++ (
 
 -- the output has a gap of n bytes at a place, and the call is an edit, whatever bytes fill the gap
 pub record IsGap (old new : Store) (at n : ℕ) : Type 0 where
-  pub room : HasGap (take at old.output_text) (drop at old.output_text) new.output_text n
+  pub gap : HasGap (take at old.output_text) (drop at old.output_text) new.output_text n
   pub spill : Extends old.spill_text new.spill_text
   pub consistent : (bytes : List ℕ) → length bytes ≡ n → IsStore (with_gap_filled old.output_text at bytes new)
   pub edit : (bytes : List ℕ) → length bytes ≡ n → IsEdit old (with_gap_filled old.output_text at bytes new)
@@ -21,7 +21,7 @@ pub record IsGap (old new : Store) (at n : ℕ) : Type 0 where
 pub record IsOpen (old new : Store) (p : Piece) (at n from : ℕ) : Type 0 where
   pub output : List ℕ
   pub within : from + at ≤ length output
-  pub room : HasGap (take (from + at) output) (drop (from + at) output) new.output_text n
+  pub gap : HasGap (take (from + at) output) (drop (from + at) output) new.output_text n
   pub consistent : (bytes : List ℕ) → length bytes ≡ n → IsStore (with_gap_filled output (from + at) bytes new)
   pub edit : (bytes : List ℕ) → length bytes ≡ n → IsEdit old (with_gap_filled output (from + at) bytes new)
   pub splice :

@@ -9,7 +9,7 @@ use std::alloc::{AllocError, Global};
 use std::marker::Model;
 
 // The number of pieces for which the first allocation has capacity.
-const FIRST_ROOM: usize = 16;
+const FIRST_CAPACITY: usize = 16;
 
 // A piece and its `reach`: an upper bound on the end offsets of this and all earlier pieces that are in the output.
 // Pieces in the spill don't count.
@@ -177,7 +177,7 @@ fn grow(entries: &mut Vec<Entry>) -> Result<(), AllocError>
     ensures pieces { take (length entries.old.items) (pieces_of entries.new.items) ≡ pieces_of entries.old.items }
     ensures reaches { take (length entries.old.items) (reaches_of entries.new.items) ≡ reaches_of entries.old.items }
     ensures within { length entries.old.items ≤ length entries.new.items }
-    ensures room { OnOk result (length entries.old.items < length entries.new.items) }
+    ensures capacity { OnOk result (length entries.old.items < length entries.new.items) }
 {
     let Some(want) = entries.len().checked_mul(2) else {
         return Err(AllocError);
@@ -186,5 +186,5 @@ fn grow(entries: &mut Vec<Entry>) -> Result<(), AllocError>
         piece: Piece::whole_at(0, 0),
         reach: 0,
     };
-    entries.resize(want.max(FIRST_ROOM), none)
+    entries.resize(want.max(FIRST_CAPACITY), none)
 }

@@ -99,7 +99,7 @@ impl Buffer {
         self.output.reserve(n)?;
         self.kept.spill.reserve(torn)?;
         self.kept.spill_torn(self.output.as_slice(), rest)?;
-        self.output.open_room(at, n)?;
+        self.output.open_gap(at, n)?;
         let dest = at + (self.output.len() - len);
         self.kept.saved.shift(rest, dest);
         self.kept.args.shift(rest, dest);
@@ -123,7 +123,7 @@ impl Buffer {
         let from = self.output.len();
         let rest = piece.text_len() - at;
         add_text(&mut self.output, &self.kept.spill, piece)?;
-        let opened = self.output.open_room(self.output.len() - rest, n);
+        let opened = self.output.open_gap(self.output.len() - rest, n);
         truncated_on_err(&mut self.output, from, opened)?;
         Ok(from)
     }

@@ -109,11 +109,11 @@ fn assert_reads(rt: &impl Abort, at: usize, turn: Turn) {
         at,
         turn,
     });
-    let mut room = [0u8; 3];
+    let mut buffer = [0u8; 3];
     for number in 1..=CALLS {
         let call = Call {
             number,
-            answer: source.take(&mut room),
+            answer: source.take(&mut buffer),
             has_failed: Source::failed(&source),
             calls: calls.get(),
         };
@@ -161,8 +161,8 @@ fn a_tally_answers_what_its_writer_does(rt: HostRuntime) {
 
 #[test]
 fn nothing_to_write_is_no_failure_and_a_full_slice_is_one(rt: HostRuntime) {
-    let mut room = [0u8; 2];
-    let mut sink = Tally::new(room.as_mut_slice());
+    let mut buffer = [0u8; 2];
+    let mut sink = Tally::new(buffer.as_mut_slice());
     assert!(rt; sink.put(b"") == Ok(0));
     assert!(rt; sink.put(b"abc") == Ok(2));
     assert!(rt; !sink.failed());

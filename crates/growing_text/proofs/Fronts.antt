@@ -13,7 +13,7 @@ module _ {X : Type 0} (ys : List X) (len from to at : ℕ) (ordered : from ≤ t
 
   -- a block that was copied to a place, with what stands before it
   front-copied : at + (to - from) ≤ length ys → take (at + (to - from)) (copy_within ys from to at) ≡ take at ys ++ block
-  front-copied room =
+  front-copied capacity =
       let n = length-take-le at ys (omega arith) in
       let long : length (take at ys ++ block) ≡ at + (to - from) = omega (arith, length-append (take at ys) block, length-block) in
       take_at (take at ys ++ block) (drop (at + (to - from)) ys) (at + (to - from)) long
@@ -27,7 +27,7 @@ module _ {X : Type 0} (ys : List X) (len from to at : ℕ) (ordered : from ≤ t
       front-copied there ∙ ap (λ (v : List X). v ++ block) (sym low) ∙ ap (λ (v : List X). take at (take len ys) ++ v) (sym same)
 
 -- bytes at a place, when what lies after it was copied to where it goes
-module _ {X : Type 0} (ys bs : List X) (len at n k : ℕ) (within : at ≤ len) (long : length bs ≡ n) (room : len + n ≤ length ys) where
+module _ {X : Type 0} (ys bs : List X) (len at n k : ℕ) (within : at ≤ len) (long : length bs ≡ n) (capacity : len + n ≤ length ys) where
   abbrev rest : List X
   rest = take (len - at) (drop at ys)
 

@@ -1,4 +1,4 @@
 pub mod Overlaps
 pub mod Parts
 pub mod Fronts
-pub mod Rooms
+pub mod Gaps

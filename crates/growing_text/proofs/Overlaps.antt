@@ -15,8 +15,8 @@ overlapping xs ys k same least most =
     let long : length (drop at ys) ≡ k = omega (arith, length-drop at ys) in
     let first : one ≡ head ++ drop (length head) xs = put_chunk_is 0 xs head (omega (arith, n)) in
     let low : take at one ≡ take at ys = ap (take at) first ∙ take-append-le at head (drop (length head) xs) (omega (arith, n)) ∙ take-take at k ys (omega arith) in
-    let room = length-put_chunk 0 xs head in
-    let none : drop (length (drop at ys)) (drop at one) ≡ [] = drop_all (length (drop at ys)) (drop at one) (omega (arith, length-drop at one, room, long)) in
-    ap (put_chunk at one) tail ∙ put_chunk_is at one (drop at ys) (omega (arith, long, room))
+    let capacity = length-put_chunk 0 xs head in
+    let none : drop (length (drop at ys)) (drop at one) ≡ [] = drop_all (length (drop at ys)) (drop at one) (omega (arith, length-drop at one, capacity, long)) in
+    ap (put_chunk at one) tail ∙ put_chunk_is at one (drop at ys) (omega (arith, long, capacity))
     ∙ ap (λ (v : List ℕ). take at one ++ (drop at ys ++ v)) none ∙ ap (λ (v : List ℕ). take at one ++ v) (append-nil (drop at ys))
     ∙ ap (λ (v : List ℕ). v ++ drop at ys) low ∙ take-append-drop at ys

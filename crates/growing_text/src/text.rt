@@ -1,14 +1,14 @@
 //! A text that grows.
 ghost use Rattle.std.specs.Prelude.{◌≡◌, ℕ, ◌+◌, ◌-◌, ◌≤◌, List, [], ◌∷◌, ◌++◌, false, length, take, drop, slice_range};
 ghost use Rattle.std.specs.Prelude.{IsTrue, OnOk, OnErr};
-ghost use Rattle.growing_text.specs.Room.{HasGap};
+ghost use Rattle.growing_text.specs.Gap.{HasGap};
 
 use crate::lanes::copy_text;
 use std::alloc::{AllocError, Global};
 use std::marker::Model;
 
 // The least capacity that is reserved, in bytes.
-const FIRST_ROOM: usize = 64;
+const FIRST_CAPACITY: usize = 64;
 
 /// A text that grows: the front of a vector that is as long as what is reserved. Reserved memory stays until the text
 /// is dropped. Places and lengths are in bytes. A method that returns a `Result` fails if an allocation fails, and
@@ -69,7 +69,7 @@ impl Text {
         ensures same { self.new ≡ self.old }
     {
         let end = self.len;
-        make_room(&mut self.bytes, end, n)
+        ensure_capacity(&mut self.bytes, end, n)
     }
 
     /// Returns the bytes.
@@ -96,7 +96,7 @@ impl Text {
         ensures ok { OnOk result (self.new ≡ self.old ++ bytes.now) }
         ensures err { OnErr result (self.new ≡ self.old) }
     {
-        make_room(&mut self.bytes, self.len, bytes.len())?;
+        ensure_capacity(&mut self.bytes, self.len, bytes.len())?;
         let to = self.len + bytes.len();
         copy_text(&mut self.bytes[self.len..to], bytes);
         self.len = to;
@@ -111,9 +111,9 @@ impl Text {
     {
         let end = self.len;
         let n = first.len() + second.len();
-        make_room(&mut self.bytes, self.len, n)?;
-        let (_, room) = self.bytes.split_at_mut(end);
-        let (front, rest) = room.split_at_mut(first.len());
+        ensure_capacity(&mut self.bytes, self.len, n)?;
+        let (_, spare) = self.bytes.split_at_mut(end);
+        let (front, rest) = spare.split_at_mut(first.len());
         copy_text(front, first);
         copy_text(&mut rest[..second.len()], second);
         self.len = end + n;
@@ -130,7 +130,7 @@ impl Text {
     {
         let end = self.len;
         let n = to - from;
-        make_room(&mut self.bytes, self.len, n)?;
+        ensure_capacity(&mut self.bytes, self.len, n)?;
         self.len = end + n;
         self.put_part(end, from, to);
         Ok(())
@@ -139,13 +139,13 @@ impl Text {
     /// Inserts n spare bytes at a place, of unspecified values. What is after the place moves on. The caller
     /// overwrites the bytes.
     #[inline(always)]
-    pub fn open_room(&mut self, at: usize, n: usize) -> Result<(), AllocError>
+    pub fn open_gap(&mut self, at: usize, n: usize) -> Result<(), AllocError>
         requires within { at ≤ length self.old }
         ensures ok { OnOk result (HasGap (take at self.old) (drop at self.old) self.new n) }
         ensures err { OnErr result (self.new ≡ self.old) }
     {
         let len = self.len;
-        make_room(&mut self.bytes, len, n)?;
+        ensure_capacity(&mut self.bytes, len, n)?;
         self.bytes.copy_within(at..len, at + n);
         self.len = len + n;
         Ok(())
@@ -194,11 +194,11 @@ impl Text {
 
 // Makes sure that there is capacity for n more bytes after the first `len`.
 #[inline(always)]
-fn make_room(bytes: &mut Vec<u8>, len: usize, n: usize) -> Result<(), AllocError>
+fn ensure_capacity(bytes: &mut Vec<u8>, len: usize, n: usize) -> Result<(), AllocError>
     requires within { len ≤ length bytes.old.items }
     ensures front { take len bytes.new.items ≡ take len bytes.old.items }
     ensures within { len ≤ length bytes.new.items }
-    ensures room { OnOk result (len + n ≤ length bytes.new.items) }
+    ensures capacity { OnOk result (len + n ≤ length bytes.new.items) }
 {
     if bytes.len() - len < n {
         return grow(bytes, len, n);
@@ -213,11 +213,11 @@ fn grow(bytes: &mut Vec<u8>, len: usize, n: usize) -> Result<(), AllocError>
     requires within { len ≤ length bytes.old.items }
     ensures front { take len bytes.new.items ≡ take len bytes.old.items }
     ensures within { len ≤ length bytes.new.items }
-    ensures room { OnOk result (len + n ≤ length bytes.new.items) }
+    ensures capacity { OnOk result (len + n ≤ length bytes.new.items) }
 {
     let Some(want) = len.checked_add(n) else {
         return Err(AllocError);
     };
     let twice = bytes.len().saturating_mul(2);
-    bytes.resize(want.max(twice).max(FIRST_ROOM), 0)
+    bytes.resize(want.max(twice).max(FIRST_CAPACITY), 0)
 }

@@ -50,8 +50,8 @@ module _ (d : ℕ) (each : ArgumentsComplete d) where
       → Met text_len (list_as case (add_argument o k) (parse_argument d x) (first, front) (state_at (within_list outer own p) e m)
       >>= λ r. after_turn r.0 (loop (list_turn (add_argument o k) (parse_argument d x)) n) r.1)
       (reached (λ us. listed_each first front (map shape_of us)) list q c e m)
-  arguments_as_met n again end_of_arguments inside deep e m first front room = met (same_read refl refl refl (omega arith) (omega arith))
-  arguments_as_met n again {o = o} {k = k} (one_more_argument {q = q} {t = t} {ts = ts} {c = c} {outer = outer} {own = own} a more) inside deep e m first front room =
+  arguments_as_met n again end_of_arguments inside deep e m first front enough = met (same_read refl refl refl (omega arith) (omega arith))
+  arguments_as_met n again {o = o} {k = k} (one_more_argument {q = q} {t = t} {ts = ts} {c = c} {outer = outer} {own = own} a more) inside deep e m first front enough =
       let shorter = (argument_takes a).shorter in
       let list = listed_more first front (shape_of t) in
       let args = option_map (λ args. args ++ t ∷ []) own in
@@ -63,16 +63,16 @@ module _ (d : ℕ) (each : ArgumentsComplete d) where
 
   arguments_met : (n : ℕ) → TurnsMet d n
   unfolding loop list_turn
-  arguments_met zero x o k outer own p q list c a inside deep e m first front room = absurd (omega arith)
-  arguments_met (suc n) x o k outer own p q list c a inside deep e m first front room = arguments_as_met n (arguments_met n) a inside deep e m first front room
+  arguments_met zero x o k outer own p q list c a inside deep e m first front enough = absurd (omega arith)
+  arguments_met (suc n) x o k outer own p q list c a inside deep e m first front enough = arguments_as_met n (arguments_met n) a inside deep e m first front enough
 
   packed_as_met : (n : ℕ) → PackedMet d n → {case : ArgumentListCase} {x : Context} {p q : Position} {list : List Tree} {c : Cost} → PackedAs case x p list q c → Small d c
       → (e m : ℕ) (first : Bool) (front : Shape) → length p.rest < suc n
       → Met text_len (list_as case add_nowhere (parse_argument d x) (first, front) (state_at p e m)
       >>= λ r. after_turn r.0 (loop (list_turn add_nowhere (parse_argument d x)) n) r.1)
       (reached (λ us. listed_each first front (map shape_of us)) list q c e m)
-  packed_as_met n again end_of_pack deep e m first front room = met (same_read refl refl refl (omega arith) (omega arith))
-  packed_as_met n again (one_more_packed {q = q} {t = t} {ts = ts} {c = c} a more) deep e m first front room =
+  packed_as_met n again end_of_pack deep e m first front enough = met (same_read refl refl refl (omega arith) (omega arith))
+  packed_as_met n again (one_more_packed {q = q} {t = t} {ts = ts} {c = c} a more) deep e m first front enough =
       let shorter = (argument_takes a).shorter in
       let list = listed_more first front (shape_of t) in
       let rest = again _ _ _ _ _ more (omega arith) (e + c.count) (max m c.peak) false list (omega arith) in
@@ -82,8 +82,8 @@ module _ (d : ℕ) (each : ArgumentsComplete d) where
 
   packed_met : (n : ℕ) → PackedMet d n
   unfolding loop list_turn
-  packed_met zero x p q list c a deep e m first front room = absurd (omega arith)
-  packed_met (suc n) x p q list c a deep e m first front room = packed_as_met n (packed_met n) a deep e m first front room
+  packed_met zero x p q list c a deep e m first front enough = absurd (omega arith)
+  packed_met (suc n) x p q list c a deep e m first front enough = packed_as_met n (packed_met n) a deep e m first front enough
 
   -- a list from its I to its E
   pub list_met : {x : Context} (o : Bool) (p : Position) {q : Position} {list : List Tree} {c : Cost}

@@ -26,8 +26,8 @@ module _ (end : EncodingEnd) (of_function : Bool) (d : ℕ) (kinds : TypesComple
       → (e m : ℕ) (first : Bool) (front : Shape) → length p.rest < suc n
       → Met text_len (typed_as case (parse_type d x) (first, front) (state_at p e m) >>= λ r. after_turn r.0 (loop (typed_turn end of_function (parse_type d x)) n) r.1)
       (reached (λ us. listed_each first front (map shape_of us)) ts q c e m)
-  typed_as_met n again end_of_types deep e m first front room = met (same_read refl refl refl (omega arith) (omega arith))
-  typed_as_met n again (one_more_type {x = x} {q = q} {t = t} {ts = ts} {c = c} a others) deep e m first front room =
+  typed_as_met n again end_of_types deep e m first front enough = met (same_read refl refl refl (omega arith) (omega arith))
+  typed_as_met n again (one_more_type {x = x} {q = q} {t = t} {ts = ts} {c = c} a others) deep e m first front enough =
       let shorter = (type_takes a).shorter in
       let more = listed_more first front (shape_of t) in
       rw (kinds _ _ _ _ _ a (omega arith) e m)
@@ -37,8 +37,8 @@ module _ (end : EncodingEnd) (of_function : Bool) (d : ℕ) (kinds : TypesComple
 
   typed_met : (n : ℕ) → TypedMet d end of_function n
   unfolding loop typed_turn
-  typed_met zero x p q ts c a deep e m first front room = absurd (omega arith)
-  typed_met (suc n) x p q ts c a deep e m first front room = typed_as_met n (typed_met n) a deep e m first front room
+  typed_met zero x p q ts c a deep e m first front enough = absurd (omega arith)
+  typed_met (suc n) x p q ts c a deep e m first front enough = typed_as_met n (typed_met n) a deep e m first front enough
 
   pub typed_params_met : {case : ParamsCase} {x : Context} {p q : Position} {ts : List Tree} {c : Cost} → ParamsAs case end of_function x p ts q c → Small d c → (e m : ℕ) (front : Shape)
       → Met text_len (typed_params_as case end of_function (parse_type d x) front (state_at p e m)) (reached (λ us. listed_each true front (map shape_of us)) ts q c e m)

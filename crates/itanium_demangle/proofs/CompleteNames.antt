@@ -85,16 +85,16 @@ TagsComplete n = (t u : Tree) (p q : Position) → TaggedAs (tag_case p.rest) t 
 
 tag_as_complete : (n : ℕ) → TagsComplete n → {case : TagCase} {t u : Tree} {p q : Position} → TaggedAs case t p u q → (e m : ℕ) → length p.rest < suc n
     → (tag_as case (shape_of t) (state_at p e m) >>= λ r. after_turn r.0 (loop tag_turn n) r.1) ≡ Some (shape_of u, state_at q e m)
-tag_as_complete n again no_tag e m room = refl
-tag_as_complete n again (next_tag {p = p} {t = t} {bytes = b} {rest = r} found tags) e m room =
+tag_as_complete n again no_tag e m enough = refl
+tag_as_complete n again (next_tag {p = p} {t = t} {bytes = b} {rest = r} found tags) e m enough =
     let shorter = (source_takes (drop 1 p.rest) (b, r) found).shorter in
     let within = after-le (after_drop 1 p.rest) in
     rw (found, ← shape-tagged_with t (source_text b)) (again _ _ _ _ tags e m (omega arith))
 
 pub tags_complete : (n : ℕ) → TagsComplete n
 unfolding loop tag_turn
-tags_complete zero t u p q a e m room = absurd (omega arith)
-tags_complete (suc n) t u p q a e m room = tag_as_complete n (tags_complete n) a e m room
+tags_complete zero t u p q a e m enough = absurd (omega arith)
+tags_complete (suc n) t u p q a e m enough = tag_as_complete n (tags_complete n) a e m enough
 
 -- tags up to their end
 pub parse_tags_complete : {t u : Tree} {p q : Position} → TaggedAs (tag_case p.rest) t p u q → (e m : ℕ) → parse_tags (shape_of t) (state_at p e m) ≡ Some (shape_of u, state_at q e m)
@@ -173,8 +173,8 @@ module _ (d : ℕ) (lists : ArgsComplete d) (kinds : TypesComplete d) where
       (parse_args d x true) (candidate, shape_of t) (state_at p e m) >>= λ r. after_turn r.0
       (loop (segment_turn (parse_unqualified (parse_type d x) (parse_type d (inside_lambda x)))
       (parse_args d x true)) n) r.1) (reached shape_of u q c e m)
-  segment_met n again (end_of_segments {candidate = candidate} {p = p}) deep e m room = met (same_read refl (taken-map candidate p.saved) refl (omega arith) (omega arith))
-  segment_met n again (args_segment {x = x} {p = p} {q = q} {t = t} {ts = ts} {c = c} a b) deep e m room =
+  segment_met n again (end_of_segments {candidate = candidate} {p = p}) deep e m enough = met (same_read refl (taken-map candidate p.saved) refl (omega arith) (omega arith))
+  segment_met n again (args_segment {x = x} {p = p} {q = q} {t = t} {ts = ts} {c = c} a b) deep e m enough =
       let attached : attached_by (parse_args d x true) (shape_of t) (state_at p e m) ≡ given shape_of (with_args t (trees ts)) q c e m =
       rw (lists _ _ _ _ _ _ a (omega arith) e m, ← shape-with_args t ts) refl in
       let shorter = (args_takes a).shorter in
@@ -183,7 +183,7 @@ module _ (d : ℕ) (lists : ArgsComplete d) (kinds : TypesComplete d) where
       met_step _ _ (met attached) (segment_longer b)
       (rw (one_more q.saved (with_args t (trees ts)))
       (met_as rest (same_read refl refl refl (omega arith) (omega (arith, length-map q.saved shape_of)))))
-  segment_met n again (name_segment {q = q} {u = u} {c = c} a b) deep e m room =
+  segment_met n again (name_segment {q = q} {u = u} {c = c} a b) deep e m enough =
       let shorter = (unqualified_takes a).shorter in
       let within = after-le (initializer_after q.rest) in
       let rest = again _ _ _ _ _ _ _ b (omega arith) (e + c.count) (max (max m c.peak) (length (map shape_of q.saved) + 1)) (omega arith) in
@@ -193,8 +193,8 @@ module _ (d : ℕ) (lists : ArgsComplete d) (kinds : TypesComplete d) where
 
   pub segments_met : (n : ℕ) → SegmentsMet n
   unfolding loop segment_turn
-  segments_met zero x candidate t u p q c a deep e m room = absurd (omega arith)
-  segments_met (suc n) x candidate t u p q c a deep e m room = segment_met n (segments_met n) a deep e m room
+  segments_met zero x candidate t u p q c a deep e m enough = absurd (omega arith)
+  segments_met (suc n) x candidate t u p q c a deep e m enough = segment_met n (segments_met n) a deep e m enough
 
   nested_met : {x : Context} {p q : Position} {t : Tree} {c : Cost} → Nested x p t q c → Small d c → (e m : ℕ)
       → Met bare_len (parse_nested (parse_unqualified (parse_type d x) (parse_type d (inside_lambda x))) (parse_args d x true) x (state_at p e m)) (reached bare_of t q c e m)

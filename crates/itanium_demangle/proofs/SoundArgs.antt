@@ -43,8 +43,8 @@ module _ (d : ℕ) (each : ArgumentsSound d) where
       → (list_as case (parser.add_argument o k) (parse_argument d x) (first, front) (state_at (within_list outer own p) e m)
       >>= λ r. after_turn r.0 (loop (list_turn (parser.add_argument o k) (parse_argument d x)) n) r.1) ≡ Some y
       → Within (ArgumentListAs case x outer own p) d
-  arguments_as_sound n again EndOfArguments x o k outer own first front p e m y inside room is = record { tree = _; next = _; cost = _; reading = end_of_arguments; deep = omega arith }
-  arguments_as_sound n again NextArgument x o k outer own first front p e m y inside room is =
+  arguments_as_sound n again EndOfArguments x o k outer own first front p e m y inside enough is = record { tree = _; next = _; cost = _; reading = end_of_arguments; deep = omega arith }
+  arguments_as_sound n again NextArgument x o k outer own first front p e m y inside enough is =
       let here = within_list outer own p in
       option_and_then_some _ (list_as NextArgument (parser.add_argument o k) (parse_argument d x) (first, front) (state_at here e m)) y is (λ v turned rest.
       option_and_then_some _ (parse_argument d x (state_at here e m)) v turned (λ z arg made.
@@ -65,16 +65,16 @@ module _ (d : ℕ) (each : ArgumentsSound d) where
 
   arguments_sound : (n : ℕ) → TurnsSound d n
   unfolding loop list_turn
-  arguments_sound zero x o k outer own first front p e m y inside room is = cc
-  arguments_sound (suc n) x o k outer own first front p e m y inside room is = arguments_as_sound n (arguments_sound n) (argument_list_case p.rest) x o k outer own first front p e m y inside room is
+  arguments_sound zero x o k outer own first front p e m y inside enough is = cc
+  arguments_sound (suc n) x o k outer own first front p e m y inside enough is = arguments_as_sound n (arguments_sound n) (argument_list_case p.rest) x o k outer own first front p e m y inside enough is
 
   packed_as_sound : (n : ℕ) → PackedSound d n → (case : ArgumentListCase) (x : Context) (first : Bool) (front : Shape) (p : Position) (e m : ℕ) (y : Shape × ParserState)
       → length p.rest < suc n
       → (list_as case add_nowhere (parse_argument d x) (first, front) (state_at p e m)
       >>= λ r. after_turn r.0 (loop (list_turn add_nowhere (parse_argument d x)) n) r.1) ≡ Some y
       → Within (PackedAs case x p) d
-  packed_as_sound n again EndOfArguments x first front p e m y room is = record { tree = _; next = _; cost = _; reading = end_of_pack; deep = omega arith }
-  packed_as_sound n again NextArgument x first front p e m y room is =
+  packed_as_sound n again EndOfArguments x first front p e m y enough is = record { tree = _; next = _; cost = _; reading = end_of_pack; deep = omega arith }
+  packed_as_sound n again NextArgument x first front p e m y enough is =
       option_and_then_some _ (list_as NextArgument add_nowhere (parse_argument d x) (first, front) (state_at p e m)) y is (λ v turned rest.
       option_and_then_some _ (parse_argument d x (state_at p e m)) v turned (λ z arg made.
       let found = each x p e m z arg in
@@ -93,8 +93,8 @@ module _ (d : ℕ) (each : ArgumentsSound d) where
 
   packed_sound : (n : ℕ) → PackedSound d n
   unfolding loop list_turn
-  packed_sound zero x first front p e m y room is = cc
-  packed_sound (suc n) x first front p e m y room is = packed_as_sound n (packed_sound n) (argument_list_case p.rest) x first front p e m y room is
+  packed_sound zero x first front p e m y enough is = cc
+  packed_sound (suc n) x first front p e m y enough is = packed_as_sound n (packed_sound n) (argument_list_case p.rest) x first front p e m y enough is
 
 pub args_sound : (d : ℕ) → ArgumentsComplete d → ArgumentsSound d → ArgsSound (suc d)
 unfolding parse_args parse_argument parse_primary parse_encoding parse_special parse_name

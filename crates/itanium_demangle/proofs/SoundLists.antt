@@ -24,8 +24,8 @@ module _ (end : EncodingEnd) (of_function : Bool) (d : ℕ) (complete : TypesCom
   typed_as_sound : (n : ℕ) → TypedSound d end of_function n → (case : TypeListCase) (x : Context) (first : Bool) (front : Shape) (p : Position) (e m : ℕ) (y : Shape × ParserState) → length p.rest < suc n
       → (typed_as case (parse_type d x) (first, front) (state_at p e m) >>= λ r. after_turn r.0
       (loop (typed_turn end of_function (parse_type d x)) n) r.1) ≡ Some y → Within (TypeListAs case end of_function x p) d
-  typed_as_sound n again EndOfTypes x first front p e m y room is = record { tree = _; next = _; cost = _; reading = end_of_types; deep = omega arith }
-  typed_as_sound n again NextType x first front p e m y room is =
+  typed_as_sound n again EndOfTypes x first front p e m y enough is = record { tree = _; next = _; cost = _; reading = end_of_types; deep = omega arith }
+  typed_as_sound n again NextType x first front p e m y enough is =
       option_and_then_some _ (typed_as NextType (parse_type d x) (first, front) (state_at p e m)) y is (λ v turned rest.
       option_and_then_some _ (parse_type d x (state_at p e m)) v turned (λ z read made.
       let found = kinds x p e m z read in
@@ -38,8 +38,8 @@ module _ (end : EncodingEnd) (of_function : Bool) (d : ℕ) (complete : TypesCom
 
   typed_sound : (n : ℕ) → TypedSound d end of_function n
   unfolding loop typed_turn
-  typed_sound zero x first front p e m y room is = cc
-  typed_sound (suc n) x first front p e m y room is = typed_as_sound n (typed_sound n) (type_list_case end of_function p.rest) x first front p e m y room is
+  typed_sound zero x first front p e m y enough is = cc
+  typed_sound (suc n) x first front p e m y enough is = typed_as_sound n (typed_sound n) (type_list_case end of_function p.rest) x first front p e m y enough is
 
   -- parameters, and the answer y is their list
   pub typed_params_sound : (case : ParamsCase) (x : Context) (front : Shape) (p : Position) (e m : ℕ) (y : Shape × ParserState)

@@ -145,8 +145,8 @@ TagsSound n = (t : Tree) (p : Position) (e m : ℕ) (y : Shape × ParserState) �
 
 tag_as_sound : (n : ℕ) → TagsSound n → (case : TagCase) (t : Tree) (p : Position) (e m : ℕ) (y : Shape × ParserState) → length p.rest < suc n
     → (tag_as case (shape_of t) (state_at p e m) >>= λ r. after_turn r.0 (loop tag_turn n) r.1) ≡ Some y → Tagged case t p
-tag_as_sound n again NoTag t p e m y room is = record { tree = t; next = p; reading = no_tag }
-tag_as_sound n again NextTag t p e m y room is =
+tag_as_sound n again NoTag t p e m y enough is = record { tree = t; next = p; reading = no_tag }
+tag_as_sound n again NextTag t p e m y enough is =
     option_and_then_some _ (tag_as NextTag (shape_of t) (state_at p e m)) y is (λ v turned rest.
     option_and_then_some _ (source_name (drop 1 p.rest)) v turned (λ b found made.
     let shorter = (source_takes (drop 1 p.rest) b found).shorter in
@@ -157,8 +157,8 @@ tag_as_sound n again NextTag t p e m y room is =
 
 tags_sound : (n : ℕ) → TagsSound n
 unfolding loop tag_turn
-tags_sound zero t p e m y room is = cc
-tags_sound (suc n) t p e m y room is = tag_as_sound n (tags_sound n) (tag_case p.rest) t p e m y room is
+tags_sound zero t p e m y enough is = cc
+tags_sound (suc n) t p e m y enough is = tag_as_sound n (tags_sound n) (tag_case p.rest) t p e m y enough is
 
 -- a name with its tags
 parse_tags_sound : (t : Tree) (p : Position) (e m : ℕ) (y : Shape × ParserState) → parse_tags (shape_of t) (state_at p e m) ≡ Some y → Tagged (tag_case p.rest) t p
@@ -314,8 +314,8 @@ module _ (d : ℕ) (complete : TypesComplete d) (lists_are : ArgsComplete d) (ki
       (loop (segment_turn (parse_unqualified (parse_type d x) (parse_type d (inside_lambda x))) (parse_args d x true))
       n) r.1) ≡ Some y
       → Within (SegmentsAs case candidate x t p) d
-  segment_sound n again EndOfSegments x candidate t p e m y room is = record { tree = _; next = _; cost = _; reading = end_of_segments; deep = omega arith }
-  segment_sound n again ArgsSegment x candidate t p e m y room is =
+  segment_sound n again EndOfSegments x candidate t p e m y enough is = record { tree = _; next = _; cost = _; reading = end_of_segments; deep = omega arith }
+  segment_sound n again ArgsSegment x candidate t p e m y enough is =
       option_and_then_some _ (attached_by (parse_args d x true) (shape_of t) (state_at p e m) >>= fitting >>= next_segment) y is (λ v turned rest.
       option_and_then_some _ (attached_by (parse_args d x true) (shape_of t) (state_at p e m) >>= fitting) v turned (λ u fitted next.
       option_and_then_some _ (attached_by (parse_args d x true) (shape_of t) (state_at p e m)) u fitted (λ z list through.
@@ -334,7 +334,7 @@ module _ (d : ℕ) (complete : TypesComplete d) (lists_are : ArgsComplete d) (ki
         reading = args_segment {r = o.next} {v = o.tree} {d = o.cost} i.reading o.reading;
         deep = omega (arith, i.deep, o.deep);
       })))
-  segment_sound n again NameSegment x candidate t p e m y room is =
+  segment_sound n again NameSegment x candidate t p e m y enough is =
       option_and_then_some _ (parse_unqualified (parse_type d x) (parse_type d (inside_lambda x)) (Some (shape_of t)) (state_at p e m) >>= fitting >>= next_segment) y is (λ v turned rest.
       option_and_then_some _ (parse_unqualified (parse_type d x) (parse_type d (inside_lambda x)) (Some (shape_of t)) (state_at p e m) >>= fitting) v turned (λ u fitted next.
       option_and_then_some _ (parse_unqualified (parse_type d x) (parse_type d (inside_lambda x)) (Some (shape_of t)) (state_at p e m)) u fitted (λ z named through.
@@ -355,10 +355,10 @@ module _ (d : ℕ) (complete : TypesComplete d) (lists_are : ArgsComplete d) (ki
 
   segments_sound : (n : ℕ) → SegmentsSound d n
   unfolding loop segment_turn
-  segments_sound zero x candidate t p e m y room is = cc
-  segments_sound (suc n) x candidate t p e m y room is =
-      let w = segment_sound n (segments_sound n) (segment_case p.rest) x candidate t p e m y room is in
-      record { within = w; is = met_is (segments_met d lists_are complete (suc n) _ _ _ _ _ _ _ w.reading w.deep e m room) is }
+  segments_sound zero x candidate t p e m y enough is = cc
+  segments_sound (suc n) x candidate t p e m y enough is =
+      let w = segment_sound n (segments_sound n) (segment_case p.rest) x candidate t p e m y enough is in
+      record { within = w; is = met_is (segments_met d lists_are complete (suc n) _ _ _ _ _ _ _ w.reading w.deep e m enough) is }
 
   nested_sound : (x : Context) (p : Position) (e m : ℕ) (y : (Shape × Quals) × ParserState)
       → parse_nested (parse_unqualified (parse_type d x) (parse_type d (inside_lambda x))) (parse_args d x true) x

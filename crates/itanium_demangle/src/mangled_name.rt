@@ -16,7 +16,7 @@ use itanium_syntax::encodings::{EncodingEnd, begins_special};
 #[tactic(auto, using(itanium_reader::proofs::Rules::symbols))]
 #[inline(always)]
 fn read_symbol_name(reader: &mut Reader, depth: usize, context: Context) -> ReadResult
-    requires room { CountFits 1 (state reader.old) }
+    requires count_fits { CountFits 1 (state reader.old) }
     ensures reads { Gives result reader.new (spec.parse_encoding depth AfterName context (state reader.old)) }
     ensures run { OnOk result (IsRun reader.old.buffer.value reader.new.buffer.value) }
     ensures bounds { TakesSome 1 result (state reader.old) (state reader.new) }
@@ -33,7 +33,7 @@ fn read_symbol_name(reader: &mut Reader, depth: usize, context: Context) -> Read
 /// underscore is next. At most `depth` counted productions may nest, the signature included.
 #[tactic(auto, using(itanium_reader::proofs::Rules::signatures))]
 fn read_signature(reader: &mut Reader, depth: usize, context: Context) -> ReadResult
-    requires room { CountFits 2 (state reader.old) }
+    requires count_fits { CountFits 2 (state reader.old) }
     ensures reads { Gives result reader.new (spec.parse_signature depth context (state reader.old)) }
     ensures run { OnOk result (IsRun reader.old.buffer.value reader.new.buffer.value) }
     ensures bounds { TakesSome 2 result (state reader.old) (state reader.new) }
@@ -52,7 +52,7 @@ fn read_signature(reader: &mut Reader, depth: usize, context: Context) -> ReadRe
 #[tactic(auto, using(crate::proofs::Rules::readings))]
 #[inline(always)]
 pub(crate) fn read_mangled_name(reader: &mut Reader, depth: usize, signature: bool) -> ReadResult
-    requires room { CountFits 2 (state reader.old) }
+    requires count_fits { CountFits 2 (state reader.old) }
     ensures reads { Gives result reader.new (parse_mangled depth signature (state reader.old)) }
     // In terms of trees: `Ok` is a reading of the bytes, with which every other agrees. `Stop::Unreadable` means that
     // no reading is within the limits.

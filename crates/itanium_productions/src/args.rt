@@ -25,7 +25,7 @@ pub(crate) fn read_template_args(
     context: Context,
     of_name: bool,
 ) -> ReadResult
-    requires room { CountFits 1 (state reader.old) }
+    requires count_fits { CountFits 1 (state reader.old) }
     requires some { 0 < length reader.old.rest.now }
     requires living { IsLiving reader.old.buffer.value reader.old.found }
     ensures reads { Gives result reader.new (spec.attached_by
@@ -76,7 +76,7 @@ pub(crate) fn read_template_args(
 #[cycle(reader)]
 #[inline(never)]
 pub(crate) fn read_argument_pack(reader: &mut Reader, depth: usize, context: Context) -> ReadResult
-    requires room { CountFits 1 (state reader.old) }
+    requires count_fits { CountFits 1 (state reader.old) }
     requires some { 0 < length reader.old.rest.now }
     ensures reads { Gives result reader.new (spec.parse_pack depth context (state reader.old)) }
     ensures run { OnOk result (IsRun reader.old.buffer.value reader.new.buffer.value) }
@@ -116,7 +116,7 @@ pub(crate) fn read_argument_pack(reader: &mut Reader, depth: usize, context: Con
 #[cycle(reader)]
 #[inline(always)]
 pub(crate) fn read_template_arg(reader: &mut Reader, depth: usize, context: Context) -> ReadResult
-    requires room { CountFits 2 (state reader.old) }
+    requires count_fits { CountFits 2 (state reader.old) }
     ensures reads { Gives result reader.new (spec.parse_argument depth context (state reader.old)) }
     ensures kept { OnOk result (SameFrame reader.old.buffer.value reader.new.buffer.value) }
     ensures output { OnOk result (main_bytes reader.new.buffer.value

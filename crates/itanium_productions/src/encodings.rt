@@ -38,7 +38,7 @@ pub(crate) fn read_return(
     templ: bool,
     ctor: bool,
 ) -> ReadResult
-    requires room { CountFits 2 (state reader.old) }
+    requires count_fits { CountFits 2 (state reader.old) }
     ensures reads { Leaves result reader.new (spec.return_as (return_case end templ ctor reader.old.rest.now)
         (spec.parse_type depth context) (state reader.old)) }
     ensures kept { OnOk result (SameFrame reader.old.buffer.value reader.new.buffer.value) }
@@ -68,7 +68,7 @@ pub(crate) fn end_encoding(
     end: EncodingEnd,
     name: Piece,
 ) -> ReadResult
-    requires room { CountFits 2 (state reader.old) }
+    requires count_fits { CountFits 2 (state reader.old) }
     requires living { IsLiving reader.old.buffer.value name }
     ensures reads { Gives result reader.new (spec.encoding_end end (spec.parse_type depth context)
         (spec.parse_type depth (inside_params end context))
@@ -105,7 +105,7 @@ pub fn read_encoding(
     context: Context,
     end: EncodingEnd,
 ) -> ReadResult
-    requires room { CountFits 1 (state reader.old) }
+    requires count_fits { CountFits 1 (state reader.old) }
     ensures reads { Gives result reader.new (spec.parse_encoding depth end context (state reader.old)) }
     ensures run { OnOk result (IsRun reader.old.buffer.value reader.new.buffer.value) }
     ensures bounds { TakesSome 1 result (state reader.old) (state reader.new) }
@@ -132,7 +132,7 @@ pub(crate) fn read_entity(
     context: Context,
     encoding: Piece,
 ) -> ReadResult
-    requires room { CountFits 0 (state reader.old) }
+    requires count_fits { CountFits 0 (state reader.old) }
     requires living { IsLiving reader.old.buffer.value encoding }
     ensures reads { GivesBareName result reader.new (spec.entity_as (entity_case reader.old.rest.now)
         (spec.parse_bare_name depth context) (shape reader.old.buffer.value encoding) (state reader.old)) }
@@ -174,7 +174,7 @@ pub(crate) fn read_entity(
 #[tactic(auto, using(itanium_reader::proofs::Rules::local_names))]
 #[cycle(reader)]
 pub(crate) fn read_local_name(reader: &mut Reader, depth: usize, context: Context) -> ReadResult
-    requires room { CountFits 2 (state reader.old) }
+    requires count_fits { CountFits 2 (state reader.old) }
     ensures reads { GivesBareName result reader.new (spec.parse_local (spec.parse_encoding depth AtE
         (inside_encoding context)) (spec.parse_bare_name depth (showing_words context)) (state reader.old)) }
     ensures run { OnOk result (IsRun reader.old.buffer.value reader.new.buffer.value) }

@@ -23,7 +23,7 @@ use itanium_syntax::expressions::{
 #[tactic(auto, using(itanium_reader::proofs::Rules::primaries))]
 #[cycle(reader)]
 pub(crate) fn read_expr_primary(reader: &mut Reader, depth: usize, context: Context) -> ReadResult
-    requires room { CountFits 0 (state reader.old) }
+    requires count_fits { CountFits 0 (state reader.old) }
     requires some { 0 < length reader.old.rest.now }
     ensures reads { Gives result reader.new (spec.parse_primary depth context (state reader.old)) }
     ensures run { OnOk result (IsRun reader.old.buffer.value reader.new.buffer.value) }
@@ -61,7 +61,7 @@ pub(crate) fn read_expr_primary(reader: &mut Reader, depth: usize, context: Cont
 #[tactic(auto, using(itanium_reader::proofs::Rules::words))]
 #[cycle(reader)]
 pub(crate) fn read_pre(reader: &mut Reader, depth: usize, context: Context) -> ReadResult
-    requires room { CountFits 0 (state reader.old) }
+    requires count_fits { CountFits 0 (state reader.old) }
     requires some { 0 < length reader.old.rest.now }
     ensures reads { Gives result reader.new (spec.parse_pre (spec.parse_expression depth context) (state reader.old)) }
     ensures run { OnOk result (IsRun reader.old.buffer.value reader.new.buffer.value) }
@@ -80,7 +80,7 @@ pub(crate) fn read_pre(reader: &mut Reader, depth: usize, context: Context) -> R
 /// Reads `ad <expression>` for an external name, and prints `&` in front of it.
 #[cycle(reader)]
 pub(crate) fn read_address(reader: &mut Reader, depth: usize, context: Context) -> ReadResult
-    requires room { CountFits 0 (state reader.old) }
+    requires count_fits { CountFits 0 (state reader.old) }
     requires some { 0 < length reader.old.rest.now }
     ensures reads { Gives result reader.new
         (spec.parse_address (spec.parse_expression depth context) (state reader.old)) }
@@ -98,7 +98,7 @@ pub(crate) fn read_address(reader: &mut Reader, depth: usize, context: Context) 
 #[tactic(auto, using(itanium_reader::proofs::Rules::words))]
 #[cycle(reader)]
 pub(crate) fn read_unary(reader: &mut Reader, depth: usize, context: Context) -> ReadResult
-    requires room { CountFits 0 (state reader.old) }
+    requires count_fits { CountFits 0 (state reader.old) }
     requires some { 0 < length reader.old.rest.now }
     ensures reads { Gives result reader.new
         (spec.parse_unary (spec.parse_expression depth context) (state reader.old)) }
@@ -117,7 +117,7 @@ pub(crate) fn read_unary(reader: &mut Reader, depth: usize, context: Context) ->
 /// Reads `pp <expression>` or `mm <expression>`, a postfix increment or decrement.
 #[cycle(reader)]
 pub(crate) fn read_post(reader: &mut Reader, depth: usize, context: Context) -> ReadResult
-    requires room { CountFits 0 (state reader.old) }
+    requires count_fits { CountFits 0 (state reader.old) }
     requires some { 0 < length reader.old.rest.now }
     ensures reads { Gives result reader.new
         (spec.parse_post (spec.parse_expression depth context) (state reader.old)) }
@@ -136,7 +136,7 @@ pub(crate) fn read_post(reader: &mut Reader, depth: usize, context: Context) -> 
 /// Reads the two letters of a binary operator and its two operands. The operator is printed between them.
 #[cycle(reader)]
 pub(crate) fn read_binary(reader: &mut Reader, depth: usize, context: Context) -> ReadResult
-    requires room { CountFits 0 (state reader.old) }
+    requires count_fits { CountFits 0 (state reader.old) }
     requires some { 0 < length reader.old.rest.now }
     ensures reads { Gives result reader.new
         (spec.parse_binary (spec.parse_expression depth context) (state reader.old)) }
@@ -156,7 +156,7 @@ pub(crate) fn read_binary(reader: &mut Reader, depth: usize, context: Context) -
 /// Reads `gt <expression> <expression>`. Each of the two is printed in parentheses, and so is the whole.
 #[cycle(reader)]
 pub(crate) fn read_greater(reader: &mut Reader, depth: usize, context: Context) -> ReadResult
-    requires room { CountFits 0 (state reader.old) }
+    requires count_fits { CountFits 0 (state reader.old) }
     requires some { 0 < length reader.old.rest.now }
     ensures reads { Gives result reader.new
         (spec.parse_greater (spec.parse_expression depth context) (state reader.old)) }
@@ -178,7 +178,7 @@ pub(crate) fn read_greater(reader: &mut Reader, depth: usize, context: Context) 
 /// Reads `qu <expression> <expression> <expression>`, a conditional expression. Prints `?` and ` : ` between them.
 #[cycle(reader)]
 pub(crate) fn read_conditional(reader: &mut Reader, depth: usize, context: Context) -> ReadResult
-    requires room { CountFits 0 (state reader.old) }
+    requires count_fits { CountFits 0 (state reader.old) }
     requires some { 0 < length reader.old.rest.now }
     ensures reads { Gives result reader.new
         (spec.parse_conditional (spec.parse_expression depth context) (state reader.old)) }
@@ -201,7 +201,7 @@ pub(crate) fn read_conditional(reader: &mut Reader, depth: usize, context: Conte
 #[tactic(auto, using(itanium_reader::proofs::Rules::expressions))]
 #[cycle(reader)]
 pub(crate) fn read_expression(reader: &mut Reader, depth: usize, context: Context) -> ReadResult
-    requires room { CountFits 1 (state reader.old) }
+    requires count_fits { CountFits 1 (state reader.old) }
     ensures reads { Gives result reader.new (spec.parse_expression depth context (state reader.old)) }
     ensures run { OnOk result (IsRun reader.old.buffer.value reader.new.buffer.value) }
     ensures refused { depth ≡ 0 → reader.new.entered ≡ reader.old.entered }
@@ -229,7 +229,7 @@ pub(crate) fn read_expression(reader: &mut Reader, depth: usize, context: Contex
 /// Reads an operand, which is an `<expression>`. The operand is printed in parentheses unless it is an external name.
 #[cycle(reader)]
 pub(crate) fn read_operand(reader: &mut Reader, depth: usize, context: Context) -> ReadResult
-    requires room { CountFits 1 (state reader.old) }
+    requires count_fits { CountFits 1 (state reader.old) }
     ensures reads { Gives result reader.new
         (spec.operand_by (spec.parse_expression depth context) (state reader.old)) }
     ensures run { OnOk result (IsRun reader.old.buffer.value reader.new.buffer.value) }
@@ -246,7 +246,7 @@ pub(crate) fn read_operand(reader: &mut Reader, depth: usize, context: Context) 
 /// output followed by the operand's text.
 #[cycle(reader)]
 pub(crate) fn framed_operand(reader: &mut Reader, depth: usize, context: Context) -> ReadResult
-    requires room { CountFits 1 (state reader.old) }
+    requires count_fits { CountFits 1 (state reader.old) }
     ensures reads { Gives result reader.new
         (spec.operand_by (spec.parse_expression depth context) (state reader.old)) }
     ensures kept { OnOk result (SameFrame reader.old.buffer.value reader.new.buffer.value) }
@@ -265,7 +265,7 @@ pub(crate) fn framed_operand(reader: &mut Reader, depth: usize, context: Context
 /// old output followed by the expression's text.
 #[cycle(reader)]
 pub(crate) fn framed_expression(reader: &mut Reader, depth: usize, context: Context) -> ReadResult
-    requires room { CountFits 1 (state reader.old) }
+    requires count_fits { CountFits 1 (state reader.old) }
     ensures reads { Gives result reader.new (spec.parse_expression depth context (state reader.old)) }
     ensures kept { OnOk result (SameFrame reader.old.buffer.value reader.new.buffer.value) }
     ensures output { OnOk result (main_bytes reader.new.buffer.value

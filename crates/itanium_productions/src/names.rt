@@ -36,7 +36,7 @@ pub(crate) fn read_closure_type_name(
     depth: usize,
     context: Context,
 ) -> ReadResult
-    requires room { CountFits 2 (state reader.old) }
+    requires count_fits { CountFits 2 (state reader.old) }
     ensures reads { Gives result reader.new (spec.parse_lambda (spec.parse_type depth context) (state reader.old)) }
     ensures run { OnOk result (IsRun reader.old.buffer.value reader.new.buffer.value) }
     ensures last { OnOk result (IsLast reader.new.buffer.value reader.new.found) }
@@ -52,7 +52,7 @@ pub(crate) fn read_closure_type_name(
 #[tactic(auto, using(itanium_reader::proofs::Rules::ordinary_names))]
 #[cycle(reader)]
 pub(crate) fn read_ordinary_name(reader: &mut Reader, depth: usize, context: Context) -> ReadResult
-    requires room { CountFits 0 (state reader.old) }
+    requires count_fits { CountFits 0 (state reader.old) }
     ensures reads { Gives result reader.new (spec.ordinary_as (ordinary_case reader.old.rest.now)
         (spec.parse_type depth context) (spec.parse_type depth (inside_lambda context)) (state reader.old)) }
     ensures run { OnOk result (IsRun reader.old.buffer.value reader.new.buffer.value) }
@@ -95,7 +95,7 @@ pub(crate) fn read_unqualified_name(
     depth: usize,
     context: Context,
 ) -> ReadResult
-    requires room { CountFits 0 (state reader.old) }
+    requires count_fits { CountFits 0 (state reader.old) }
     ensures reads { Gives result reader.new (spec.unqualified_name depth context None (state reader.old)) }
     ensures run { OnOk result (IsRun reader.old.buffer.value reader.new.buffer.value) }
     ensures last { OnOk result (IsLast reader.new.buffer.value reader.new.found) }
@@ -116,7 +116,7 @@ pub(crate) fn read_unqualified_name(
 #[tactic(auto, using(itanium_reader::proofs::Rules::unqualified_names))]
 #[cycle(reader)]
 pub(crate) fn read_segment(reader: &mut Reader, depth: usize, context: Context) -> ReadResult
-    requires room { CountFits 0 (state reader.old) }
+    requires count_fits { CountFits 0 (state reader.old) }
     requires living { IsLiving reader.old.buffer.value reader.old.found }
     requires last { IsLast reader.old.buffer.value reader.old.found }
     ensures reads { Gives result reader.new (spec.unqualified_name depth context
@@ -147,7 +147,7 @@ pub(crate) fn read_ordinary_segment(
     depth: usize,
     context: Context,
 ) -> ReadResult
-    requires room { CountFits 0 (state reader.old) }
+    requires count_fits { CountFits 0 (state reader.old) }
     requires living { IsLiving reader.old.buffer.value reader.old.found }
     ensures reads { Gives result reader.new
         (spec.untagged_as OrdinaryName (spec.parse_type depth context) (spec.parse_type depth (inside_lambda context))
@@ -175,7 +175,7 @@ pub(crate) fn read_first_segment(
     depth: usize,
     context: Context,
 ) -> Result<bool, Stop>
-    requires room { CountFits 2 (state reader.old) }
+    requires count_fits { CountFits 2 (state reader.old) }
     ensures reads { GivesCandidate result reader.new (spec.first_as (first_case reader.old.rest.now)
         (spec.unqualified_name depth context) context (state reader.old)) }
     ensures candidate { IfOk result (λ candidate. candidate ≡ first_is_candidate (first_case reader.old.rest.now)) }
@@ -219,7 +219,7 @@ pub(crate) fn read_first_segment(
 #[cycle(reader)]
 #[inline(always)]
 pub(crate) fn read_nested_name(reader: &mut Reader, depth: usize, context: Context) -> ReadResult
-    requires room { CountFits 2 (state reader.old) }
+    requires count_fits { CountFits 2 (state reader.old) }
     ensures reads { GivesBareName result reader.new (spec.parse_nested
         (spec.unqualified_name depth context) (spec.parse_args depth context true) context (state reader.old)) }
     ensures run { OnOk result (IsRun reader.old.buffer.value reader.new.buffer.value) }
@@ -248,7 +248,7 @@ pub(crate) fn read_nested_name(reader: &mut Reader, depth: usize, context: Conte
 #[cycle(reader)]
 #[inline(always)]
 pub(crate) fn read_prefix(reader: &mut Reader, depth: usize, context: Context) -> ReadResult
-    requires room { CountFits 2 (state reader.old) }
+    requires count_fits { CountFits 2 (state reader.old) }
     ensures reads { Gives result reader.new (spec.parse_after_quals
         (spec.unqualified_name depth context) (spec.parse_args depth context true) context (state reader.old)) }
     ensures run { OnOk result (IsRun reader.old.buffer.value reader.new.buffer.value) }
@@ -289,7 +289,7 @@ pub(crate) fn read_prefix(reader: &mut Reader, depth: usize, context: Context) -
 #[tactic(auto, using(itanium_reader::proofs::Rules::segments))]
 #[cycle(reader)]
 pub(crate) fn read_unscoped_name(reader: &mut Reader, depth: usize, context: Context) -> ReadResult
-    requires room { CountFits 0 (state reader.old) }
+    requires count_fits { CountFits 0 (state reader.old) }
     ensures reads { Gives result reader.new (spec.unscoped_as (unscoped_case reader.old.rest.now)
         (spec.unqualified_name depth context) (spec.parse_args depth context true) (state reader.old)) }
     ensures run { OnOk result (IsRun reader.old.buffer.value reader.new.buffer.value) }
@@ -330,7 +330,7 @@ pub(crate) fn read_unscoped_name(reader: &mut Reader, depth: usize, context: Con
 #[cycle(reader)]
 #[inline(always)]
 pub fn read_name(reader: &mut Reader, depth: usize, context: Context, bare: bool) -> ReadResult
-    requires room { CountFits 1 (state reader.old) }
+    requires count_fits { CountFits 1 (state reader.old) }
     ensures reads { GivesName bare result reader.new depth context (state reader.old) }
     ensures fits { OnOk result (spec.is_too_wide (shape reader.new.buffer.value reader.new.found) ≡ false) }
     ensures run { OnOk result (IsRun reader.old.buffer.value reader.new.buffer.value) }
@@ -376,7 +376,7 @@ pub(crate) fn framed_name(
     context: Context,
     bare: bool,
 ) -> ReadResult
-    requires room { CountFits 1 (state reader.old) }
+    requires count_fits { CountFits 1 (state reader.old) }
     ensures reads { GivesName bare result reader.new depth context (state reader.old) }
     ensures kept { OnOk result (SameFrame reader.old.buffer.value reader.new.buffer.value) }
     ensures output { OnOk result (main_bytes reader.new.buffer.value

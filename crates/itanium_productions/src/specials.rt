@@ -19,7 +19,7 @@ use itanium_syntax::specials::{SpecialCase, special_case, special_close, special
 #[tactic(auto, using(itanium_reader::proofs::Rules::words))]
 #[cycle(reader)]
 pub(crate) fn read_type_special(reader: &mut Reader, depth: usize, context: Context) -> ReadResult
-    requires room { CountFits 0 (state reader.old) }
+    requires count_fits { CountFits 0 (state reader.old) }
     requires some { 0 < length reader.old.rest.now }
     ensures reads { Gives result reader.new (spec.parse_worded (spec.parse_type depth context) (state reader.old)) }
     ensures run { OnOk result (IsRun reader.old.buffer.value reader.new.buffer.value) }
@@ -39,7 +39,7 @@ pub(crate) fn read_type_special(reader: &mut Reader, depth: usize, context: Cont
 #[tactic(auto, using(itanium_reader::proofs::Rules::words))]
 #[cycle(reader)]
 pub(crate) fn read_name_special(reader: &mut Reader, depth: usize, context: Context) -> ReadResult
-    requires room { CountFits 0 (state reader.old) }
+    requires count_fits { CountFits 0 (state reader.old) }
     requires some { 0 < length reader.old.rest.now }
     ensures reads { Gives result reader.new (spec.parse_worded (spec.parse_name depth context) (state reader.old)) }
     ensures run { OnOk result (IsRun reader.old.buffer.value reader.new.buffer.value) }
@@ -58,7 +58,7 @@ pub(crate) fn read_name_special(reader: &mut Reader, depth: usize, context: Cont
 /// Reads `GR <name> [<seq-id>] _`, a reference temporary.
 #[cycle(reader)]
 pub(crate) fn read_temporary(reader: &mut Reader, depth: usize, context: Context) -> ReadResult
-    requires room { CountFits 0 (state reader.old) }
+    requires count_fits { CountFits 0 (state reader.old) }
     requires some { 0 < length reader.old.rest.now }
     ensures reads { Gives result reader.new (spec.parse_temporary (spec.parse_name depth context) (state reader.old)) }
     ensures run { OnOk result (IsRun reader.old.buffer.value reader.new.buffer.value) }
@@ -74,7 +74,7 @@ pub(crate) fn read_temporary(reader: &mut Reader, depth: usize, context: Context
 #[tactic(auto, using(itanium_reader::proofs::Rules::words))]
 #[cycle(reader)]
 pub(crate) fn read_construction(reader: &mut Reader, depth: usize, context: Context) -> ReadResult
-    requires room { CountFits 0 (state reader.old) }
+    requires count_fits { CountFits 0 (state reader.old) }
     requires some { 0 < length reader.old.rest.now }
     ensures reads { Gives result reader.new
         (spec.parse_construction (spec.parse_type depth context) (state reader.old)) }
@@ -106,7 +106,7 @@ pub(crate) fn read_thunk(
     context: Context,
     end: EncodingEnd,
 ) -> ReadResult
-    requires room { CountFits 1 (state reader.old) }
+    requires count_fits { CountFits 1 (state reader.old) }
     requires some { 0 < length reader.old.rest.now }
     ensures reads { Gives result reader.new (spec.parse_thunk depth end context (state reader.old)) }
     ensures run { OnOk result (IsRun reader.old.buffer.value reader.new.buffer.value) }
@@ -134,7 +134,7 @@ pub fn read_special_name(
     context: Context,
     end: EncodingEnd,
 ) -> ReadResult
-    requires room { CountFits 1 (state reader.old) }
+    requires count_fits { CountFits 1 (state reader.old) }
     ensures reads { Gives result reader.new (spec.parse_special depth end context (state reader.old)) }
     ensures run { OnOk result (IsRun reader.old.buffer.value reader.new.buffer.value) }
     ensures bounds { TakesSome 1 result (state reader.old) (state reader.new) }

@@ -30,7 +30,7 @@ use itanium_syntax::types::{
 #[tactic(auto, using(itanium_reader::proofs::Rules::fronts))]
 #[cycle(reader)]
 pub(crate) fn read_type_attached(reader: &mut Reader, depth: usize, context: Context) -> ReadResult
-    requires room { CountFits 1 (state reader.old) }
+    requires count_fits { CountFits 1 (state reader.old) }
     requires living { IsLiving reader.old.buffer.value reader.old.found }
     ensures reads { Gives result reader.new (spec.type_attached_as (attached_case reader.old.rest.now)
         (spec.parse_args depth context false) (shape reader.old.buffer.value reader.old.found) (state reader.old)) }
@@ -52,7 +52,7 @@ pub(crate) fn read_type_attached(reader: &mut Reader, depth: usize, context: Con
 #[tactic(auto, using(itanium_reader::proofs::Rules::types))]
 #[cycle(reader)]
 pub(crate) fn read_type(reader: &mut Reader, depth: usize, context: Context) -> ReadResult
-    requires room { CountFits 2 (state reader.old) }
+    requires count_fits { CountFits 2 (state reader.old) }
     ensures reads { Gives result reader.new (spec.parse_type depth context (state reader.old)) }
     ensures run { OnOk result (IsRun reader.old.buffer.value reader.new.buffer.value) }
     ensures refused { depth ≡ 0 → reader.new.entered ≡ reader.old.entered }
@@ -102,7 +102,7 @@ pub(crate) fn read_type(reader: &mut Reader, depth: usize, context: Context) -> 
 #[cycle(reader)]
 #[inline(never)]
 pub(crate) fn read_expansion(reader: &mut Reader, depth: usize, context: Context) -> ReadResult
-    requires room { CountFits 1 (state reader.old) }
+    requires count_fits { CountFits 1 (state reader.old) }
     requires some { 0 < length reader.old.rest.now }
     ensures reads { Gives result reader.new
         (spec.parse_expansion (spec.parse_type depth context) context.dots_hidden (state reader.old)) }
@@ -123,7 +123,7 @@ pub(crate) fn read_expansion(reader: &mut Reader, depth: usize, context: Context
 #[cycle(reader)]
 #[inline(never)]
 pub(crate) fn read_array_type(reader: &mut Reader, depth: usize, context: Context) -> ReadResult
-    requires room { CountFits 1 (state reader.old) }
+    requires count_fits { CountFits 1 (state reader.old) }
     requires some { 0 < length reader.old.rest.now }
     ensures reads { Gives result reader.new (spec.parse_array (spec.parse_type depth context) (state reader.old)) }
     ensures run { OnOk result (IsRun reader.old.buffer.value reader.new.buffer.value) }
@@ -152,7 +152,7 @@ pub(crate) fn read_pointer(
     context: Context,
     kind: Pointer,
 ) -> ReadResult
-    requires room { CountFits 1 (state reader.old) }
+    requires count_fits { CountFits 1 (state reader.old) }
     requires some { 0 < length reader.old.rest.now }
     ensures reads { Gives result reader.new (spec.parse_pointer
         (spec.parse_type depth context) kind (state reader.old)) }
@@ -171,7 +171,7 @@ pub(crate) fn read_pointer(
 #[cycle(reader)]
 #[inline(never)]
 pub(crate) fn read_elaborated(reader: &mut Reader, depth: usize, context: Context) -> ReadResult
-    requires room { CountFits 1 (state reader.old) }
+    requires count_fits { CountFits 1 (state reader.old) }
     ensures reads { Gives result reader.new (spec.parse_elaborated (spec.parse_name depth context) (state reader.old)) }
     ensures run { OnOk result (IsRun reader.old.buffer.value reader.new.buffer.value) }
     ensures bounds { TakesSome 1 result (state reader.old) (state reader.new) }
@@ -189,7 +189,7 @@ pub(crate) fn read_elaborated(reader: &mut Reader, depth: usize, context: Contex
 /// output followed by the type's text.
 #[cycle(reader)]
 pub(crate) fn framed_type(reader: &mut Reader, depth: usize, context: Context) -> ReadResult
-    requires room { CountFits 2 (state reader.old) }
+    requires count_fits { CountFits 2 (state reader.old) }
     ensures reads { Gives result reader.new (spec.parse_type depth context (state reader.old)) }
     ensures kept { OnOk result (SameFrame reader.old.buffer.value reader.new.buffer.value) }
     ensures output { OnOk result (main_bytes reader.new.buffer.value
@@ -210,7 +210,7 @@ pub(crate) fn read_pointer_to_member_type(
     depth: usize,
     context: Context,
 ) -> ReadResult
-    requires room { CountFits 1 (state reader.old) }
+    requires count_fits { CountFits 1 (state reader.old) }
     requires some { 0 < length reader.old.rest.now }
     ensures reads { Gives result reader.new (spec.parse_member (spec.parse_type depth context) (state reader.old)) }
     ensures run { OnOk result (IsRun reader.old.buffer.value reader.new.buffer.value) }
@@ -228,7 +228,7 @@ pub(crate) fn read_pointer_to_member_type(
 #[cycle(reader)]
 #[inline(never)]
 pub(crate) fn read_cv(reader: &mut Reader, depth: usize, context: Context) -> ReadResult
-    requires room { CountFits 1 (state reader.old) }
+    requires count_fits { CountFits 1 (state reader.old) }
     requires some { length (past_cv reader.old.rest.now) < length reader.old.rest.now }
     ensures reads { Gives result reader.new (spec.parse_cv (spec.parse_type depth context) (state reader.old)) }
     ensures run { OnOk result (IsRun reader.old.buffer.value reader.new.buffer.value) }
@@ -257,7 +257,7 @@ pub(crate) fn read_function_type(
     context: Context,
     quals: Quals,
 ) -> ReadResult
-    requires room { CountFits 1 (state reader.old) }
+    requires count_fits { CountFits 1 (state reader.old) }
     requires some { 0 < length reader.old.rest.now }
     ensures reads { Gives result reader.new (spec.parse_function
         (spec.parse_type depth context) quals (state reader.old)) }
@@ -298,7 +298,7 @@ pub(crate) fn read_params(
     of_function: bool,
     list: Piece,
 ) -> ReadResult
-    requires room { CountFits 2 (state reader.old) }
+    requires count_fits { CountFits 2 (state reader.old) }
     requires living { IsLiving reader.old.buffer.value list }
     ensures reads { Gives result reader.new (spec.typed_params_as (params_case end reader.old.rest.now) end of_function
         (spec.parse_type depth context) (shape reader.old.buffer.value list) (state reader.old)) }

@@ -12,22 +12,22 @@ module _ {L A : Type 0} (turn : L → Parses (Turn L A)) where
 
 pub loop_start : {L A : Type 0} {whole : Option (A × ParserState)} {turn : L → Parses (Turn L A)} {so_far : L} {s : ParserState} → whole ≡ parse_loop turn so_far s
     → LoopSoFar whole turn so_far s
-loop_start {s = s} whole = record { turns = length s.rest + 1; room = omega arith; is = whole }
+loop_start {s = s} whole = record { turns = length s.rest + 1; enough = omega arith; is = whole }
 
 pub loop_end : {L A : Type 0} {whole : Option (A × ParserState)} {turn : L → Parses (Turn L A)} {so_far : L} {s after : ParserState} {answer : A}
     → LoopSoFar whole turn so_far s → turn so_far s ≡ Some (ends answer, after) → whole ≡ Some (answer, after)
-loop_end {turn = turn} {so_far = so_far} {s = s} sofar there = sofar.is ∙ loop_opens turn sofar.turns so_far s (omega (arith, sofar.room)) ∙ rw there refl
+loop_end {turn = turn} {so_far = so_far} {s = s} sofar there = sofar.is ∙ loop_opens turn sofar.turns so_far s (omega (arith, sofar.enough)) ∙ rw there refl
 
 pub loop_fail : {L A : Type 0} {whole : Option (A × ParserState)} {turn : L → Parses (Turn L A)} {so_far : L} {s : ParserState}
     → LoopSoFar whole turn so_far s → turn so_far s ≡ None → whole ≡ None
-loop_fail {turn = turn} {so_far = so_far} {s = s} sofar there = sofar.is ∙ loop_opens turn sofar.turns so_far s (omega (arith, sofar.room)) ∙ rw there refl
+loop_fail {turn = turn} {so_far = so_far} {s = s} sofar there = sofar.is ∙ loop_opens turn sofar.turns so_far s (omega (arith, sofar.enough)) ∙ rw there refl
 
 pub loop_more : {L A : Type 0} {whole : Option (A × ParserState)} {turn : L → Parses (Turn L A)} {so_far next : L} {s after : ParserState}
     → LoopSoFar whole turn so_far s → turn so_far s ≡ Some (goes_on next, after) → length after.rest < length s.rest → LoopSoFar whole turn next after
 loop_more {turn = turn} {so_far = so_far} {s = s} sofar there shorter = record {
   turns = sofar.turns - 1;
-  room = omega (arith, sofar.room);
-  is = sofar.is ∙ loop_opens turn sofar.turns so_far s (omega (arith, sofar.room)) ∙ rw there refl;
+  enough = omega (arith, sofar.enough);
+  is = sofar.is ∙ loop_opens turn sofar.turns so_far s (omega (arith, sofar.enough)) ∙ rw there refl;
 }
 
 -- `LoopSoFar` of a loop whose answer gets an end, or none: the whole is what the loop gives, with its end.

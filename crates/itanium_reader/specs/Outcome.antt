@@ -138,5 +138,5 @@ SavesOne (Err Memory) before after = Unit {0}
 pub record LoopSoFar {L A : Type 0} (whole : Option (A × ParserState)) (turn : L → Parses (Turn L A)) (so_far : L)
     (s : ParserState) : Type 0 where
   pub turns : ℕ
-  pub room : length s.rest < turns
+  pub enough : length s.rest < turns
   pub is : whole ≡ loop turn turns so_far s

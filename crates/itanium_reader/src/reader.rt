@@ -214,7 +214,7 @@ impl<'a> Reader<'a> {
     /// may nest inside it, or `Stop::Unreadable` if `depth` is 0.
     #[inline(always)]
     pub fn enter(&mut self, depth: usize) -> Result<usize, Stop>
-        requires room { CountFits 1 (state self.old) }
+        requires count_fits { CountFits 1 (state self.old) }
         ensures enters { Enters result depth (state self.old) (state self.new) }
         ensures found { self.new.found ≡ self.old.found }
         ensures buffer { self.new.buffer.value ≡ self.old.buffer.value }

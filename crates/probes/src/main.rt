@@ -30,11 +30,11 @@ fn text_of(bytes: &[u8]) -> &str {
 /// Runs the program that the first argument names. The argument is read without an allocation, so that
 /// `probes refusals` makes only its own.
 fn main(rt: HostRuntime) -> io::Result<ExitCode> {
-    let mut room = [0u8; NAME_LEN];
-    let Ok(len) = rt.arg(1, &mut room) else {
+    let mut buffer = [0u8; NAME_LEN];
+    let Ok(len) = rt.arg(1, &mut buffer) else {
         return Ok(ExitCode::from(NOT_ASKED));
     };
-    match text_of(&room[..len]) {
+    match text_of(&buffer[..len]) {
         "beginnings" => beginnings::run(&rt),
         "refusals" => Ok(refusals::run(&rt)),
         "scripts" => scripts::run(&rt),

@@ -129,12 +129,12 @@ fn name_of(bytes: &[u8]) -> &str {
 
 /// Tries the rows, and returns the exit status.
 pub fn run(rt: &HostRuntime) -> ExitCode {
-    let mut room = [0u8; NAME_LEN];
-    let Ok(len) = rt.stdin().read(&mut room) else {
+    let mut buffer = [0u8; NAME_LEN];
+    let Ok(len) = rt.stdin().read(&mut buffer) else {
         return ExitCode::FAILURE;
     };
     let mut rows = Rows {
-        asked: name_of(&room[..len]),
+        asked: name_of(&buffer[..len]),
         any: false,
         wrong: false,
     };

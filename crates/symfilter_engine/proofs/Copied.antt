@@ -206,7 +206,7 @@ whole_copied : (placement : Placement) (mid_word : Bool) (left : List ℕ) (s s'
 whole_copied placement true left s s' t t' so_far some = absurd (omega (arith, some, ap length (so_far.none refl)))
 whole_copied placement false left s s' t t' so_far some = whole_written placement so_far.read left s s' t t' so_far.consumed so_far.written
 
--- memory was refused for more room
+-- an allocation for more capacity failed
 pub read_refused : (placement : Placement) (mid_word : Bool) (kept : ℕ) (old : List ℕ) (s s' s'' t t' : Option (List ℕ)) → HasCopied placement mid_word (take kept old) s s' t t'
     → Keeps s' s'' → kept ≡ length old → 0 < length old → FiltersWhole placement s s'' t t'
 read_refused placement mid_word kept old s s' s'' t t' so_far keeps full some =

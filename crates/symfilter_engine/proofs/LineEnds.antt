@@ -39,21 +39,21 @@ none_before wanted bytes at inside each =
 -- it isn't in lanes that were passed
 pub lanes_passed : (wanted : ℕ) (bytes : List ℕ) (at count n : ℕ) → at + 32 ≤ length bytes → HasNone wanted (take at bytes)
     → count ≡ prefix_len (λ byte. not (eqb byte wanted)) (chunk at 32 bytes) → n ≤ count → n ≤ 32 → HasNone wanted (take (at + n) bytes)
-lanes_passed wanted bytes at count n room before counted passed small =
+lanes_passed wanted bytes at count n fits_16 before counted passed small =
     none_before wanted bytes (at + n) (omega arith) (λ k below.
     elim (cases_lt k at) [
       | inl low ↦ none_at wanted bytes at k (omega arith) before low
-      | inr high ↦ eqb-false (get_or bytes k 0) wanted (run_in_chunk_fails (λ byte. eqb byte wanted) bytes at 32 count 0 room counted k high (omega arith))
+      | inr high ↦ eqb-false (get_or bytes k 0) wanted (run_in_chunk_fails (λ byte. eqb byte wanted) bytes at 32 count 0 fits_16 counted k high (omega arith))
     ])
 
 -- the lanes with the first one
 pub lanes_end : (wanted : ℕ) (bytes : List ℕ) (at count : ℕ) → at + 32 ≤ length bytes → HasNone wanted (take at bytes)
     → count ≡ prefix_len (λ byte. not (eqb byte wanted)) (chunk at 32 bytes) → count < 32 → IsFirst wanted bytes (at + count)
-lanes_end wanted bytes at count room before counted small =
+lanes_end wanted bytes at count fits_16 before counted small =
     record {
       inside = omega arith;
-      found = eqb-true (get_or bytes (at + count) 0) wanted (run_in_chunk_stops (λ byte. eqb byte wanted) bytes at 32 count 0 room counted small);
-      before = lanes_passed wanted bytes at count count room before counted (omega arith) (omega arith);
+      found = eqb-true (get_or bytes (at + count) 0) wanted (run_in_chunk_stops (λ byte. eqb byte wanted) bytes at 32 count 0 fits_16 counted small);
+      before = lanes_passed wanted bytes at count count fits_16 before counted (omega arith) (omega arith);
     }
 
 -- what follows lines ends in a line feed where they all do

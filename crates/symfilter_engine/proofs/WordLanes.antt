@@ -35,13 +35,13 @@ module _ (g : ℕ → ℕ) (v : List ℕ) (long : length v ≡ 16) (small : (k :
 abbrev pub StopsAtOthers : (ℕ → ℕ) → Type 0
 StopsAtOthers f = agree_below (λ x. top 7 (f x)) (λ x. not (is_word_byte x)) 256 ≡ true
 
-module _ (f : ℕ → ℕ) (text : List ℕ) (at mask : ℕ) (lanes : List ℕ) (room : at + 16 ≤ length text) (fits : (k : ℕ) → Fits w8 (get_or text k 0))
+module _ (f : ℕ → ℕ) (text : List ℕ) (at mask : ℕ) (lanes : List ℕ) (fits_16 : at + 16 ≤ length text) (fits : (k : ℕ) → Fits w8 (get_or text k 0))
     (stops : StopsAtOthers f) (lanes_are : lanes ≡ map f (chunk at 16 text)) (mask_is : mask ≡ mask_l (map (top 7) lanes) % 2 ^ 64) where
   abbrev stop : ℕ → Bool
   stop x = top 7 (f x)
 
   long : length (chunk at 16 text) ≡ 16
-  long = length-chunk at 16 text room
+  long = length-chunk at 16 text fits_16
 
   bits_are : mask ≡ mask_l (map stop (chunk at 16 text))
   bits_are =
@@ -51,7 +51,7 @@ module _ (f : ℕ → ℕ) (text : List ℕ) (at mask : ℕ) (lanes : List ℕ) 
   words_before : (run : ℕ) → run ≡ prefix_len (λ x. not (stop x)) (chunk at 16 text) → AreWordBytes text at (at + run)
   words_before run count k low high =
       not-false _ (sym (agree_below_at stop (λ x. not (is_word_byte x)) 256 (get_or text k 0) stops (fits k).fits)
-      ∙ run_in_chunk_fails stop text at 16 run 0 room count k low high)
+      ∙ run_in_chunk_fails stop text at 16 run 0 fits_16 count k low high)
 
   -- all are bytes of words
   pub all_words : mask ≡ 0 → AreWordBytes text at (at + 16)
@@ -83,4 +83,4 @@ module _ (f : ℕ → ℕ) (text : List ℕ) (at mask : ℕ) (lanes : List ℕ) 
     pub run_ends : is_word_byte (get_or text (at + run) 0) ≡ false
     run_ends =
         not-true _ (sym (agree_below_at stop (λ x. not (is_word_byte x)) 256 (get_or text (at + run) 0) stops (fits (at + run)).fits)
-        ∙ run_in_chunk_stops stop text at 16 run 0 room count run_within)
+        ∙ run_in_chunk_stops stop text at 16 run 0 fits_16 count run_within)

@@ -401,8 +401,8 @@ specials::read_construction-framed_type-requires t c =
     let entered = ap (λ (s : spec.ParserState). s.entered) c.skip.ensures.state in
     let two = length-drop 2 c.args.reader.now.rest.now in
     let class = (c.in_ok-read_type.ensures {u = tt}).bounds in
-    let room : c.read_type.new.reader.entered + 2 * length c.in-Some.rest.now + 2 < 2 ^ 64 =
-    omega (arith, left, entered, two, class.taken, class.counted, c.in-Some.ensures.shorter, c.requires.room) in
+    let enough : c.read_type.new.reader.entered + 2 * length c.in-Some.rest.now + 2 < 2 ^ 64 =
+    omega (arith, left, entered, two, class.taken, class.counted, c.in-Some.ensures.shorter, c.requires.count_fits) in
     search rules
 
 pub specials::read_construction-returns-clause-bounds : goal.specials::read_construction-returns-clause-bounds

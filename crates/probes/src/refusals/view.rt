@@ -35,10 +35,10 @@ pub struct BufferView {
 
 /// Returns the first bytes of a text.
 fn front(text: &[u8]) -> [u8; TEXT_LEN] {
-    let mut room = [0u8; TEXT_LEN];
+    let mut buffer = [0u8; TEXT_LEN];
     let len = text.len().min(TEXT_LEN);
-    room[..len].copy_from_slice(&text[..len]);
-    room
+    buffer[..len].copy_from_slice(&text[..len]);
+    buffer
 }
 
 fn piece_view(buf: &Buffer, piece: Piece) -> PieceView

@@ -9,7 +9,7 @@ use symfilter_engine::{Failed, Sink, Source};
 #[derive(Clone, Copy, PartialEq, Eq)]
 pub struct Asked {
     takes: usize,
-    room: usize,
+    capacity: usize,
     puts: usize,
     offered: usize,
 }
@@ -17,7 +17,7 @@ pub struct Asked {
 /// Nothing was asked for.
 pub const NOTHING: Asked = Asked {
     takes: 0,
-    room: 0,
+    capacity: 0,
     puts: 0,
     offered: 0,
 };
@@ -63,11 +63,11 @@ impl Watch {
         }
     }
 
-    /// Notes that the source is asked for at most `room` bytes.
-    fn note_take(&self, room: usize) {
+    /// Notes that the source is asked for at most `capacity` bytes.
+    fn note_take(&self, capacity: usize) {
         let mut asked = self.asked.get();
         asked.takes = asked.takes.saturating_add(1);
-        asked.room = asked.room.saturating_add(room);
+        asked.capacity = asked.capacity.saturating_add(capacity);
         self.note(asked);
     }
 

@@ -5,7 +5,7 @@ use Rattle.demangle_edit.proofs.dimensions.number_bytes.Goals as goal
 
 pub loop-left-init : goal.loop-left-init
 loop-left-init c = record {
-  digits = none_written c.args.number c.args.room.now;
+  digits = none_written c.args.number c.args.spare.now;
   fit = omega (arith, twenty_digits c.args.number c.ranges.number.fits);
   within = omega arith;
 }
@@ -18,7 +18,7 @@ loop-left-preserved c =
     let l = c.loop-left in
     let some = some_digit l.left l.at (omega arith) l.invariant.fit in
     record {
-      digits = one_written c.args.number l.left l.at l.room c.loop-left-test.true (omega arith) some l.invariant.within l.invariant.digits;
+      digits = one_written c.args.number l.left l.at l.spare c.loop-left-test.true (omega arith) some l.invariant.within l.invariant.digits;
       fit = one_fewer l.left l.at c.loop-left-test.true (omega arith) l.invariant.fit;
       within = omega (arith, length-set {A = ℕ});
     }
@@ -29,8 +29,8 @@ overflow_sub-at-2 c = some_digit c.loop-left.left c.loop-left.at (omega arith) c
 pub returns : goal.returns
 returns c =
     let l = c.loop-left in
-    let all = drop (l.at - 1) (set l.room (l.at - 1) (48 + l.left)) in
+    let all = drop (l.at - 1) (set l.spare (l.at - 1) (48 + l.left)) in
     record {
-      value = take_all _ all (omega (arith, length-drop (l.at - 1) (set l.room (l.at - 1) (48 + l.left))))
-          ∙ all_written c.args.number l.left l.at l.room c.loop-left-test.false (some_digit l.left l.at (omega arith) l.invariant.fit) l.invariant.within l.invariant.digits;
+      value = take_all _ all (omega (arith, length-drop (l.at - 1) (set l.spare (l.at - 1) (48 + l.left))))
+          ∙ all_written c.args.number l.left l.at l.spare c.loop-left-test.false (some_digit l.left l.at (omega arith) l.invariant.fit) l.invariant.within l.invariant.digits;
     }

@@ -5,9 +5,9 @@ use Rattle.demangle_edit.proofs.dimensions.number_bytes.Given as goal
 
 abbrev pub invariant-loop-left : goal.invariant-loop-left
 invariant-loop-left l = record {
-  digits : decimal l.fn.number ≡ decimal l.left ++ drop l.at l.room;
+  digits : decimal l.fn.number ≡ decimal l.left ++ drop l.at l.spare;
   fit : length (decimal l.left) ≤ l.at;
-  within : l.at ≤ length l.room;
+  within : l.at ≤ length l.spare;
 }
 
 abbrev pub decreases-loop-left : goal.decreases-loop-left

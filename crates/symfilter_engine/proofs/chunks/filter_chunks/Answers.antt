@@ -22,7 +22,7 @@ chunks-init g c = record {
   sink_not_failed = c.requires.sink_not_failed;
   source_in_time = refl;
   sink_in_time = refl;
-  room = search rules;
+  some = search rules;
   within = search rules;
   kept = none_kept c.args.placement _ refl;
   so_far = none_copied c.args.placement _ _ _ refl;
@@ -36,7 +36,7 @@ returns-in_err-end-clause-put g c = λ _. read_put c.args.placement _ _ _ _ _ _ 
 
 pub returns-in_err-end-clause-memory : goal.returns-in_err-end-clause-memory
 returns-in_err-end-clause-memory g c = λ refused.
-    read_refused c.args.placement _ _ _ _ _ _ _ _ c.chunks.invariant.so_far c.in_err-end.ensures.err (c.in_err-end.ensures.full (search rules)) c.chunks.invariant.room
+    read_refused c.args.placement _ _ _ _ _ _ _ _ c.chunks.invariant.so_far c.in_err-end.ensures.err (c.in_err-end.ensures.full (search rules)) c.chunks.invariant.some
 
 pub write_chunk-requires-clause-kept : goal.write_chunk-requires-clause-kept
 write_chunk-requires-clause-kept g c =
@@ -85,7 +85,7 @@ chunks-preserved g c =
       sink_not_failed = c.in_ok-done.ensures.outcome;
       source_in_time = c.in_ok-end.ensures.in_time ∙ c.chunks.invariant.source_in_time;
       sink_in_time = c.in_ok-done.ensures.in_time ∙ c.chunks.invariant.sink_in_time;
-      room = omega (arith, mid_word, long, c.in_ok-end.ensures.ok.low, c.if-end-kept.false);
+      some = omega (arith, mid_word, long, c.in_ok-end.ensures.ok.low, c.if-end-kept.false);
       within = omega (arith, mid_word, long);
       kept = subst (AreKept c.args.placement) (ap (λ l. drop done (take end l)) same ∙ sym moved) c.in_ok-done.ensures.kept;
       so_far = turn_copied c.args.placement c.chunks.mid_word after c.chunks.kept end _ all _ (drop done (take end all)) _ _ _ _ _ _ c.chunks.invariant.so_far c.in_ok-end.ensures.ok

@@ -9,7 +9,7 @@ invariant-chunks g l =
       sink_not_failed : g.W.Sink.failed l.sink ≡ false;
       source_in_time : g.R.Source.called_late l.source ≡ g.R.Source.called_late l.fn.source;
       sink_in_time : g.W.Sink.called_late l.sink ≡ g.W.Sink.called_late l.fn.sink;
-      room : 0 < length l.chunk.items;
+      some : 0 < length l.chunk.items;
       within : l.kept ≤ length l.chunk.items;
       kept : AreKept l.placement (take l.kept l.chunk.items);
       so_far : HasCopied l.placement l.mid_word (take l.kept l.chunk.items) (g.R.Source.remaining l.fn.source) (g.R.Source.remaining l.source) (g.W.Sink.taken l.fn.sink) (g.W.Sink.taken l.sink);

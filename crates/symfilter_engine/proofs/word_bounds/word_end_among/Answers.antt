@@ -43,9 +43,9 @@ lanes_are : (text : List ℕ) (at : ℕ) → at + 16 ≤ length text → ((k : �
     → let v = chunk at 16 text in
     zip2 (λ a b. cond (eqb a b) 255 0) (zip2 bit_and (swz_l w8 16 BY_LOW_NIBBLE 0 (zip2 bit_and v (replicate 16 15)))
     (swz_l w8 16 BY_HIGH_NIBBLE 0 (zip2 (λ a b. a / 2 ^ b) v (replicate 16 4)))) (replicate 16 0) ≡ map lane v
-lanes_are text at room fits =
+lanes_are text at fits_16 fits =
     let v = chunk at 16 text in
-    let long = length-chunk at 16 text room in
+    let long = length-chunk at 16 text fits_16 in
     let by_low = ap (swz_l w8 16 BY_LOW_NIBBLE 0) (zip2_splat {Y = ℕ} bit_and v 16 15 long) ∙ looked_up low v long (low_small text at) BY_LOW_NIBBLE in
     let by_high = ap (swz_l w8 16 BY_HIGH_NIBBLE 0) (zip2_splat {Y = ℕ} (λ a b. a / 2 ^ b) v 16 4 long) ∙ looked_up high v long (high_small text at fits) BY_HIGH_NIBBLE in
     zip2_of_maps (λ a b. cond (eqb a b) 255 0) _ _ v (zip2_of_maps bit_and _ _ v by_low by_high) (splat_is_map v 16 0 long)

@@ -67,11 +67,11 @@ into_loose_spec 𝓤 𝓛 𝓜 𝓡 wired =
     let asked = raw ((c κs z.0.3).requires z.1) in
     qed 𝓛 ((‵ ftrue ⊛ ‵ (owns (types_at ended.signature.params κs) z.0.3 z.0.4)) ∷ asked ∷ []) ∵
     split ! $ move ! (1 ∷ []) $ fsplit ! $ fsplit ! $
-    pair_out global ! v.at a z.0.4.0 (λ h told fits. move ! (1 ∷ []) $
+    pair_out global ! v.at a z.0.4.0 (λ h reported fits. move ! (1 ∷ []) $
     holds_out D a ! v.at kept
     (λ null none.
-    let p = null_ptr in let w = word p h in let told' = told ∙ ap (λ (q : Ptr). word q h ∷ []) null in
-    suffices ! (Run (w ∷ [])) (subst (λ (us : List Val). ent 𝓤 (Run (w ∷ [])) (Run us)) (sym (λ i. told' i ++ []))
+    let p = null_ptr in let w = word p h in let reported' = reported ∙ ap (λ (q : Ptr). word q h ∷ []) null in
+    suffices ! (Run (w ∷ [])) (subst (λ (us : List Val). ent 𝓤 (Run (w ∷ [])) (Run us)) (sym (λ i. reported' i ++ []))
     (id⊢ 𝓤 (Run (w ∷ [])))) $
     enter ! 𝓣.C 𝓣.Λ fn (w ∷ []) Post $ alloc_all ! (λ l. pass_all ! refl (word_good global p h fits, tt) $
     sets ! (of_opd ! (get_in ! (fld ! refl (stop !)) (sub ! 0 refl (whole !)))) refl (ptr_good p) $
@@ -84,9 +84,9 @@ into_loose_spec 𝓤 𝓛 𝓜 𝓡 wired =
     keep ! (5 ∷ 0 ∷ 2 ∷ 1 ∷ []) $
     by ! (leaves 𝓛 ended hs c z (live 0 vnil) None (tt, tt) (tt, tt))) (λ wrong. absurd wrong)))
     (λ b o x is some low.
-    let p = block_ptr b o in let w = word p h in let told' = told ∙ ap (λ (q : Ptr). word q h ∷ []) is in
+    let p = block_ptr b o in let w = word p h in let reported' = reported ∙ ap (λ (q : Ptr). word q h ∷ []) is in
     let good = word_good global p h fits in
-    suffices ! (Run (w ∷ [])) (subst (λ (us : List Val). ent 𝓤 (Run (w ∷ [])) (Run us)) (sym (λ i. told' i ++ []))
+    suffices ! (Run (w ∷ [])) (subst (λ (us : List Val). ent 𝓤 (Run (w ∷ [])) (Run us)) (sym (λ i. reported' i ++ []))
     (id⊢ 𝓤 (Run (w ∷ [])))) $
     enter ! 𝓣.C 𝓣.Λ fn (w ∷ []) Post $ alloc_all ! (λ l. pass_all ! refl (good, tt) $
     sets ! (of_opd ! (get_in ! (fld ! refl (stop !)) (sub ! 0 refl (whole !)))) refl (ptr_good p) $

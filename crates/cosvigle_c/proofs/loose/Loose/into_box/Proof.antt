@@ -58,7 +58,7 @@ into_box_spec 𝓤 𝓛 𝓜 𝓡 wired T A L LA g d dx dd allocator glue glued 
     let alive = ‵ (flft κs.0 qs.0) ⊛ ‵ (flft κs.1.0 qs.1.0) ⊛ ‵ ftrue in
     let bounds = raw (fact 𝓤 (κs.0 ⊑ T.lives)) ⊛ raw (fact 𝓤 (κs.1.0 ⊑ A.lives)) ⊛ ‵ ftrue in
     qed 𝓛 ((alive ⊛ ‵ (owns (types_at En.signature.params κs) z.0.3 z.0.4)) ∷ bounds ∷ []) ∵
-    split ! $ move ! (1 ∷ []) $ fsplit ! $ fsplit ! $ pair_out al ! p a z.0.4.0 (λ h told fits.
+    split ! $ move ! (1 ∷ []) $ fsplit ! $ fsplit ! $ pair_out al ! p a z.0.4.0 (λ h reported fits.
     let w = word p h in let good = word_good al p h fits in
     let y : call.Ghost = ((κs, qs, tt, (a, (p, tt)), (h ∷ [], (ptr_val p ∷ [], tt))), x) in
     -- [the allocator; the box's value; nothing; the tokens; the bounds], of which the call's precondition is made
@@ -67,7 +67,7 @@ into_box_spec 𝓤 𝓛 𝓜 𝓡 wired T A L LA g d dx dd allocator glue glued 
     move ! (2 ∷ []) $ feq_i ! (List Val) (ptr_val p ∷ []) (ptr_val p ∷ []) refl $ fjoin ! $ move ! (2 ∷ 0 ∷ []) $
     fjoin ! $
     move ! (2 ∷ 0 ∷ []) $ join ! $ join ! $ use1 𝓛 (raw (call.pre y)) (id⊢ 𝓤 _) $
-    suffices ! (Run (w ∷ [])) (subst (λ (us : List Val). ent 𝓤 (Run (w ∷ [])) (Run us)) (sym (λ i. told i ++ []))
+    suffices ! (Run (w ∷ [])) (subst (λ (us : List Val). ent 𝓤 (Run (w ∷ [])) (Run us)) (sym (λ i. reported i ++ []))
     (id⊢ 𝓤 (Run (w ∷ [])))) $
     enter ! 𝓣.C 𝓣.Λ fn (w ∷ []) Post $ alloc_all ! (λ l. pass_all ! refl (good, tt) $
     sets ! (of_opd ! (get_in ! (fld ! refl (stop !)) (sub ! 0 refl (whole !)))) refl (ptr_good p) $
@@ -80,9 +80,9 @@ into_box_spec 𝓤 𝓛 𝓜 𝓡 wired T A L LA g d dx dd allocator glue glued 
     (raw (fact 𝓤 (r.value ≡ x)) ⊛ raw (fact 𝓤 (r.alloc ≡ a))))))) (id⊢ 𝓤 (call.post y u)) $
     await ! tt $ pick ! (λ r. split ! $ move ! (1 ∷ []) $ pick ! (λ _. split3 ! $ drop ! $
     heard ! (r.value ≡ x) (λ same.
-    drop ! $ split ! $ move ! (1 ∷ []) $ fsplit ! $ pair_out al ! r.ptr r.alloc (u ∷ []) (λ h' told' fits'.
-    pair_in al ! r.ptr r.alloc h' $ fjoin ! $ rewrite ! 0 (λ (us : List Val). ‵ (To.own_val r us)) (sym told') refl $
-    let good' : Good (layout To) u = subst (Good (layout To)) (sym (ap only told')) (word_good al r.ptr h' fits') in
+    drop ! $ split ! $ move ! (1 ∷ []) $ fsplit ! $ pair_out al ! r.ptr r.alloc (u ∷ []) (λ h' reported' fits'.
+    pair_in al ! r.ptr r.alloc h' $ fjoin ! $ rewrite ! 0 (λ (us : List Val). ‵ (To.own_val r us)) (sym reported') refl $
+    let good' : Good (layout To) u = subst (Good (layout To)) (sym (ap only reported')) (word_good al r.ptr h' fits') in
     let Ev = env fn.locals l in
     lands_last ! refl good' $ exec ! 𝓣.C 𝓣.Λ Ev (after 3 fn.body) (at_ret Ev Post) $
     sets ! (of_opd ! (get ! refl)) refl good' $

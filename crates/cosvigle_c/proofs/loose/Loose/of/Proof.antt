@@ -56,12 +56,12 @@ of_spec 𝓤 𝓛 𝓜 𝓡 wired T A L LA g d dx dd allocator glue glued =
     let Run : List Val → SProp 𝓤 = λ ws. WpFn 𝓤 H 𝓣.C 𝓣.Λ fn ws Post in
     let alive = ‵ (flft κs.0 qs.0) ⊛ ‵ (flft κs.1.0 qs.1.0) ⊛ ‵ ftrue in
     qed 𝓛 ((alive ⊛ ‵ (owns (types_at En.signature.params κs) z.0.3 z.0.4)) ∷ raw ((c κs z.0.3).requires z.1) ∷ []) ∵
-    split ! $ move ! (1 ∷ []) $ fsplit ! $ fsplit ! $ pair_out al ! v.ptr a z.0.4.0 (λ h told fits.
+    split ! $ move ! (1 ∷ []) $ fsplit ! $ fsplit ! $ pair_out al ! v.ptr a z.0.4.0 (λ h reported fits.
     let w = word v.ptr h in let good = word_good al v.ptr h fits in
     let y : call.Ghost = ((κs, qs, tt, (v, tt), (w ∷ [], tt)), tt) in
     pair_in al ! v.ptr a h $ fjoin ! $ fjoin ! $ move ! (1 ∷ 0 ∷ []) $ join ! $ join ! $
     use1 𝓛 (raw (call.pre y)) (id⊢ 𝓤 _) $
-    suffices ! (Run (w ∷ [])) (subst (λ (us : List Val). ent 𝓤 (Run (w ∷ [])) (Run us)) (sym (λ i. told i ++ []))
+    suffices ! (Run (w ∷ [])) (subst (λ (us : List Val). ent 𝓤 (Run (w ∷ [])) (Run us)) (sym (λ i. reported i ++ []))
     (id⊢ 𝓤 (Run (w ∷ [])))) $
     enter ! 𝓣.C 𝓣.Λ fn (w ∷ []) Post $ alloc_all ! (λ l. pass_all ! refl (good, tt) $
     sets ! (of_opd ! (get ! refl)) refl good $
@@ -73,9 +73,9 @@ of_spec 𝓤 𝓛 𝓜 𝓡 wired T A L LA g d dx dd allocator glue glued =
     await ! tt $ pick ! (λ r. split ! $ move ! (1 ∷ []) $ pick ! (λ _. split3 ! $ drop ! $ heard ! (r.1 ≡ a) (λ same.
     rewrite ! 0 (λ (s : A.Denot). ‵ (box_owns (g.dealloc_token s) R r.0 x)) (sym same) refl $
     -- [the box's value; the tokens with the pair]
-    move ! (1 ∷ []) $ split ! $ move ! (1 ∷ []) $ pair_out al ! r.0 r.1 (u ∷ []) (λ h' told' fits'.
+    move ! (1 ∷ []) $ split ! $ move ! (1 ∷ []) $ pair_out al ! r.0 r.1 (u ∷ []) (λ h' reported' fits'.
     let w' = word r.0 h' in let good' = word_good al r.0 h' fits' in
-    lands_as ! (ap only told') refl good' $
+    lands_as ! (ap only reported') refl good' $
     sets ! (of_opd ! (get_in ! (fld ! refl (stop !)) (sub ! 0 refl (whole !)))) refl (ptr_good r.0) $
     sets ! (of_opd ! (get_in ! (fld ! refl (stop !)) (sub ! 1 refl (whole !)))) refl fits' $
     sets ! (of_opd ! (get ! refl)) refl fits' $

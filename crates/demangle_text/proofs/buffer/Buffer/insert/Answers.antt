@@ -20,7 +20,7 @@ put-requires c =
     let bytes = c.args.bytes.now in
     let k = length bytes in
     let o = IsOpen-same b (store_of c.self.inside) _ p at k from c.self.view_is c.in_ok-from.ensures.opened in
-    let n = length-gap o.output c.self.inside.output (from + at) k o.within o.room in
+    let n = length-gap o.output c.self.inside.output (from + at) k o.within o.gap in
     record { within = omega (arith, n, o.within) }
 
 pub with_bytes-requires-clause-own_fits : goal.with_bytes-requires-clause-own_fits
@@ -32,7 +32,7 @@ with_bytes-requires-clause-own_fits c =
     let bytes = c.args.bytes.now in
     let k = length bytes in
     let o = IsOpen-same b (store_of c.self.inside) _ p at k from c.self.view_is c.in_ok-from.ensures.opened in
-    let output = one-put o.output c.self.inside.output bytes c.put.new.self (from + at) o.within o.room c.put.ensures.value in
+    let output = one-put o.output c.self.inside.output bytes c.put.new.self (from + at) o.within o.gap c.put.ensures.value in
     let splice = IsSplice-put b (store_of c.self.inside) p at k from o bytes c.put.new.self refl output in
     let fits = own-fits b _ p at bytes from c.requires.living splice in
     omega (arith, fits, c.len.ensures.value, c.len.type_inv)
@@ -46,7 +46,7 @@ with_bytes-requires-clause-layout_fits c =
     let bytes = c.args.bytes.now in
     let k = length bytes in
     let o = IsOpen-same b (store_of c.self.inside) _ p at k from c.self.view_is c.in_ok-from.ensures.opened in
-    let output = one-put o.output c.self.inside.output bytes c.put.new.self (from + at) o.within o.room c.put.ensures.value in
+    let output = one-put o.output c.self.inside.output bytes c.put.new.self (from + at) o.within o.gap c.put.ensures.value in
     let splice = IsSplice-put b (store_of c.self.inside) p at k from o bytes c.put.new.self refl output in
     let fits = layout-fits b _ p at bytes from c.requires.living splice in
     omega (arith, fits, c.len.ensures.value, c.len.type_inv)
@@ -60,7 +60,7 @@ invariant_of-self c =
     let bytes = c.args.bytes.now in
     let k = length bytes in
     let o = IsOpen-same b (store_of c.self.inside) _ p at k from c.self.view_is c.in_ok-from.ensures.opened in
-    let output = one-put o.output c.self.inside.output bytes c.put.new.self (from + at) o.within o.room c.put.ensures.value in
+    let output = one-put o.output c.self.inside.output bytes c.put.new.self (from + at) o.within o.gap c.put.ensures.value in
     IsStore-put b (store_of c.self.inside) p at k from o bytes c.put.new.self refl output
 
 pub returns-clause-edit : goal.returns-clause-edit
@@ -72,7 +72,7 @@ returns-clause-edit c =
     let bytes = c.args.bytes.now in
     let k = length bytes in
     let o = IsOpen-same b (store_of c.self.inside) _ p at k from c.self.view_is c.in_ok-from.ensures.opened in
-    let output = one-put o.output c.self.inside.output bytes c.put.new.self (from + at) o.within o.room c.put.ensures.value in
+    let output = one-put o.output c.self.inside.output bytes c.put.new.self (from + at) o.within o.gap c.put.ensures.value in
     IsEdit-put b (store_of c.self.inside) p at k from o bytes c.put.new.self refl output
 
 pub returns-clause-shape : goal.returns-clause-shape
@@ -84,7 +84,7 @@ returns-clause-shape c =
     let bytes = c.args.bytes.now in
     let k = length bytes in
     let o = IsOpen-same b (store_of c.self.inside) _ p at k from c.self.view_is c.in_ok-from.ensures.opened in
-    let output = one-put o.output c.self.inside.output bytes c.put.new.self (from + at) o.within o.room c.put.ensures.value in
+    let output = one-put o.output c.self.inside.output bytes c.put.new.self (from + at) o.within o.gap c.put.ensures.value in
     let splice = IsSplice-put b (store_of c.self.inside) p at k from o bytes c.put.new.self refl output in
     let m = c.with_bytes.ensures in
     Lives-inserted b _ p at bytes from c.requires.living splice c.with_bytes.result (subst (IsAt c.with_bytes.result from) c.len.ensures.value m.stands)
@@ -100,7 +100,7 @@ returns-clause-edit_of c =
     let bytes = c.args.bytes.now in
     let k = length bytes in
     let o = IsOpen-same b (store_of c.self.inside) _ p at k from c.self.view_is c.in_ok-from.ensures.opened in
-    let output = one-put o.output c.self.inside.output bytes c.put.new.self (from + at) o.within o.room c.put.ensures.value in
+    let output = one-put o.output c.self.inside.output bytes c.put.new.self (from + at) o.within o.gap c.put.ensures.value in
     let splice = IsSplice-put b (store_of c.self.inside) p at k from o bytes c.put.new.self refl output in
     let q = c.with_bytes.result in
     IsEditOf-spliced b _ p q at from bytes splice (subst (IsAt q from) c.len.ensures.value c.with_bytes.ensures.stands)

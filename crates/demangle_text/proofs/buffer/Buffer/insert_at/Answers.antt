@@ -11,7 +11,7 @@ put-requires c =
     let at = c.args.at in
     let k = length c.args.bytes.now in
     let g = IsGap-same b _ (store_of c.self.inside) at k c.self.view_is c.in_ok-open_gap.ensures.gap in
-    let n = length-gap b.output_text c.self.inside.output at k c.requires.within g.room in
+    let n = length-gap b.output_text c.self.inside.output at k c.requires.within g.gap in
     record { within = omega (arith, n, c.requires.within) }
 
 gap : (c : goal.After-put) → IsGap c.args.self.now (store_of c.self.inside) c.args.at (length c.args.bytes.now)
@@ -23,7 +23,7 @@ output : (c : goal.After-put) → c.put.new.self
     ≡ take c.args.at c.args.self.now.output_text ++ (c.args.bytes.now ++ drop c.args.at c.args.self.now.output_text)
 output c =
     one-put c.args.self.now.output_text c.self.inside.output c.args.bytes.now c.put.new.self c.args.at c.requires.within
-    (gap c).room c.put.ensures.value
+    (gap c).gap c.put.ensures.value
 
 pub invariant_of-self : goal.invariant_of-self
 invariant_of-self c =

@@ -8,7 +8,7 @@ use Rattle.demangle_text.specs.Pieces.{Store, IsStore, home_bytes, piece_text}
 use Rattle.demangle_text.specs.State.{IsEdit}
 use Rattle.demangle_text.specs.View.{store_of}
 use Rattle.demangle_text.specs.Gaps.{IsGap}
-use Rattle.growing_text.proofs.Rooms.{both-put}
+use Rattle.growing_text.proofs.Gaps.{both-put}
 use Rattle.demangle_text.proofs.Tails.{length-text}
 use Rattle.demangle_text.proofs.Gaps.{IsGap-same, IsStore-filled, IsEdit-filled, text-kept}
 use Rattle.demangle_text.proofs.buffer.Buffer.insert_piece.Goals as goal
@@ -81,7 +81,7 @@ output c =
     let is : mid ≡ take at all ++ (text ++ drop (at + k) all) = value c ∙ ap (λ (v : List ℕ). take at all ++ (v ++ drop (at + k) all)) (kept c) in
     let done : c.put.new.self ≡ take (at + k) mid ++ (bytes ++ drop (at + k + length bytes) mid) =
     c.put.ensures.value ∙ ap (λ (i : ℕ). take i mid ++ (bytes ++ drop (i + length bytes) mid)) (ends c) in
-    both-put (take at b.output_text) (drop at b.output_text) all text bytes mid _ c.in-Some.n at k (gap c).room low (sym long)
+    both-put (take at b.output_text) (drop at b.output_text) all text bytes mid _ c.in-Some.n at k (gap c).gap low (sym long)
     (omega (arith, c.text_len.ensures.value)) is done
 
 long : (c : goal.After-put) → length (added c) ≡ c.in-Some.n

@@ -3,7 +3,7 @@ use Rattle.demangle_text.specs.State.{IsAsOld, IsOlder, Stands, frame, frame_sta
 use Rattle.std.proofs.lemmas.Grind.{common_steps}
 use Rattle.std.proofs.Common.{◌≡◌, ◌+◌, ◌-◌, List, ℕ, OnOk, OnErr, length, take, drop, sym, ap, subst, arith}
 use Rattle.std.proofs.lemmas.List.{length-append}
-use Rattle.growing_text.specs.Room.{HasGap}
+use Rattle.growing_text.specs.Gap.{HasGap}
 use Rattle.demangle_text.specs.Pieces.{Store, IsTail, IsTailAt, piece_text}
 use Rattle.demangle_text.specs.State.{IsLiving}
 use Rattle.demangle_text.specs.View.{store_of}
@@ -22,8 +22,8 @@ pub returns-in_err-truncated_on_err-clause-err : goal.returns-in_err-truncated_o
 returns-in_err-truncated_on_err-clause-err c =
     let s = store_of c.self.inside in
     let mid = c.add_text.new.output in
-    let done = c.open_room-opened.new.self in
-    let failed : done ≡ mid = subst (λ r. OnErr r (done ≡ mid)) (sym c.in_err-truncated_on_err.ensures.same) c.open_room-opened.ensures.err in
+    let done = c.open_gap-opened.new.self in
+    let failed : done ≡ mid = subst (λ r. OnErr r (done ≡ mid)) (sym c.in_err-truncated_on_err.ensures.same) c.open_gap-opened.ensures.err in
     on_err_from c.from_residual-in_err-truncated_on_err.result (rw (← c.self.view_is)
     (KeepsAll-left s mid done c.truncated_on_err.new.output c.len-from.result c.len-from.ensures.value
     (record { more = piece_text s.output_text s.spill_text c.args.piece; all = c.in_ok-add_text.ensures.ok }) failed c.in_err-truncated_on_err.ensures.err))
@@ -35,7 +35,7 @@ invariant_of-self-2 c =
     let at = c.args.at in
     let n = c.args.n in
     let mid = c.add_text.new.output in
-    let done = c.open_room-opened.new.self in
+    let done = c.open_gap-opened.new.self in
     let from = c.len-from.result in
     let text = piece_text s.output_text s.spill_text p in
     let lies = subst (λ (b : Store). IsLiving b p) (sym c.self.view_is) c.requires.living in
@@ -46,10 +46,10 @@ invariant_of-self-2 c =
     let place = c.len-2.result - (c.text_len.result - at) in
     let there : place ≡ from + at =
     omega (arith, c.len-2.ensures.value, c.len-from.ensures.value, c.text_len.ensures.value, c.requires.within, ap length copied, length-append s.output_text text, length-text s p lies) in
-    let opened = subst (λ r. OnOk r (HasGap (take place mid) (drop place mid) done n)) (sym c.in_ok-truncated_on_err.ensures.same) c.open_room-opened.ensures.ok in
+    let opened = subst (λ r. OnOk r (HasGap (take place mid) (drop place mid) done n)) (sym c.in_ok-truncated_on_err.ensures.same) c.open_gap-opened.ensures.ok in
     let moved = subst (λ (i : ℕ). HasGap (take i mid) (drop i mid) done n) there opened in
-    let room = subst (λ (v : List ℕ). HasGap (take (from + at) mid) (drop (from + at) mid) v n) (sym c.in_ok-truncated_on_err.ensures.ok) moved in
-    IsStore-copied s p mid c.truncated_on_err.new.output at n from c.self.invariant lies apart c.len-from.ensures.value c.requires.within copied room
+    let gap = subst (λ (v : List ℕ). HasGap (take (from + at) mid) (drop (from + at) mid) v n) (sym c.in_ok-truncated_on_err.ensures.ok) moved in
+    IsStore-copied s p mid c.truncated_on_err.new.output at n from c.self.invariant lies apart c.len-from.ensures.value c.requires.within copied gap
 
 pub returns-clause-opened : goal.returns-clause-opened
 returns-clause-opened c =
@@ -58,7 +58,7 @@ returns-clause-opened c =
     let at = c.args.at in
     let n = c.args.n in
     let mid = c.add_text.new.output in
-    let done = c.open_room-opened.new.self in
+    let done = c.open_gap-opened.new.self in
     let from = c.len-from.result in
     let text = piece_text s.output_text s.spill_text p in
     let lies = subst (λ (b : Store). IsLiving b p) (sym c.self.view_is) c.requires.living in
@@ -69,10 +69,10 @@ returns-clause-opened c =
     let place = c.len-2.result - (c.text_len.result - at) in
     let there : place ≡ from + at =
     omega (arith, c.len-2.ensures.value, c.len-from.ensures.value, c.text_len.ensures.value, c.requires.within, ap length copied, length-append s.output_text text, length-text s p lies) in
-    let opened = subst (λ r. OnOk r (HasGap (take place mid) (drop place mid) done n)) (sym c.in_ok-truncated_on_err.ensures.same) c.open_room-opened.ensures.ok in
+    let opened = subst (λ r. OnOk r (HasGap (take place mid) (drop place mid) done n)) (sym c.in_ok-truncated_on_err.ensures.same) c.open_gap-opened.ensures.ok in
     let moved = subst (λ (i : ℕ). HasGap (take i mid) (drop i mid) done n) there opened in
-    let room = subst (λ (v : List ℕ). HasGap (take (from + at) mid) (drop (from + at) mid) v n) (sym c.in_ok-truncated_on_err.ensures.ok) moved in
-    rw (← c.self.view_is) (IsOpen-copied s p mid c.truncated_on_err.new.output at n from c.self.invariant lies apart c.len-from.ensures.value c.requires.within copied room)
+    let gap = subst (λ (v : List ℕ). HasGap (take (from + at) mid) (drop (from + at) mid) v n) (sym c.in_ok-truncated_on_err.ensures.ok) moved in
+    rw (← c.self.view_is) (IsOpen-copied s p mid c.truncated_on_err.new.output at n from c.self.invariant lies apart c.len-from.ensures.value c.requires.within copied gap)
 
 pub overflow_sub-len : goal.overflow_sub-len
 unfolding IsLiving shape main_bytes Stands frame_start frame outermost IsOlder IsAsOld inside outside saved scopes

@@ -11,7 +11,7 @@ returns-else-n-eq0-clause-ends c k d a b =
     let n = c.args.n in
     let count = c.self.inside.count in
     let r = c.self.invariant in
-    let all : n ≤ count = omega (arith, ap length c.self.view_is, length-take-le count (pieces_of xs), r.within, r.room, c.requires.within) in
+    let all : n ≤ count = omega (arith, ap length c.self.view_is, length-take-le count (pieces_of xs), r.within, r.capacity, c.requires.within) in
     let there : n - 1 < length xs = omega (arith, all, r.within, length-map xs (λ (k : Entry). k.reach), c.if-n-eq0.false) in
     let is : slice_index (reaches_of xs) (n - 1) ≡ c.index.result.now.reach =
     get_or-map (λ (k : Entry). k.reach) xs (n - 1) c.index.result.now 0 there ∙ ap (λ (k : Entry). k.reach) (sym c.index.ensures) in

@@ -14,7 +14,7 @@ invariant_of-self c =
     let n = c.self.inside.count in
     let old = c.index_mut.result.now in
     let new : Entry = record { piece = c.args.piece; reach = old.reach } in
-    let long : n ≤ length xs = omega (arith, c.self.invariant.within, c.self.invariant.room) in
+    let long : n ≤ length xs = omega (arith, c.self.invariant.within, c.self.invariant.capacity) in
     let there : c.args.i < n = omega (arith, ap length c.self.view_is, length-take-le n xs long, c.requires.within) in
     let same = λ (d : Piece). ap (λ v. get_or v c.args.i d) (sym c.self.view_is) ∙ get_or-take n xs c.args.i d there in
     rw (map-set (λ (k : Entry). k.piece) ks c.args.i new, map-set_same (λ (k : Entry). k.reach) ks c.args.i new old (ap (λ (k : Entry). k.reach) c.index_mut.ensures.value)) (
@@ -27,6 +27,6 @@ returns c =
     let xs = pieces_of ks in
     let n = c.self.inside.count in
     let new : Entry = record { piece = c.args.piece; reach = c.index_mut.result.now.reach } in
-    let long : n ≤ length xs = omega (arith, c.self.invariant.within, c.self.invariant.room) in
+    let long : n ≤ length xs = omega (arith, c.self.invariant.within, c.self.invariant.capacity) in
     let there : c.args.i < n = omega (arith, ap length c.self.view_is, length-take-le n xs long, c.requires.within) in
     record { value = rw (map-set (λ (k : Entry). k.piece) ks c.args.i new) (rw (← c.self.view_is) (take-set-lt n xs c.args.i c.args.piece there)) }

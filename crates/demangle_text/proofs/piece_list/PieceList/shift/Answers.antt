@@ -21,13 +21,13 @@ at_index : (P : Piece → Type 0) (f : Piece → Piece) (count i : ℕ) (all : L
     → take count (pieces_of xs) ≡ all → count ≤ length (pieces_of xs) → length ks ≡ length xs
     → pieces_of ks ≡ map f (take i (pieces_of xs)) ++ drop i (pieces_of xs)
     → i < count → k ≡ get_or ks i k → All P all → P k.piece
-at_index P f count i all xs ks k view room long value lt is h =
+at_index P f count i all xs ks k view capacity long value lt is h =
     let ps = pieces_of xs in
-    let there : i < length ps = omega (arith, lt, room) in
+    let there : i < length ps = omega (arith, lt, capacity) in
     let here : i < length ks = omega (arith, there, long, length-map xs (λ (k : Entry). k.piece)) in
     let was = ap (λ (k : Entry). k.piece) is ∙ sym (get_or-map (λ (k : Entry). k.piece) ks i k k.piece here)
     ∙ over_at f ps (pieces_of ks) i k.piece there value ∙ sym (get_or-take count ps i k.piece lt) ∙ ap (λ v. get_or v i k.piece) view in
-    let within : i < length all = omega (arith, lt, room, length-take-le count ps room, ap length view) in
+    let within : i < length all = omega (arith, lt, capacity, length-take-le count ps capacity, ap length view) in
     subst P (sym was) (h i k.piece within)
 
 pub loop-i-init : goal.loop-i-init
@@ -36,8 +36,8 @@ loop-i-init c =
     let ps = pieces_of xs in
     let count = c.self.inside.count in
     let first = c.count_by-first.result in
-    let room : count ≤ length ps = omega (arith, c.self.invariant.within, c.self.invariant.room) in
-    let within : first ≤ count = omega (arith, c.count_by-first.ensures.within, ap length c.self.view_is, length-take-le count ps room) in
+    let capacity : count ≤ length ps = omega (arith, c.self.invariant.within, c.self.invariant.capacity) in
+    let within : first ≤ count = omega (arith, c.count_by-first.ensures.within, ap length c.self.view_is, length-take-le count ps capacity) in
     let front : (low : ℕ) → AllWithin (EndsBy low) c.args.self.now 0 first → AllWithin (EndsBy low) ps 0 first =
     λ low h k d a b. subst (EndsBy low) (ap (λ v. get_or v k d) (sym c.self.view_is) ∙ get_or-take count ps k d (omega (arith, b, within))) (h k d a b) in
     record {
@@ -51,31 +51,31 @@ loop-i-init c =
 pub overflow_sub-piece : goal.overflow_sub-piece
 overflow_sub-piece c =
     let apart = at_index (IsApart c.args.block.low c.args.block.from c.args.block.end) _ _ _ _ _ _ _ c.self.view_is
-    (omega (arith, c.self.invariant.within, c.self.invariant.room)) c.loop-i.invariant.long c.loop-i.invariant.value c.loop-i-test.true c.index.ensures c.requires.apart in
+    (omega (arith, c.self.invariant.within, c.self.invariant.capacity)) c.loop-i.invariant.long c.loop-i.invariant.value c.loop-i-test.true c.index.ensures c.requires.apart in
     (apart (not_true _ c.if-not-piece.true) c.if-block-piece.true).0
 
 pub overflow_add-piece : goal.overflow_add-piece
 overflow_add-piece c =
     let apart = at_index (IsApart c.args.block.low c.args.block.from c.args.block.end) _ _ _ _ _ _ _ c.self.view_is
-    (omega (arith, c.self.invariant.within, c.self.invariant.room)) c.loop-i.invariant.long c.loop-i.invariant.value c.loop-i-test.true c.index.ensures c.requires.apart in
+    (omega (arith, c.self.invariant.within, c.self.invariant.capacity)) c.loop-i.invariant.long c.loop-i.invariant.value c.loop-i-test.true c.index.ensures c.requires.apart in
     let inside = apart (not_true _ c.if-not-piece.true) c.if-block-piece.true in
     let ordered = at_index (λ p. p.from_byte ≤ p.to_byte) _ _ _ _ _ _ _ c.self.view_is
-    (omega (arith, c.self.invariant.within, c.self.invariant.room)) c.loop-i.invariant.long c.loop-i.invariant.value c.loop-i-test.true c.index.ensures c.requires.ordered in
+    (omega (arith, c.self.invariant.within, c.self.invariant.capacity)) c.loop-i.invariant.long c.loop-i.invariant.value c.loop-i-test.true c.index.ensures c.requires.ordered in
     omega (arith, inside.0, inside.1, ordered, c.requires.fits)
 
 pub overflow_sub-piece-then-block-piece : goal.overflow_sub-piece-then-block-piece
 overflow_sub-piece-then-block-piece c =
     let apart = at_index (IsApart c.args.block.low c.args.block.from c.args.block.end) _ _ _ _ _ _ _ c.self.view_is
-    (omega (arith, c.self.invariant.within, c.self.invariant.room)) c.loop-i.invariant.long c.loop-i.invariant.value c.loop-i-test.true c.index.ensures c.requires.apart in
+    (omega (arith, c.self.invariant.within, c.self.invariant.capacity)) c.loop-i.invariant.long c.loop-i.invariant.value c.loop-i-test.true c.index.ensures c.requires.apart in
     let inside = apart (not_true _ c.if-not-piece.true) c.if-block-piece.true in
     let ordered = at_index (λ p. p.from_byte ≤ p.to_byte) _ _ _ _ _ _ _ c.self.view_is
-    (omega (arith, c.self.invariant.within, c.self.invariant.room)) c.loop-i.invariant.long c.loop-i.invariant.value c.loop-i-test.true c.index.ensures c.requires.ordered in
+    (omega (arith, c.self.invariant.within, c.self.invariant.capacity)) c.loop-i.invariant.long c.loop-i.invariant.value c.loop-i-test.true c.index.ensures c.requires.ordered in
     omega (arith, inside.0, ordered)
 
 pub overflow_add-piece-then-block-piece : goal.overflow_add-piece-then-block-piece
 overflow_add-piece-then-block-piece c =
     let apart = at_index (IsApart c.args.block.low c.args.block.from c.args.block.end) _ _ _ _ _ _ _ c.self.view_is
-    (omega (arith, c.self.invariant.within, c.self.invariant.room)) c.loop-i.invariant.long c.loop-i.invariant.value c.loop-i-test.true c.index.ensures c.requires.apart in
+    (omega (arith, c.self.invariant.within, c.self.invariant.capacity)) c.loop-i.invariant.long c.loop-i.invariant.value c.loop-i-test.true c.index.ensures c.requires.apart in
     let inside = apart (not_true _ c.if-not-piece.true) c.if-block-piece.true in
     omega (arith, inside.1, c.requires.fits)
 
@@ -112,10 +112,10 @@ loop-i-preserved c =
     let k = c.index.result.now in
     let i = c.loop-i.i in
     let r = c.self.invariant in
-    let there : i < length (pieces_of xs) = omega (arith, c.loop-i-test.true, r.within, r.room) in
+    let there : i < length (pieces_of xs) = omega (arith, c.loop-i-test.true, r.within, r.capacity) in
     let here : i < length ks = omega (arith, there, c.loop-i.invariant.long, length-map xs (λ (k : Entry). k.piece)) in
     let within : i < length ys = omega (arith, here, length-map ks (λ (k : Entry). k.piece)) in
-    let room : i < length (reaches_of ks) = omega (arith, here, length-map ks (λ (k : Entry). k.reach)) in
+    let capacity : i < length (reaches_of ks) = omega (arith, here, length-map ks (λ (k : Entry). k.reach)) in
     let is : k.piece ≡ get_or ys i k.piece = ap (λ (k : Entry). k.piece) c.index.ensures ∙ sym (get_or-map (λ (k : Entry). k.piece) ks i k k.piece here) in
     let q = c.if-not-piece.piece in
     let new : Entry = record { piece = q; reach = c.if-not-piece.reach } in
@@ -124,7 +124,7 @@ loop-i-preserved c =
     record {
       value = pieces ∙ rw (moved c) (
           map_over_more (carried c.args.block.low c.args.block.from c.args.dest) (pieces_of xs) ys i _ there c.loop-i.invariant.value is);
-      reached = rw (pieces, map-set (λ (k : Entry). k.reach) ks i new) (reached-set_kept ys (reaches_of ks) i q c.if-not-piece.reach c.loop-i.invariant.reached room ends (last c));
+      reached = rw (pieces, map-set (λ (k : Entry). k.reach) ks i new) (reached-set_kept ys (reaches_of ks) i q c.if-not-piece.reach c.loop-i.invariant.reached capacity ends (last c));
       ends = rw pieces (AllWithin-more_set ys i q within (EndsBy c.if-not-piece.reach) ends (last c));
       long = length-set ks i new ∙ c.loop-i.invariant.long;
       count = c.loop-i.invariant.count;
@@ -135,8 +135,8 @@ all : (c : goal.After-loop-i) → c.loop-i.i ≡ c.self.inside.count
 all c =
     let count = c.self.inside.count in
     let ps = pieces_of c.self.inside.entries.items in
-    let room : count ≤ length ps = omega (arith, c.self.invariant.within, c.self.invariant.room) in
-    let within : c.count_by-first.result ≤ count = omega (arith, c.count_by-first.ensures.within, ap length c.self.view_is, length-take-le count ps room) in
+    let capacity : count ≤ length ps = omega (arith, c.self.invariant.within, c.self.invariant.capacity) in
+    let within : c.count_by-first.result ≤ count = omega (arith, c.count_by-first.ensures.within, ap length c.self.view_is, length-take-le count ps capacity) in
     omega (arith, c.loop-i-test.false, c.loop-i.auto.i-end within)
 
 pub invariant_of-self : goal.invariant_of-self
@@ -147,9 +147,9 @@ returns c =
     let ps = pieces_of c.self.inside.entries.items in
     let count = c.self.inside.count in
     let f = carried c.args.block.low c.args.block.from c.args.dest in
-    let room : count ≤ length ps = omega (arith, c.self.invariant.within, c.self.invariant.room) in
+    let capacity : count ≤ length ps = omega (arith, c.self.invariant.within, c.self.invariant.capacity) in
     let front = map f (take count ps) in
-    let long : length front ≡ count = length-map (take count ps) f ∙ length-take-le count ps room in
+    let long : length front ≡ count = length-map (take count ps) f ∙ length-take-le count ps capacity in
     let value : pieces_of c.loop-i.self-inside.entries.items ≡ front ++ drop count ps =
     subst (λ n. pieces_of c.loop-i.self-inside.entries.items ≡ map f (take n ps) ++ drop n ps) (all c) c.loop-i.invariant.value in
     record {

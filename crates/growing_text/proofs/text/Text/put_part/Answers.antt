@@ -25,8 +25,8 @@ returns-clause-value c =
     ∙ sym (part-take ys len from to c.requires.ordered (omega arith)) in
     let n : length part ≡ k = length-between (take len ys) from to (omega arith) in
     let done = front-put ys part len at k n within c.self.invariant in
-    let put = with_items_is c.self.inside.bytes (front ++ (c.copy_text.new.room ++ drop k rest)) (search (rules, places)) in
+    let put = with_items_is c.self.inside.bytes (front ++ (c.copy_text.new.dest ++ drop k rest)) (search (rules, places)) in
     rw (← c.self.view_is) (ap (take len) put
-    ∙ ap (λ (v : List ℕ). take len (v ++ (c.copy_text.new.room ++ drop k rest))) low
-    ∙ ap (λ (v : List ℕ). take len (take at ys ++ (c.copy_text.new.room ++ drop k v))) high
+    ∙ ap (λ (v : List ℕ). take len (v ++ (c.copy_text.new.dest ++ drop k rest))) low
+    ∙ ap (λ (v : List ℕ). take len (take at ys ++ (c.copy_text.new.dest ++ drop k v))) high
     ∙ ap (λ (v : List ℕ). take len (take at ys ++ (v ++ drop k (drop at ys)))) (c.copy_text.ensures.value ∙ same) ∙ done)

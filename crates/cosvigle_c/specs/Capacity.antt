@@ -1,14 +1,14 @@
--- What a call does with the room that its caller gives for a text.
+-- What a call does with the memory that its caller gives for a text.
 use Rattle.std.specs.Prelude.{◌≡◌, ℕ, ◌<◌, ◌≤◌, List, ◌++◌, length, drop}
 
--- the text stands at the front of the room, what was after it stays, and its length is told
+-- the text stands at the front of that memory, what was after it stays, and its length is reported
 pub record Fills (text old new : List ℕ) (needed : ℕ) : Type 0 where
   pub fits : length text ≤ length old
   pub written : new ≡ text ++ drop (length text) old
-  pub told : needed ≡ length text
+  pub reported : needed ≡ length text
 
--- the room is too short for the text: it stays as it was, and the text's length is told
+-- the memory is too short for the text: it stays as it was, and the text's length is reported
 pub record IsShort (text old new : List ℕ) (needed : ℕ) : Type 0 where
   pub short : length old < length text
   pub stays : new ≡ old
-  pub told : needed ≡ length text
+  pub reported : needed ≡ length text
