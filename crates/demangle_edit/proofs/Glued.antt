@@ -8,8 +8,8 @@ use Rattle.demangle_text.specs.declared.pieces.Mark.{Mark}
 use Rattle.demangle_text.specs.declared.buffer.Buffer.{Buffer}
 use Rattle.demangle_text.specs.Shape.{Shape, text, plain_shape, whole_shape, appended}
 use Rattle.demangle_text.specs.State.{shape, Lives, Opens}
-use Rattle.demangle_edit.specs.declared.glue.Glue.{Glue}
-use Rattle.demangle_edit.specs.declared.glue.Glue.TheVariants.{Text, Piece as Part}
+use Rattle.demangle_edit.specs.declared.glue_parts.Glue.{Glue}
+use Rattle.demangle_edit.specs.declared.glue_parts.Glue.TheVariants.{Text, Piece as Part}
 use Rattle.demangle_edit.specs.Lists.{glued}
 use Rattle.demangle_edit.specs.Calls.{part_text, IsLivingPart}
 

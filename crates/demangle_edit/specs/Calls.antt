@@ -15,8 +15,8 @@ use Rattle.demangle_edit.specs.declared.expressions.LiteralForm.{LiteralForm}
 use Rattle.demangle_edit.specs.declared.expressions.LiteralForm.TheVariants.{Boolean, Null, Integer, Float, Cast}
 use Rattle.demangle_edit.specs.Expressions.{literal_shape, has_literal, sign_text, digits_text}
 use Rattle.demangle_text.specs.State.{IsLiving}
-use Rattle.demangle_edit.specs.declared.glue.Glue.{Glue}
-use Rattle.demangle_edit.specs.declared.glue.Glue.TheVariants.{Text, Piece as Part}
+use Rattle.demangle_edit.specs.declared.glue_parts.Glue.{Glue}
+use Rattle.demangle_edit.specs.declared.glue_parts.Glue.TheVariants.{Text, Piece as Part}
 
 -- whether that reference takes a byte of the type away
 abbrev pub is_cut : Bool → Shape → Bool

@@ -22,14 +22,14 @@
 mod appends;
 mod dimensions;
 mod expressions;
-mod glue;
+mod glue_parts;
 mod lists;
 mod names;
 mod types;
 
 pub use crate::appends::append_piece;
 pub use crate::expressions::{address, subexpr, write_literal, write_opened_literal};
-pub use crate::glue::Glue;
+pub use crate::glue_parts::Glue;
 pub use crate::lists::{
     append_number, close_arguments, close_lambda, close_params, glue, open_arguments, open_params,
 };

@@ -10,7 +10,7 @@ ghost use Rattle.demangle_edit.specs.Built.{arguments_opened, arguments_closed, 
 
 use crate::appends::append_piece;
 use crate::dimensions::{MOST_DIGITS, number_bytes};
-use crate::glue::Glue;
+use crate::glue_parts::Glue;
 use demangle_quals::{Quals, reference_bytes};
 use demangle_text::{Buffer, Piece};
 use std::alloc::AllocError;

@@ -5,7 +5,7 @@ use Rattle.std.proofs.lemmas.List.{append-nil}
 use Rattle.demangle_text.specs.Shape.{text, plain_shape}
 use Rattle.demangle_text.specs.State.{shape, Lives}
 use Rattle.demangle_text.proofs.Laws.{Opens-edit, AppendsPiece-close}
-use Rattle.demangle_edit.specs.declared.glue.Glue.{Glue}
+use Rattle.demangle_edit.specs.declared.glue_parts.Glue.{Glue}
 use Rattle.demangle_edit.specs.Calls.{part_text}
 use Rattle.demangle_edit.proofs.Glued.{text_put, part_more}
 use Rattle.demangle_edit.proofs.lists.glue.Goals as goal
