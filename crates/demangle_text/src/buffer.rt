@@ -68,8 +68,8 @@ impl Buffer {
         }
     }
 
-    /// Invalidates all pieces and marks. Afterwards nothing is saved, no scope is open, and the output is empty. No mark
-    /// is open either; the clauses can't tell that from a mark at the start of the output. Reserved memory stays.
+    /// Invalidates all pieces and marks. Afterwards nothing is saved, no scope is open, and the output is empty. No
+    /// mark is open either; the clauses can't tell that from a mark at the start of the output. Reserved memory stays.
     pub fn clear(&mut self)
         ensures no_saved { saved self.new ≡ [] }
         ensures no_scopes { scopes self.new ≡ [] }
