@@ -5,7 +5,7 @@ use Rattle.demangle_text.specs.Pieces.{Store, IsStore, IsTail, IsSplice}
 use Rattle.demangle_text.specs.Calls.{IsLast, named}
 use Rattle.demangle_text.specs.State.{IsLiving, shape, Lives, IsEdit, Stands, frame, frame_start, main_bytes}
 use Rattle.demangle_text.proofs.States.{Extends-same}
-use Rattle.demangle_text.proofs.Brought.{IsBrought-stays, IsEdit-extended, IsSplice-extended}
+use Rattle.demangle_text.proofs.AtEnd.{HasAtEnd-stays, IsEdit-extended, IsSplice-extended}
 use Rattle.demangle_text.proofs.Tails.{Lives-named}
 
 -- what ends the output lies in it
@@ -25,7 +25,7 @@ module _ (s : Store) (output : List ℕ) (p : Piece) (between name : List ℕ) (
   splice : IsSplice s new p (p.to_byte - p.from_byte) (between ++ name) p.from_byte
   unfolding IsLiving
   splice = IsSplice-extended s new p s.output_text (between ++ name) p.from_byte living
-      (IsBrought-stays s.output_text s.spill_text s.marked_len p living.ordered (tail-of s p last)) is
+      (HasAtEnd-stays s.output_text s.spill_text s.marked_len p living.ordered (tail-of s p last)) is
 
   module _ (end : ℕ) (end_is : end ≡ length output) where
     -- the piece of all of it, whose base name is the name

@@ -191,7 +191,7 @@ pub record Extends (old new : List ℕ) : Type 0 where
 
 -- the output ends in the text of the piece, from a byte on, at the mark or later: where the piece ended it, nothing
 -- changed
-pub record IsBrought (old spill : List ℕ) (mark : ℕ) (p : Piece) (new : List ℕ) (from : ℕ) : Type 0 where
+pub record HasAtEnd (old spill : List ℕ) (mark : ℕ) (p : Piece) (new : List ℕ) (from : ℕ) : Type 0 where
   pub begins : from + (p.to_byte - p.from_byte) ≡ length new
   pub text : drop from new ≡ piece_text old spill p
   pub inner : mark ≤ from

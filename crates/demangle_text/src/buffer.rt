@@ -296,7 +296,7 @@ impl Buffer {
             return self.append(piece, bytes);
         }
         let at = piece.place(place);
-        let from = self.open_in(piece, at, bytes.len())?;
+        let from = self.open_gap_in(piece, at, bytes.len())?;
         self.output.put(from + at, bytes);
         Ok(piece.with_bytes(place, at, bytes.len(), from, self.output.len()))
     }
@@ -328,7 +328,7 @@ impl Buffer {
         let at = piece.place(Place::Suffix);
         let front = Buffer::group_opening(&self.bytes(piece)[..at]);
         let n = front.len() + bytes.len() + 1;
-        let from = self.open_in(piece, at, n)?;
+        let from = self.open_gap_in(piece, at, n)?;
         let middle = self.output.put(from + at, front);
         let end = self.output.put(middle, bytes);
         self.output.put(end, b")");

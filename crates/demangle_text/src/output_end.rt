@@ -1,6 +1,6 @@
 //! Puts the texts of pieces at the end of the output.
 ghost use Rattle.std.specs.Prelude.{◌≡◌, ◌≤◌, ◌++◌, length, take, IfOk, OnOk, OnErr};
-ghost use Rattle.demangle_text.specs.Pieces.{home_bytes, piece_text, IsBrought};
+ghost use Rattle.demangle_text.specs.Pieces.{home_bytes, piece_text, HasAtEnd};
 
 use crate::pieces::Piece;
 use growing_text::Text;
@@ -39,8 +39,8 @@ pub(crate) fn truncated_on_err(
     added
 }
 
-// Brings the text of a piece to the end of the output, and returns where it begins there. The text is copied, unless
-// it ends the output already and begins at the mark's byte or later.
+// Makes the text of a piece end the output, and returns where it begins there. The text is copied, unless it ends the
+// output already and begins at the mark's byte or later.
 #[inline(always)]
 pub(crate) fn ensure_at_end(
     output: &mut Text,
@@ -51,7 +51,7 @@ pub(crate) fn ensure_at_end(
     requires ordered { piece.from_byte ≤ piece.to_byte }
     requires within { piece.to_byte ≤ length (home_bytes output.old spill.now piece.spilled) }
     requires mark { mark ≤ length output.old }
-    ensures brought { IfOk result (IsBrought output.old spill.now mark piece output.new) }
+    ensures at_end { IfOk result (HasAtEnd output.old spill.now mark piece output.new) }
     ensures err { OnErr result (output.new ≡ output.old) }
 {
     if piece.is_tail(mark, output.len()) {

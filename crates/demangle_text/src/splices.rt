@@ -108,7 +108,12 @@ impl Buffer {
 
     // Brings the text of a piece to the end of the output, with a gap of n bytes at a place of the text. The caller
     // overwrites the gap. Returns where the text begins.
-    pub(crate) fn open_in(&mut self, piece: Piece, at: usize, n: usize) -> Result<usize, AllocError>
+    pub(crate) fn open_gap_in(
+        &mut self,
+        piece: Piece,
+        at: usize,
+        n: usize,
+    ) -> Result<usize, AllocError>
         requires living { IsLiving self.old piece }
         requires within { at ≤ piece.to_byte - piece.from_byte }
         ensures opened { IfOk result (IsOpen self.old self.new piece at n) }

@@ -7,7 +7,7 @@ use Rattle.demangle_text.specs.Pieces.{IsAt, outline_of, own_at}
 use Rattle.demangle_text.specs.Shape.{moved}
 use Rattle.demangle_text.specs.View.{store_of}
 use Rattle.demangle_text.proofs.Tails.{Lives-inserted, IsEditOf-spliced, own-fits, layout-fits}
-use Rattle.demangle_text.proofs.Brought.{KeepsAll-left, IsStore-extended, IsEdit-extended, IsSplice-added}
+use Rattle.demangle_text.proofs.AtEnd.{KeepsAll-left, IsStore-extended, IsEdit-extended, IsSplice-added}
 use Rattle.demangle_text.proofs.buffer.Buffer.append.Goals as goal
 
 pub returns-in_err-truncated_on_err-clause-err : goal.returns-in_err-truncated_on_err-clause-err
@@ -17,7 +17,7 @@ returns-in_err-truncated_on_err-clause-err c =
     let done = c.add-added.new.self in
     let failed : done ≡ mid = subst (λ r. OnErr r (done ≡ mid)) (sym c.in_err-truncated_on_err.ensures.same) c.add-added.ensures.err in
     on_err_from c.from_residual-in_err-truncated_on_err.result (rw (← c.self.view_is)
-    (KeepsAll-left s mid done c.truncated_on_err.new.output c.len-len.result c.len-len.ensures.value c.in_ok-from.ensures.brought.longer failed c.in_err-truncated_on_err.ensures.err))
+    (KeepsAll-left s mid done c.truncated_on_err.new.output c.len-len.result c.len-len.ensures.value c.in_ok-from.ensures.at_end.longer failed c.in_err-truncated_on_err.ensures.err))
 
 pub invariant_of-self-2 : goal.invariant_of-self-2
 invariant_of-self-2 c =
@@ -25,7 +25,7 @@ invariant_of-self-2 c =
     let more = c.args.bytes.now in
     let done = c.add-added.new.self in
     let is = c.in_ok-truncated_on_err.ensures.ok ∙ subst (λ r. OnOk r (done ≡ mid ++ more)) (sym c.in_ok-truncated_on_err.ensures.same) c.add-added.ensures.ok in
-    IsStore-extended (store_of c.self.inside) mid more _ c.self.invariant c.in_ok-from.ensures.brought.longer is
+    IsStore-extended (store_of c.self.inside) mid more _ c.self.invariant c.in_ok-from.ensures.at_end.longer is
 
 pub returns-clause-edit : goal.returns-clause-edit
 returns-clause-edit c =
@@ -33,7 +33,7 @@ returns-clause-edit c =
     let more = c.args.bytes.now in
     let done = c.add-added.new.self in
     let is = c.in_ok-truncated_on_err.ensures.ok ∙ subst (λ r. OnOk r (done ≡ mid ++ more)) (sym c.in_ok-truncated_on_err.ensures.same) c.add-added.ensures.ok in
-    rw (← c.self.view_is) (IsEdit-extended (store_of c.self.inside) mid more _ c.self.invariant c.in_ok-from.ensures.brought.longer is)
+    rw (← c.self.view_is) (IsEdit-extended (store_of c.self.inside) mid more _ c.self.invariant c.in_ok-from.ensures.at_end.longer is)
 
 pub with_bytes-requires-clause-own_fits : goal.with_bytes-requires-clause-own_fits
 with_bytes-requires-clause-own_fits c =
@@ -42,7 +42,7 @@ with_bytes-requires-clause-own_fits c =
     let p = c.args.piece in
     let done = c.add-added.new.self in
     let added = subst (λ r. OnOk r (done ≡ c.ensure_at_end.new.output ++ c.args.bytes.now)) (sym c.in_ok-truncated_on_err.ensures.same) c.add-added.ensures.ok in
-    let splice = IsSplice-added s b c.truncated_on_err.new.output p _ _ c.in_ok-from.from c.self.view_is c.requires.living c.in_ok-from.ensures.brought (c.in_ok-truncated_on_err.ensures.ok ∙ added) in
+    let splice = IsSplice-added s b c.truncated_on_err.new.output p _ _ c.in_ok-from.from c.self.view_is c.requires.living c.in_ok-from.ensures.at_end (c.in_ok-truncated_on_err.ensures.ok ∙ added) in
     let fits = own-fits b _ p (p.to_byte - p.from_byte) c.args.bytes.now c.in_ok-from.from c.requires.living splice in
     omega (arith, fits, c.len.ensures.value, c.len.type_inv)
 
@@ -53,7 +53,7 @@ with_bytes-requires-clause-layout_fits c =
     let p = c.args.piece in
     let done = c.add-added.new.self in
     let added = subst (λ r. OnOk r (done ≡ c.ensure_at_end.new.output ++ c.args.bytes.now)) (sym c.in_ok-truncated_on_err.ensures.same) c.add-added.ensures.ok in
-    let splice = IsSplice-added s b c.truncated_on_err.new.output p _ _ c.in_ok-from.from c.self.view_is c.requires.living c.in_ok-from.ensures.brought (c.in_ok-truncated_on_err.ensures.ok ∙ added) in
+    let splice = IsSplice-added s b c.truncated_on_err.new.output p _ _ c.in_ok-from.from c.self.view_is c.requires.living c.in_ok-from.ensures.at_end (c.in_ok-truncated_on_err.ensures.ok ∙ added) in
     let fits = layout-fits b _ p (p.to_byte - p.from_byte) c.args.bytes.now c.in_ok-from.from c.requires.living splice in
     omega (arith, fits, c.len.ensures.value, c.len.type_inv)
 
@@ -67,7 +67,7 @@ returns-clause-shape c =
     let m = c.with_bytes.ensures in
     let done = c.add-added.new.self in
     let added = subst (λ r. OnOk r (done ≡ c.ensure_at_end.new.output ++ bytes)) (sym c.in_ok-truncated_on_err.ensures.same) c.add-added.ensures.ok in
-    let splice = IsSplice-added s b c.truncated_on_err.new.output p _ _ from c.self.view_is c.requires.living c.in_ok-from.ensures.brought (c.in_ok-truncated_on_err.ensures.ok ∙ added) in
+    let splice = IsSplice-added s b c.truncated_on_err.new.output p _ _ from c.self.view_is c.requires.living c.in_ok-from.ensures.at_end (c.in_ok-truncated_on_err.ensures.ok ∙ added) in
     let k = c.len.ensures.value in
     Lives-inserted b _ p (p.to_byte - p.from_byte) bytes from c.requires.living splice c.with_bytes.result (subst (IsAt c.with_bytes.result from) k m.stands)
     End tt refl m.layout
@@ -83,7 +83,7 @@ returns-clause-edit_of c =
     let from = c.in_ok-from.from in
     let done = c.add-added.new.self in
     let added = subst (λ r. OnOk r (done ≡ c.ensure_at_end.new.output ++ c.args.bytes.now)) (sym c.in_ok-truncated_on_err.ensures.same) c.add-added.ensures.ok in
-    let splice = IsSplice-added s b c.truncated_on_err.new.output p _ _ from c.self.view_is c.requires.living c.in_ok-from.ensures.brought (c.in_ok-truncated_on_err.ensures.ok ∙ added) in
+    let splice = IsSplice-added s b c.truncated_on_err.new.output p _ _ from c.self.view_is c.requires.living c.in_ok-from.ensures.at_end (c.in_ok-truncated_on_err.ensures.ok ∙ added) in
     IsEditOf-spliced b _ p q (p.to_byte - p.from_byte) from c.args.bytes.now splice (subst (IsAt q from) c.len.ensures.value c.with_bytes.ensures.stands)
 
 pub ensure_at_end-requires-clause-ordered : goal.ensure_at_end-requires-clause-ordered

@@ -8,7 +8,7 @@ use Rattle.demangle_text.specs.Pieces.{Store, piece_text}
 use Rattle.demangle_text.specs.State.{IsLiving}
 use Rattle.demangle_text.specs.View.{store_of}
 use Rattle.demangle_text.proofs.States.{on_err_from}
-use Rattle.demangle_text.proofs.Brought.{KeepsAll-left, Extends-more, both-added, IsStore-extended, IsEdit-extended, IsSplice-extended}
+use Rattle.demangle_text.proofs.AtEnd.{KeepsAll-left, Extends-more, both-added, IsStore-extended, IsEdit-extended, IsSplice-extended}
 use Rattle.demangle_text.proofs.buffer.Buffer.extend_by.Goals as goal
 
 pub returns-in_err-truncated_on_err-clause-err : goal.returns-in_err-truncated_on_err-clause-err
@@ -18,14 +18,14 @@ returns-in_err-truncated_on_err-clause-err c =
     let done = c.add-added.new.self in
     let failed : done ≡ mid = subst (λ r. OnErr r (done ≡ mid)) (sym c.in_err-truncated_on_err.ensures.same) c.add-added.ensures.err in
     on_err_from c.from_residual-in_err-truncated_on_err.result (rw (← c.self.view_is)
-    (KeepsAll-left s mid done c.truncated_on_err.new.output c.len-len.result c.len-len.ensures.value c.in_ok-from.ensures.brought.longer failed c.in_err-truncated_on_err.ensures.err))
+    (KeepsAll-left s mid done c.truncated_on_err.new.output c.len-len.result c.len-len.ensures.value c.in_ok-from.ensures.at_end.longer failed c.in_err-truncated_on_err.ensures.err))
 
 pub returns-in_err-truncated_on_err-2-clause-err : goal.returns-in_err-truncated_on_err-2-clause-err
 returns-in_err-truncated_on_err-2-clause-err c =
     let s = store_of c.self.inside in
     let mid = c.ensure_at_end.new.output in
     let bytes = c.args.bytes.now in
-    let longer = c.in_ok-from.ensures.brought.longer in
+    let longer = c.in_ok-from.ensures.at_end.longer in
     let one = c.in_ok-truncated_on_err.ensures.ok ∙ subst (λ r. OnOk r (c.add-added.new.self ≡ mid ++ bytes)) (sym c.in_ok-truncated_on_err.ensures.same) c.add-added.ensures.ok in
     let mid2 = c.truncated_on_err.new.output in
     let done = c.add_text-added.new.output in
@@ -39,7 +39,7 @@ invariant_of-self-2 c =
     let s = store_of c.self.inside in
     let mid = c.ensure_at_end.new.output in
     let bytes = c.args.bytes.now in
-    let longer = c.in_ok-from.ensures.brought.longer in
+    let longer = c.in_ok-from.ensures.at_end.longer in
     let one = c.in_ok-truncated_on_err.ensures.ok ∙ subst (λ r. OnOk r (c.add-added.new.self ≡ mid ++ bytes)) (sym c.in_ok-truncated_on_err.ensures.same) c.add-added.ensures.ok in
     let two = c.in_ok-truncated_on_err-2.ensures.ok
     ∙ subst (λ r. OnOk r (c.add_text-added.new.output ≡ c.truncated_on_err.new.output ++ piece_text c.truncated_on_err.new.output s.spill_text c.args.other))
@@ -53,7 +53,7 @@ returns-clause-edit c =
     let s = store_of c.self.inside in
     let mid = c.ensure_at_end.new.output in
     let bytes = c.args.bytes.now in
-    let longer = c.in_ok-from.ensures.brought.longer in
+    let longer = c.in_ok-from.ensures.at_end.longer in
     let one = c.in_ok-truncated_on_err.ensures.ok ∙ subst (λ r. OnOk r (c.add-added.new.self ≡ mid ++ bytes)) (sym c.in_ok-truncated_on_err.ensures.same) c.add-added.ensures.ok in
     let two = c.in_ok-truncated_on_err-2.ensures.ok
     ∙ subst (λ r. OnOk r (c.add_text-added.new.output ≡ c.truncated_on_err.new.output ++ piece_text c.truncated_on_err.new.output s.spill_text c.args.other))
@@ -67,15 +67,15 @@ returns-clause-splice c =
     let s = store_of c.self.inside in
     let mid = c.ensure_at_end.new.output in
     let bytes = c.args.bytes.now in
-    let longer = c.in_ok-from.ensures.brought.longer in
+    let longer = c.in_ok-from.ensures.at_end.longer in
     let one = c.in_ok-truncated_on_err.ensures.ok ∙ subst (λ r. OnOk r (c.add-added.new.self ≡ mid ++ bytes)) (sym c.in_ok-truncated_on_err.ensures.same) c.add-added.ensures.ok in
     let two = c.in_ok-truncated_on_err-2.ensures.ok
     ∙ subst (λ r. OnOk r (c.add_text-added.new.output ≡ c.truncated_on_err.new.output ++ piece_text c.truncated_on_err.new.output s.spill_text c.args.other))
     (sym c.in_ok-truncated_on_err-2.ensures.same) c.add_text-added.ensures.ok in
     let lies = subst (λ (b : Store). IsLiving b c.args.other) (sym c.self.view_is) c.requires.other_living in
     let is = both-added s mid bytes c.truncated_on_err.new.output c.truncated_on_err-2.new.output c.args.other lies longer one two in
-    let brought = subst (λ (b : Store). IsLiving b c.args.piece) (sym c.self.view_is) c.requires.living in
-    rw (← c.self.view_is) (IsSplice-extended s (record s { output_text = c.truncated_on_err-2.new.output }) c.args.piece mid _ c.in_ok-from.from brought c.in_ok-from.ensures.brought is)
+    let at_end = subst (λ (b : Store). IsLiving b c.args.piece) (sym c.self.view_is) c.requires.living in
+    rw (← c.self.view_is) (IsSplice-extended s (record s { output_text = c.truncated_on_err-2.new.output }) c.args.piece mid _ c.in_ok-from.from at_end c.in_ok-from.ensures.at_end is)
 
 pub invariant_of-self : goal.invariant_of-self
 unfolding IsLiving shape main_bytes Stands frame_start frame outermost IsOlder IsAsOld inside outside saved scopes

@@ -6,7 +6,7 @@ use Rattle.demangle_text.specs.Pieces.{IsAt, outline_of, own_at}
 use Rattle.demangle_text.specs.Shape.{moved}
 use Rattle.demangle_text.specs.View.{store_of}
 use Rattle.demangle_text.proofs.Gaps.{length-gap, one-put}
-use Rattle.demangle_text.proofs.Brought.{IsOpen-same, IsStore-put, IsEdit-put, IsSplice-put}
+use Rattle.demangle_text.proofs.AtEnd.{IsOpen-same, IsStore-put, IsEdit-put, IsSplice-put}
 use Rattle.demangle_text.proofs.Tails.{Lives-inserted, IsEditOf-spliced, own-fits, layout-fits}
 use Rattle.demangle_text.proofs.buffer.Buffer.insert.Goals as goal
 
@@ -105,9 +105,9 @@ returns-clause-edit_of c =
     let q = c.with_bytes.result in
     IsEditOf-spliced b _ p q at from bytes splice (subst (IsAt q from) c.len.ensures.value c.with_bytes.ensures.stands)
 
-pub open_in-requires : goal.open_in-requires
+pub open_gap_in-requires : goal.open_gap_in-requires
 unfolding IsLiving shape main_bytes Stands frame_start frame outermost IsOlder IsAsOld inside outside saved scopes
-open_in-requires c = grind (arith, common_steps)
+open_gap_in-requires c = grind (arith, common_steps)
 
 pub with_bytes-requires-clause-text : goal.with_bytes-requires-clause-text
 unfolding IsLiving shape main_bytes Stands frame_start frame outermost IsOlder IsAsOld inside outside saved scopes

@@ -5,7 +5,7 @@ use Rattle.demangle_text.specs.Pieces.{IsAt, IsTail, IsAdjacent, IsJoint, EndsBy
 use Rattle.demangle_text.specs.State.{IsLiving}
 use Rattle.demangle_text.specs.View.{store_of}
 use Rattle.demangle_text.proofs.Tails.{IsJoint-inserted, IsJoint-moved, Lives-joined, IsJoinOf-joint}
-use Rattle.demangle_text.proofs.Brought.{tail-is, is-tail, adjacent-is, is-adjacent, adjacent-tail, IsJoint-spliced}
+use Rattle.demangle_text.proofs.AtEnd.{tail-is, is-tail, adjacent-is, is-adjacent, adjacent-tail, IsJoint-spliced}
 use Rattle.demangle_text.proofs.buffer.Buffer.join.Goals as goal
 use Rattle.demangle_text.proofs.buffer.Buffer.join.Goals.{then-is_tail+else-is_tail-2+else-first+else-first-second, else-is_tail}
 

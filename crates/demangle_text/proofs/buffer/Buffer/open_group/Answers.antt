@@ -11,7 +11,7 @@ use Rattle.demangle_text.specs.Shape.{moved, gap_after}
 use Rattle.demangle_text.specs.State.{IsLiving, IsEditOf, shape}
 use Rattle.demangle_text.specs.View.{store_of}
 use Rattle.demangle_text.proofs.States.{text_is}
-use Rattle.demangle_text.proofs.Brought.{IsOpen-same, IsStore-put, IsEdit-put, IsSplice-put}
+use Rattle.demangle_text.proofs.AtEnd.{IsOpen-same, IsStore-put, IsEdit-put, IsSplice-put}
 use Rattle.demangle_text.proofs.Groups.{group_text, layout_grouped}
 use Rattle.demangle_text.proofs.Tails.{Lives-opened, length-text, suffix_within, opened-longer, own-fits, layout-fits, IsEditOf-spliced}
 use Rattle.demangle_text.proofs.buffer.Buffer.open_group.Goals as goal
@@ -230,9 +230,9 @@ returns-clause-edit_of c =
     let by = opened-longer b _ p at all from c.requires.living splice q stands bytes (returns-clause-shape c) in
     subst (IsEditOf b _ p q) by (IsEditOf-spliced b _ p q at from all splice stands)
 
-pub open_in-requires-clause-within : goal.open_in-requires-clause-within
+pub open_gap_in-requires-clause-within : goal.open_gap_in-requires-clause-within
 unfolding IsLiving shape main_bytes Stands frame_start frame outermost IsOlder IsAsOld inside outside saved scopes
-open_in-requires-clause-within c = grind (arith, common_steps)
+open_gap_in-requires-clause-within c = grind (arith, common_steps)
 
 pub with_bytes-moved-requires-clause-text : goal.with_bytes-moved-requires-clause-text
 unfolding IsLiving shape main_bytes Stands frame_start frame outermost IsOlder IsAsOld inside outside saved scopes

@@ -9,8 +9,8 @@ use Rattle.demangle_text.specs.State.{IsLiving}
 use Rattle.demangle_text.specs.View.{store_of}
 use Rattle.demangle_text.proofs.States.{on_err_from}
 use Rattle.demangle_text.proofs.Tails.{length-text}
-use Rattle.demangle_text.proofs.Brought.{tail-is, KeepsAll-left, IsOpen-tail, IsOpen-copied, IsStore-copied}
-use Rattle.demangle_text.proofs.buffer.Buffer.open_in.Goals as goal
+use Rattle.demangle_text.proofs.AtEnd.{tail-is, KeepsAll-left, IsOpen-tail, IsOpen-copied, IsStore-copied}
+use Rattle.demangle_text.proofs.buffer.Buffer.open_gap_in.Goals as goal
 
 pub returns-then-is_tail-clause-opened : goal.returns-then-is_tail-clause-opened
 unfolding IsLiving

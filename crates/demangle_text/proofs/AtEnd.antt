@@ -4,7 +4,7 @@ use Rattle.std.proofs.lemmas.List.{length-append, length-drop, length-take-le, t
 use Rattle.demangle_text.specs.declared.pieces.Piece.{Piece}
 use Rattle.growing_text.specs.Gap.{HasGap}
 use Rattle.growing_text.proofs.Parts.{part-append}
-use Rattle.demangle_text.specs.Pieces.{Store, IsStore, IsTail, IsTailAt, IsBrought, IsSplice, IsAdjacent, IsJoint, EndsBy, Extends, home_bytes, piece_text}
+use Rattle.demangle_text.specs.Pieces.{Store, IsStore, IsTail, IsTailAt, HasAtEnd, IsSplice, IsAdjacent, IsJoint, EndsBy, Extends, home_bytes, piece_text}
 use Rattle.demangle_text.specs.State.{IsLiving, KeepsAll, IsEdit}
 use Rattle.demangle_text.specs.Gaps.{IsGap, IsOpen, with_gap_filled}
 use Rattle.demangle_text.proofs.Laws.{IsEdit-keeps}
@@ -33,8 +33,8 @@ unfolding IsLiving
 adjacent-tail b first second lies h = record { in_main = h.second_in_main; inner = omega (arith, h.inner, h.meets, lies.ordered); ends = h.ends }
 
 -- one that ends it already
-pub IsBrought-stays : (output spill : List ℕ) (mark : ℕ) (p : Piece) → p.from_byte ≤ p.to_byte → IsTailAt mark (length output) p → IsBrought output spill mark p output p.from_byte
-IsBrought-stays output spill mark p ordered h = record {
+pub HasAtEnd-stays : (output spill : List ℕ) (mark : ℕ) (p : Piece) → p.from_byte ≤ p.to_byte → IsTailAt mark (length output) p → HasAtEnd output spill mark p output p.from_byte
+HasAtEnd-stays output spill mark p ordered h = record {
   begins = omega (arith, h.ends);
   text =
       let here = ap (λ (home : Bool). slice_range (home_bytes output spill home) p.from_byte p.to_byte) h.in_main in
@@ -47,9 +47,9 @@ IsBrought-stays output spill mark p ordered h = record {
 }
 
 -- a copy of one that doesn't
-pub IsBrought-copied : (output spill new : List ℕ) (mark : ℕ) (p : Piece) (from : ℕ) → (IsTailAt mark (length output) p → ⊥) → mark ≤ length output
-    → length (piece_text output spill p) ≡ p.to_byte - p.from_byte → from ≡ length output → new ≡ output ++ piece_text output spill p → IsBrought output spill mark p new from
-IsBrought-copied output spill new mark p from apart inner long starts is = record {
+pub HasAtEnd-copied : (output spill new : List ℕ) (mark : ℕ) (p : Piece) (from : ℕ) → (IsTailAt mark (length output) p → ⊥) → mark ≤ length output
+    → length (piece_text output spill p) ≡ p.to_byte - p.from_byte → from ≡ length output → new ≡ output ++ piece_text output spill p → HasAtEnd output spill mark p new from
+HasAtEnd-copied output spill new mark p from apart inner long starts is = record {
   begins = omega (arith, starts, long, ap length is, length-append output (piece_text output spill p));
   text = ap (drop from) is ∙ drop_at output (piece_text output spill p) from (sym starts);
   inner = omega (arith, inner, starts);
@@ -73,7 +73,7 @@ module _ (s : Store) (mid bytes output : List ℕ) (i : IsStore s) (e : Extends 
   pub IsEdit-extended : IsEdit s (record s { output_text = output })
   IsEdit-extended = subst (λ (v : List ℕ). IsEdit s (record s { output_text = v })) (sym all) (IsEdit-keeps s _ (KeepsAll-longer s (e.more ++ bytes) i))
 
-pub IsSplice-extended : (s t : Store) (p : Piece) (mid bytes : List ℕ) (from : ℕ) → IsLiving s p → IsBrought s.output_text s.spill_text s.marked_len p mid from
+pub IsSplice-extended : (s t : Store) (p : Piece) (mid bytes : List ℕ) (from : ℕ) → IsLiving s p → HasAtEnd s.output_text s.spill_text s.marked_len p mid from
     → t.output_text ≡ mid ++ bytes → IsSplice s t p (p.to_byte - p.from_byte) bytes from
 unfolding IsLiving
 IsSplice-extended s t p mid bytes from lies b is =
@@ -97,11 +97,11 @@ IsSplice-extended s t p mid bytes from lies b is =
 
 -- the same for the buffer that these fields are
 pub IsSplice-added : (s b : Store) (output : List ℕ) (p : Piece) (mid bytes : List ℕ) (from : ℕ) → s ≡ b → IsLiving b p
-    → IsBrought s.output_text s.spill_text s.marked_len p mid from → output ≡ mid ++ bytes
+    → HasAtEnd s.output_text s.spill_text s.marked_len p mid from → output ≡ mid ++ bytes
     → IsSplice b (record s { output_text = output }) p (p.to_byte - p.from_byte) bytes from
-IsSplice-added s b output p mid bytes from same lies brought is =
+IsSplice-added s b output p mid bytes from same lies at_end is =
     subst (λ (v : Store). IsSplice v (record s { output_text = output }) p (p.to_byte - p.from_byte) bytes from) same
-    (IsSplice-extended s (record s { output_text = output }) p mid bytes from (subst (λ (v : Store). IsLiving v p) (sym same) lies) brought is)
+    (IsSplice-extended s (record s { output_text = output }) p mid bytes from (subst (λ (v : Store). IsLiving v p) (sym same) lies) at_end is)
 
 -- a part stays when the output grows
 part-longer : (output spill more : List ℕ) (h : Bool) (a b : ℕ) → a ≤ b → b ≤ length (home_bytes output spill h)
@@ -113,14 +113,14 @@ within-longer : (output spill more : List ℕ) (h : Bool) (b : ℕ) → b ≤ le
 within-longer output spill more false b within = omega (arith, length-append output more, within)
 within-longer output spill more true b within = within
 
-pub text-brought : (s : Store) (mid : List ℕ) (p : Piece) → IsLiving s p → Extends s.output_text mid → piece_text mid s.spill_text p ≡ piece_text s.output_text s.spill_text p
+pub text-at_end : (s : Store) (mid : List ℕ) (p : Piece) → IsLiving s p → Extends s.output_text mid → piece_text mid s.spill_text p ≡ piece_text s.output_text s.spill_text p
 unfolding IsLiving
-text-brought s mid p lies e =
+text-at_end s mid p lies e =
     ap (λ (v : List ℕ). piece_text v s.spill_text p) e.all ∙ part-longer s.output_text s.spill_text e.more p.spilled p.from_byte p.to_byte lies.ordered lies.within
 
-pub within-brought : (s : Store) (mid : List ℕ) (p : Piece) → IsLiving s p → Extends s.output_text mid → p.to_byte ≤ length (home_bytes mid s.spill_text p.spilled)
+pub within-at_end : (s : Store) (mid : List ℕ) (p : Piece) → IsLiving s p → Extends s.output_text mid → p.to_byte ≤ length (home_bytes mid s.spill_text p.spilled)
 unfolding IsLiving
-within-brought s mid p lies e =
+within-at_end s mid p lies e =
     subst (λ (v : List ℕ). p.to_byte ≤ length (home_bytes v s.spill_text p.spilled)) (sym e.all) (within-longer s.output_text s.spill_text e.more p.spilled p.to_byte lies.within)
 
 -- bytes and another text after it, put there one after the other
@@ -130,7 +130,7 @@ Extends-more old mid new bytes e is = Extends-trans old mid new e (record { more
 pub both-added : (s : Store) (mid bytes one two : List ℕ) (other : Piece) → IsLiving s other → Extends s.output_text mid → one ≡ mid ++ bytes
     → two ≡ one ++ piece_text one s.spill_text other → two ≡ mid ++ (bytes ++ piece_text s.output_text s.spill_text other)
 both-added s mid bytes one two other lies e is_one is_two =
-    let same = text-brought s one other lies (Extends-more s.output_text mid one bytes e is_one) in
+    let same = text-at_end s one other lies (Extends-more s.output_text mid one bytes e is_one) in
     is_two ∙ ap (λ (v : List ℕ). one ++ v) same ∙ ap (λ (v : List ℕ). v ++ piece_text s.output_text s.spill_text other) is_one
     ∙ append_assoc mid bytes (piece_text s.output_text s.spill_text other)
 
