@@ -228,7 +228,7 @@ reaches_of kept = map (λ k. k.reach) kept
 -- each of the first pieces of a list ends by the byte that stands at its index, and so do all before it
 pub record AreReached (pieces : List Piece) (reaches : List ℕ) (count : ℕ) : Type 0 where
   pub within : count ≤ length reaches
-  pub gap : length reaches ≤ length pieces
+  pub capacity : length reaches ≤ length pieces
   pub ends : (i : ℕ) → i < count → AllWithin (EndsBy (slice_index reaches i)) pieces 0 (i + 1)
 
 -- where a place lies after the block that begins at `from` was moved to `dest`: what ends by `low` stays
