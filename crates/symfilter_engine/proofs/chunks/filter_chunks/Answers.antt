@@ -68,8 +68,8 @@ chunks-preserved g c =
     let after = c.in_ok-done.goes_on in
     let all = c.read_more.new.chunk.items in
     let same : c.deref-in-chunks.result.now ≡ all = c.deref-in-chunks.ensures.value in
-    let mid_word : end ≤ length all = c.in_ok-end.ensures.ok.mid_word in
-    let within : done ≤ end = omega (arith, c.in_ok-done.ensures.bound, ap (λ l. length (take end l)) same, length-take-le end all mid_word) in
+    let inside : end ≤ length all = c.in_ok-end.ensures.ok.inside in
+    let within : done ≤ end = omega (arith, c.in_ok-done.ensures.bound, ap (λ l. length (take end l)) same, length-take-le end all inside) in
     let long : length c.if-done-gt0.chunk.items ≡ length all =
     elim c.if-done-gt0.branch [
       | then-done-gt0 w ↦ subst (λ v. length v.items ≡ length all) (sym w.chunk-is) (grind (arith, common_steps))
@@ -77,7 +77,7 @@ chunks-preserved g c =
     ] in
     let moved : take (end - done) c.if-done-gt0.chunk.items ≡ drop done (take end all) =
     elim c.if-done-gt0.branch [
-      | then-done-gt0 w ↦ subst (λ v. take (end - done) v.items ≡ drop done (take end all)) (sym w.chunk-is) (front_moved all _ end done within mid_word w.copy_within.ensures.items)
+      | then-done-gt0 w ↦ subst (λ v. take (end - done) v.items ≡ drop done (take end all)) (sym w.chunk-is) (front_moved all _ end done within inside w.copy_within.ensures.items)
       | else-done-gt0 w ↦ ap (λ v. take (end - done) v.items) w.chunk-is ∙ none_moved all end done w.if-done-gt0.false
     ] in
     record {
@@ -85,8 +85,8 @@ chunks-preserved g c =
       sink_not_failed = c.in_ok-done.ensures.outcome;
       source_in_time = c.in_ok-end.ensures.in_time ∙ c.chunks.invariant.source_in_time;
       sink_in_time = c.in_ok-done.ensures.in_time ∙ c.chunks.invariant.sink_in_time;
-      some = omega (arith, mid_word, long, c.in_ok-end.ensures.ok.low, c.if-end-kept.false);
-      within = omega (arith, mid_word, long);
+      some = omega (arith, inside, long, c.in_ok-end.ensures.ok.low, c.if-end-kept.false);
+      within = omega (arith, inside, long);
       kept = subst (AreKept c.args.placement) (ap (λ l. drop done (take end l)) same ∙ sym moved) c.in_ok-done.ensures.kept;
       so_far = turn_copied c.args.placement c.chunks.mid_word after c.chunks.kept end _ all _ (drop done (take end all)) _ _ _ _ _ _ c.chunks.invariant.so_far c.in_ok-end.ensures.ok
           (subst (λ l. HasWritten c.args.placement c.chunks.mid_word (take end l) (drop done (take end l)) after (g.W.Sink.taken c.chunks.sink) (g.W.Sink.taken c.write_chunk.new.sink)) same c.in_ok-done.ensures.ok)

@@ -7,3 +7,6 @@ returns-clause-reads c = grind (arith, common_steps)
 
 pub returns-clause-run : goal.returns-clause-run
 returns-clause-run c = grind (arith, common_steps)
+
+pub close-requires-clause-innermost : goal.close-requires-clause-innermost
+close-requires-clause-innermost c = grind (arith, common_steps)

@@ -1,7 +1,8 @@
-use Rattle.std.proofs.Common.{◌≡◌, ap, length, arith}
-use Rattle.std.proofs.lemmas.List.{length-drop}
+use Rattle.std.proofs.Common.{◌≡◌, ap, length, arith, rules}
+use Rattle.std.proofs.lemmas.List.{length-drop, get_or_read}
+use Rattle.std.proofs.lemmas.Grind.{common_steps}
 use Rattle.demangle_text.specs.State.{saved, scopes}
-use Rattle.itanium_reader.specs.Parser.{ParserState}
+use Rattle.itanium_reader.specs.Parser.{ParserState, thunk_front}
 use Rattle.itanium_reader.proofs.reader.Reader.open_thunk.Goals as goal
 
 pub returns-in_ok-words-in-Covariant-clause-bounds : goal.returns-in_ok-words-in-Covariant-clause-bounds
@@ -67,3 +68,16 @@ returns-in_ok-words-in-Covariant-clause-saved c =
       list = omega (arith, left, one, ap length same, c.in-Some.ensures.within, c.requires.some);
       most = omega (arith, most, ap length same, ap (λ (s : ParserState). length s.saved) c.skip.ensures.state);
     }
+
+pub returns-in_ok-words-in-Single-clause-last : goal.returns-in_ok-words-in-Single-clause-last
+returns-in_ok-words-in-Single-clause-last c = grind (arith, common_steps)
+
+pub returns-in_ok-words-in-Single-clause-bounds : goal.returns-in_ok-words-in-Single-clause-bounds
+returns-in_ok-words-in-Single-clause-bounds c = search (rules, get_or_read)
+
+pub returns-in_ok-words-in-Covariant-clause-reads : goal.returns-in_ok-words-in-Covariant-clause-reads
+unfolding thunk_front
+returns-in_ok-words-in-Covariant-clause-reads c = grind (arith, common_steps)
+
+pub returns-in_ok-words-in-Covariant-clause-last : goal.returns-in_ok-words-in-Covariant-clause-last
+returns-in_ok-words-in-Covariant-clause-last c = grind (arith, common_steps)

@@ -7,3 +7,6 @@ returns-then-context-clause-reads c = grind (arith, parameters)
 
 pub returns-clause-reads : goal.returns-clause-reads
 returns-clause-reads c = grind (arith, parameters)
+
+pub returns-in_default-arg-clause-reads : goal.returns-in_default-arg-clause-reads
+returns-in_default-arg-clause-reads c = grind (arith, parameters)
