@@ -20,7 +20,7 @@ returns-in-Stop c =
     let at = c.loop-at.at in
     let inside : at < length all = omega arith in
     record {
-      asked =
+      request =
           subst (λ s. AsksFor s (Stopped c.in-Stop.stop c.loop-at.last))
           (sym (stop_turn all at record { ref_ptr = (0, 0); now = [] } _ c.loop-at.state c.in-Stop.stop _ _ inside c.in-Stop.is c.loop-at.invariant)) (refl, refl);
     }
@@ -33,7 +33,7 @@ returns-in-End c =
     let read_all = go_turn all at _ _ c.loop-at.state c.in-Go.flags _ _ End inside c.in-Go.is (sym c.kind_of.ensures.value ∙ c.in-End.is) c.loop-at.invariant
     ∙ read_ended c.in-Go.flags (texts c.loop-at.symbols.items) (drop (at + 1) (texts all)) in
     record {
-      asked =
+      request =
           subst (λ s. AsksFor s (Symbols c.in-Go.flags c.extend_from_slice.new.self)) (sym read_all)
           (refl, symbols_after c.loop-at.symbols.items c.extend_from_slice.new.self.items all (at + 1) c.in_ok-extend_from_slice-in-End.ensures.items);
     }
