@@ -5,7 +5,7 @@ use Rattle.demangle_text.specs.Pieces.{Store, IsSpilled}
 use Rattle.growing_text.specs.Room.{HasGap}
 use Rattle.demangle_text.specs.View.{store_of}
 use Rattle.demangle_text.specs.State.{KeepsAll}
-use Rattle.demangle_text.proofs.States.{on_err_from}
+use Rattle.demangle_text.proofs.States.{on_err_from, states}
 use Rattle.demangle_text.proofs.Carried.{KeepsAll-spilled}
 use Rattle.demangle_text.proofs.Gaps.{length-gap, IsStore-opened, IsGap-opened}
 use Rattle.demangle_text.proofs.buffer.Buffer.open_gap.Goals as goal
@@ -87,3 +87,54 @@ returns-clause-gap c =
     a.saved_apart a.args_apart c.shift.ensures.value c.shift-2.ensures.value
     c.self.invariant (low s _ at c.self.view_is c.requires.inner) (place s _ at c.self.view_is c.requires.within)
     c.len-len.ensures.value (moved_by c) _ (room _ _ _ c.args.at _ c.reserve.ensures.same c.in_ok-open_room.ensures.ok))
+
+pub torn_len-requires : goal.torn_len-requires
+torn_len-requires c = grind arith
+
+pub invariant_of-self : goal.invariant_of-self
+invariant_of-self c = grind arith
+
+pub returns-in_err-reserve : goal.returns-in_err-reserve
+returns-in_err-reserve c = grind arith
+
+pub invariant_of-self-in_err-reserve-2 : goal.invariant_of-self-in_err-reserve-2
+invariant_of-self-in_err-reserve-2 c = grind arith
+
+pub returns-in_err-reserve-2 : goal.returns-in_err-reserve-2
+returns-in_err-reserve-2 c = grind arith
+
+pub spill_torn-requires : goal.spill_torn-requires
+spill_torn-requires c = grind arith
+
+pub invariant_of-self-in_err-spill_torn : goal.invariant_of-self-in_err-spill_torn
+invariant_of-self-in_err-spill_torn c = grind (arith, states)
+
+pub returns-in_err-spill_torn-clause-gap : goal.returns-in_err-spill_torn-clause-gap
+returns-in_err-spill_torn-clause-gap c = grind arith
+
+pub returns-in_err-spill_torn-clause-main_err : goal.returns-in_err-spill_torn-clause-main_err
+returns-in_err-spill_torn-clause-main_err c = grind arith
+
+pub open_room-requires : goal.open_room-requires
+open_room-requires c = grind arith
+
+pub invariant_of-self-in_err-open_room : goal.invariant_of-self-in_err-open_room
+invariant_of-self-in_err-open_room c = grind arith
+
+pub returns-in_err-open_room-clause-gap : goal.returns-in_err-open_room-clause-gap
+returns-in_err-open_room-clause-gap c = grind arith
+
+pub returns-in_err-open_room-clause-main_err : goal.returns-in_err-open_room-clause-main_err
+returns-in_err-open_room-clause-main_err c = grind arith
+
+pub shift-requires-clause-ordered : goal.shift-requires-clause-ordered
+shift-requires-clause-ordered c = grind arith
+
+pub shift-requires-clause-block : goal.shift-requires-clause-block
+shift-requires-clause-block c = grind arith
+
+pub shift-requires-clause-apart : goal.shift-requires-clause-apart
+shift-requires-clause-apart c = grind arith
+
+pub shift-requires-2 : goal.shift-requires-2
+shift-requires-2 c = grind arith
