@@ -142,24 +142,24 @@ source_takes bytes found e = option_and_then_some _ (number bytes) found e (λ n
 
 pub std_shorter : (bytes : List ℕ) → first_case bytes ≡ StdFirst → length (drop 2 bytes) < length bytes
 std_shorter [] e = cc
-std_shorter (b ∷ bytes) e = (takes_drop 2 (b ∷ bytes) (omega arith) (omega arith)).shorter
+std_shorter (b ∷ bytes) _ = (takes_drop 2 (b ∷ bytes) (omega arith) (omega arith)).shorter
 
 pub segments_end_shorter : (bytes : List ℕ) → segment_case bytes ≡ EndOfSegments → length (drop 1 bytes) < length bytes
 segments_end_shorter [] e = cc
-segments_end_shorter (b ∷ bytes) e = omega arith
+segments_end_shorter (b ∷ bytes) _ = omega arith
 
 pub arguments_end_shorter : (bytes : List ℕ) → argument_list_case bytes ≡ EndOfArguments → length (drop 1 bytes) < length bytes
 arguments_end_shorter [] e = cc
-arguments_end_shorter (b ∷ bytes) e = omega arith
+arguments_end_shorter (b ∷ bytes) _ = omega arith
 
 -- a list has its I
 pub attached_some : (bytes : List ℕ) → attached_case bytes ≡ ArgsAttached → 0 < length bytes
 attached_some [] e = cc
-attached_some (b ∷ bytes) e = omega arith
+attached_some (b ∷ bytes) _ = omega arith
 
 pub segment_args_some : (bytes : List ℕ) → segment_case bytes ≡ ArgsSegment → 0 < length bytes
 segment_args_some [] e = cc
-segment_args_some (b ∷ bytes) e = omega arith
+segment_args_some (b ∷ bytes) _ = omega arith
 
 past_builtin_shorter : (bytes : List ℕ) → 0 < length bytes → length (past_builtin bytes) < length bytes
 past_builtin_shorter bytes some = go (begins (codes "D") bytes)
@@ -170,7 +170,7 @@ past_builtin_shorter bytes some = go (begins (codes "D") bytes)
 
 pub builtin_shorter : (bytes : List ℕ) → type_case bytes ≡ BuiltinType → length (past_builtin bytes) < length bytes
 builtin_shorter [] e = cc
-builtin_shorter (b ∷ bytes) e = past_builtin_shorter (b ∷ bytes) (omega arith)
+builtin_shorter (b ∷ bytes) _ = past_builtin_shorter (b ∷ bytes) (omega arith)
 
 pub builtin_after : (bytes : List ℕ) → IsAfter (past_builtin bytes) bytes
 builtin_after bytes = go (begins (codes "D") bytes)
@@ -181,45 +181,45 @@ builtin_after bytes = go (begins (codes "D") bytes)
 
 pub abbreviation_takes : (bytes : List ℕ) (known : Abbreviation) → abbreviation_of bytes ≡ Some known → Takes (drop 1 bytes) bytes
 abbreviation_takes [] known e = cc
-abbreviation_takes (b ∷ bytes) known e = takes_drop 1 (b ∷ bytes) (omega arith) (omega arith)
+abbreviation_takes (b ∷ bytes) known _ = takes_drop 1 (b ∷ bytes) (omega arith) (omega arith)
 
 pub constructor_some : (bytes : List ℕ) → unqualified_case true bytes ≡ ConstructorName → 0 < length bytes
 constructor_some [] e = cc
-constructor_some (b ∷ bytes) e = omega arith
+constructor_some (b ∷ bytes) _ = omega arith
 
 pub destructor_some : (bytes : List ℕ) → unqualified_case true bytes ≡ DestructorName → 0 < length bytes
 destructor_some [] e = cc
-destructor_some (b ∷ bytes) e = omega arith
+destructor_some (b ∷ bytes) _ = omega arith
 
 pub types_end_some : (of_function : Bool) (bytes : List ℕ) → type_list_case AtE of_function bytes ≡ EndOfTypes → 0 < length bytes
 types_end_some true [] e = cc
 types_end_some false [] e = cc
-types_end_some of_function (b ∷ bytes) e = omega arith
+types_end_some of_function (b ∷ bytes) _ = omega arith
 
 -- these types have a letter of their own
 pub array_some : (bytes : List ℕ) → type_case bytes ≡ ArrayType → 0 < length bytes
 array_some [] e = cc
-array_some (b ∷ bytes) e = omega arith
+array_some (b ∷ bytes) _ = omega arith
 
 pub member_some : (bytes : List ℕ) → type_case bytes ≡ PointerToMemberType → 0 < length bytes
 member_some [] e = cc
-member_some (b ∷ bytes) e = omega arith
+member_some (b ∷ bytes) _ = omega arith
 
 pub function_some : (bytes : List ℕ) → type_case bytes ≡ FunctionType → 0 < length bytes
 function_some [] e = cc
-function_some (b ∷ bytes) e = omega arith
+function_some (b ∷ bytes) _ = omega arith
 
 pub pointer_some : (bytes : List ℕ) (kind : Pointer) → type_case bytes ≡ PointerType kind → 0 < length bytes
 pointer_some [] kind e = cc
-pointer_some (b ∷ bytes) kind e = omega arith
+pointer_some (b ∷ bytes) kind _ = omega arith
 
 pub cv_function_some : (bytes : List ℕ) → cv_case bytes ≡ CvFunction → 0 < length bytes
 cv_function_some [] e = cc
-cv_function_some (b ∷ bytes) e = omega arith
+cv_function_some (b ∷ bytes) _ = omega arith
 
 pub no_params_some : (end : EncodingEnd) (bytes : List ℕ) → params_case end bytes ≡ NoParams → 0 < length bytes
 no_params_some end [] e = cc
-no_params_some end (b ∷ bytes) e = omega arith
+no_params_some end (b ∷ bytes) _ = omega arith
 
 -- a letter that stands there is gone past
 letter_shorter : (letter : ℕ) (bytes : List ℕ) → begins (letter ∷ []) bytes ≡ true → length (past_letter letter bytes) < length bytes
@@ -240,112 +240,112 @@ cv_shorter (b ∷ bytes) e = go (b == 114) (b == 86) (b == 75) refl refl refl e
 -- these names have a letter
 pub lambda_some : (bytes : List ℕ) → ordinary_case bytes ≡ LambdaName → 0 < length bytes
 lambda_some [] e = cc
-lambda_some (b ∷ bytes) e = omega arith
+lambda_some (b ∷ bytes) _ = omega arith
 
 pub conversion_some : (bytes : List ℕ) → ordinary_case bytes ≡ ConversionName → 0 < length bytes
 conversion_some [] e = cc
-conversion_some (b ∷ bytes) e = omega arith
+conversion_some (b ∷ bytes) _ = omega arith
 
 pub unnamed_type_some : (bytes : List ℕ) → ordinary_case bytes ≡ UnnamedTypeName → 0 < length bytes
 unnamed_type_some [] e = cc
-unnamed_type_some (b ∷ bytes) e = omega arith
+unnamed_type_some (b ∷ bytes) _ = omega arith
 
 pub literal_operator_some : (bytes : List ℕ) → ordinary_case bytes ≡ LiteralOperatorName → 0 < length bytes
 literal_operator_some [] e = cc
-literal_operator_some (b ∷ bytes) e = omega arith
+literal_operator_some (b ∷ bytes) _ = omega arith
 
 pub operator_some : (bytes : List ℕ) → ordinary_case bytes ≡ OperatorName → 0 < length bytes
 operator_some [] e = cc
-operator_some (b ∷ bytes) e = omega arith
+operator_some (b ∷ bytes) _ = omega arith
 
 pub pack_some : (bytes : List ℕ) → argument_case bytes ≡ PackArgument → 0 < length bytes
 pack_some [] e = cc
-pack_some (b ∷ bytes) e = omega arith
+pack_some (b ∷ bytes) _ = omega arith
 
 pub expansion_some : (bytes : List ℕ) → type_case bytes ≡ ExpansionType → 0 < length bytes
 expansion_some [] e = cc
-expansion_some (b ∷ bytes) e = omega arith
+expansion_some (b ∷ bytes) _ = omega arith
 
 -- what follows an encoding has its E
 pub string_literal_some : (bytes : List ℕ) → entity_case bytes ≡ StringLiteralEntity → 0 < length bytes
 string_literal_some [] e = cc
-string_literal_some (b ∷ bytes) e = omega arith
+string_literal_some (b ∷ bytes) _ = omega arith
 
 pub default_argument_some : (bytes : List ℕ) → entity_case bytes ≡ DefaultArgumentEntity → 0 < length bytes
 default_argument_some [] e = cc
-default_argument_some (b ∷ bytes) e = omega arith
+default_argument_some (b ∷ bytes) _ = omega arith
 
 pub entity_some : (bytes : List ℕ) → entity_case bytes ≡ NameEntity → 0 < length bytes
 entity_some [] e = cc
-entity_some (b ∷ bytes) e = omega arith
+entity_some (b ∷ bytes) _ = omega arith
 
 pub ruleset entities_some = (string_literal_some, default_argument_some, entity_some)
 
 -- these expressions have a byte
 pub pre_some : (bytes : List ℕ) → expression_case bytes ≡ PreExpression → 0 < length bytes
 pre_some [] e = cc
-pre_some (b ∷ bytes) e = omega arith
+pre_some (b ∷ bytes) _ = omega arith
 
 pub address_some : (bytes : List ℕ) → expression_case bytes ≡ AddressExpression → 0 < length bytes
 address_some [] e = cc
-address_some (b ∷ bytes) e = omega arith
+address_some (b ∷ bytes) _ = omega arith
 
 pub unary_some : (bytes : List ℕ) → expression_case bytes ≡ UnaryExpression → 0 < length bytes
 unary_some [] e = cc
-unary_some (b ∷ bytes) e = omega arith
+unary_some (b ∷ bytes) _ = omega arith
 
 pub post_some : (bytes : List ℕ) → expression_case bytes ≡ PostExpression → 0 < length bytes
 post_some [] e = cc
-post_some (b ∷ bytes) e = omega arith
+post_some (b ∷ bytes) _ = omega arith
 
 pub binary_some : (bytes : List ℕ) → expression_case bytes ≡ BinaryExpression → 0 < length bytes
 binary_some [] e = cc
-binary_some (b ∷ bytes) e = omega arith
+binary_some (b ∷ bytes) _ = omega arith
 
 pub greater_some : (bytes : List ℕ) → expression_case bytes ≡ GreaterExpression → 0 < length bytes
 greater_some [] e = cc
-greater_some (b ∷ bytes) e = omega arith
+greater_some (b ∷ bytes) _ = omega arith
 
 pub conditional_some : (bytes : List ℕ) → expression_case bytes ≡ ConditionalExpression → 0 < length bytes
 conditional_some [] e = cc
-conditional_some (b ∷ bytes) e = omega arith
+conditional_some (b ∷ bytes) _ = omega arith
 
 pub primary_some : (bytes : List ℕ) → expression_case bytes ≡ PrimaryExpression → 0 < length bytes
 primary_some [] e = cc
-primary_some (b ∷ bytes) e = omega arith
+primary_some (b ∷ bytes) _ = omega arith
 
 pub ruleset expressions_some = (pre_some, address_some, unary_some, post_some, binary_some, greater_some, conditional_some, primary_some)
 
 pub expression_argument_some : (bytes : List ℕ) → argument_case bytes ≡ ExpressionArgument → 0 < length bytes
 expression_argument_some [] e = cc
-expression_argument_some (b ∷ bytes) e = omega arith
+expression_argument_some (b ∷ bytes) _ = omega arith
 
 pub literal_argument_some : (bytes : List ℕ) → argument_case bytes ≡ PrimaryArgument → 0 < length bytes
 literal_argument_some [] e = cc
-literal_argument_some (b ∷ bytes) e = omega arith
+literal_argument_some (b ∷ bytes) _ = omega arith
 
 pub ruleset arguments_some = (expression_argument_some, literal_argument_some)
 
 -- these special names have a byte
 pub type_special_some : (bytes : List ℕ) → special_case bytes ≡ TypeSpecial → 0 < length bytes
 type_special_some [] e = cc
-type_special_some (b ∷ bytes) e = omega arith
+type_special_some (b ∷ bytes) _ = omega arith
 
 pub name_special_some : (bytes : List ℕ) → special_case bytes ≡ NameSpecial → 0 < length bytes
 name_special_some [] e = cc
-name_special_some (b ∷ bytes) e = omega arith
+name_special_some (b ∷ bytes) _ = omega arith
 
 pub temporary_some : (bytes : List ℕ) → special_case bytes ≡ TemporarySpecial → 0 < length bytes
 temporary_some [] e = cc
-temporary_some (b ∷ bytes) e = omega arith
+temporary_some (b ∷ bytes) _ = omega arith
 
 pub construction_some : (bytes : List ℕ) → special_case bytes ≡ ConstructionSpecial → 0 < length bytes
 construction_some [] e = cc
-construction_some (b ∷ bytes) e = omega arith
+construction_some (b ∷ bytes) _ = omega arith
 
 pub thunk_some : (bytes : List ℕ) → special_case bytes ≡ ThunkSpecial → 0 < length bytes
 thunk_some [] e = cc
-thunk_some (b ∷ bytes) e = omega arith
+thunk_some (b ∷ bytes) _ = omega arith
 
 -- an encoding that ends after its name has a name alone
 pub alone_after_name : (bytes : List ℕ) → encoding_case AfterName bytes ≡ FullEncoding → ⊥
@@ -379,7 +379,7 @@ pub ruleset cases = (
 
 begins_some : (bytes : List ℕ) → begins (codes "_") bytes ≡ true → 0 < length bytes
 begins_some [] e = cc
-begins_some (b ∷ bytes) e = omega arith
+begins_some (b ∷ bytes) _ = omega arith
 
 -- a value, and the `_` after it
 pub ended_takes : {A : Type 0} (front : Option (A × List ℕ)) (bytes : List ℕ) (found : A × List ℕ)
@@ -424,7 +424,7 @@ ordinal_takes bytes found e = following_takes (index_of Decimal bytes) bytes fou
 pub operator_takes : (bytes text : List ℕ) → operator_here bytes ≡ Some text → Takes (drop 2 bytes) bytes
 operator_takes [] text e = cc
 operator_takes (a ∷ []) text e = cc
-operator_takes (a ∷ b ∷ bytes) text e = takes_drop 2 (a ∷ b ∷ bytes) (omega arith) (omega arith)
+operator_takes (a ∷ b ∷ bytes) text _ = takes_drop 2 (a ∷ b ∷ bytes) (omega arith) (omega arith)
 
 pub optional_number_takes : (bytes : List ℕ) (found : Option ℕ × List ℕ) → optional_number bytes ≡ Some found → Takes found.1 bytes
 unfolding optional_number

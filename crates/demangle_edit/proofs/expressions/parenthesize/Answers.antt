@@ -1,3 +1,4 @@
+use Rattle.std.proofs.Common.{arith}
 use Rattle.demangle_text.proofs.Laws.{StaysInPlace-edit, StaysInPlace-trans, StaysInPlace-of, StaysInPlace-named}
 use Rattle.demangle_edit.proofs.expressions.parenthesize.Goals as goal
 
@@ -8,3 +9,15 @@ returns-clause-in_place c =
     let at_closed = StaysInPlace-trans _ _ _ _ _ _ c.in_ok-opened.ensures.edit at_opened (StaysInPlace-edit _ _ _ _ _ c.in_ok-closed.ensures.edit_of) in
     let at_whole = StaysInPlace-named _ _ _ _ c.whole-whole.result at_closed c.whole-whole.ensures.stands in
     StaysInPlace-named _ _ _ _ c.with_flags.result at_whole c.with_flags.ensures.stands
+
+pub returns-in_err-opened : goal.returns-in_err-opened
+returns-in_err-opened c = grind arith
+
+pub returns-in_err-closed : goal.returns-in_err-closed
+returns-in_err-closed c = grind arith
+
+pub returns-clause-shape : goal.returns-clause-shape
+returns-clause-shape c = grind arith
+
+pub returns-clause-edit : goal.returns-clause-edit
+returns-clause-edit c = grind arith

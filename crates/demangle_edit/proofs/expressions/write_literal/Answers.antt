@@ -6,7 +6,7 @@ use Rattle.demangle_edit.specs.declared.expressions.LiteralForm.{LiteralForm}
 use Rattle.demangle_edit.specs.declared.expressions.LiteralForm.TheVariants.{Float}
 use Rattle.demangle_edit.specs.Calls.{IsPut}
 use Rattle.demangle_edit.specs.Expressions as spec
-use Rattle.std.proofs.lemmas.Grind.{common_steps}
+use Rattle.std.proofs.lemmas.Grind.{common_steps, elements}
 use Rattle.demangle_edit.proofs.expressions.write_literal.Goals as goal
 
 pub returns-in_ok-literal-in-Boolean-clause-put : goal.returns-in_ok-literal-in-Boolean-clause-put
@@ -41,3 +41,90 @@ returns-in_ok-closed-in-Float-clause-put c =
     let form : Float ≡ spec.literal_form (text (shape old c.args.ty)) (spec.is_minus c.args.value.now) = search rules in
     subst (λ (f : LiteralForm). IsPut f old c.append-in-Float-2.new.self c.args.ty c.whole-literal.result) form
     (AppendsPiece-named _ _ _ c.whole-literal.result closed c.whole-literal.ensures.stands)
+
+pub returns-in_err-literal-in-Boolean : goal.returns-in_err-literal-in-Boolean
+returns-in_err-literal-in-Boolean c = grind arith
+
+pub returns-in_err-literal-in-Boolean-2 : goal.returns-in_err-literal-in-Boolean-2
+returns-in_err-literal-in-Boolean-2 c = grind arith
+
+pub returns-in-Boolean-3 : goal.returns-in-Boolean-3
+returns-in-Boolean-3 c = grind arith
+
+pub returns-in_err-literal-in-Null : goal.returns-in_err-literal-in-Null
+returns-in_err-literal-in-Null c = grind (arith, elements)
+
+pub returns-in_err-empty-in-Integer : goal.returns-in_err-empty-in-Integer
+returns-in_err-empty-in-Integer c = grind arith
+
+pub append_value-requires : goal.append_value-requires
+append_value-requires c = grind arith
+
+pub returns-in_err-literal-in-Integer : goal.returns-in_err-literal-in-Integer
+returns-in_err-literal-in-Integer c = grind arith
+
+pub returns-in_err-signed-in-Float : goal.returns-in_err-signed-in-Float
+returns-in_err-signed-in-Float c = grind arith
+
+pub append-requires : goal.append-requires
+append-requires c = grind arith
+
+pub returns-in_err-opened-in-Float : goal.returns-in_err-opened-in-Float
+returns-in_err-opened-in-Float c = grind (arith, elements)
+
+pub append-requires-in-Float : goal.append-requires-in-Float
+append-requires-in-Float c = grind arith
+
+pub returns-in_err-filled-in-Float : goal.returns-in_err-filled-in-Float
+returns-in_err-filled-in-Float c = grind arith
+
+pub append-requires-in-Float-2 : goal.append-requires-in-Float-2
+append-requires-in-Float-2 c = grind arith
+
+pub returns-in_err-closed-in-Float : goal.returns-in_err-closed-in-Float
+returns-in_err-closed-in-Float c = grind arith
+
+pub whole-literal-requires : goal.whole-literal-requires
+whole-literal-requires c = grind arith
+
+pub returns-in_err-cast-in-Cast : goal.returns-in_err-cast-in-Cast
+returns-in_err-cast-in-Cast c = grind arith
+
+pub append_value-requires-in-Cast : goal.append_value-requires-in-Cast
+append_value-requires-in-Cast c = grind arith
+
+pub returns-in_err-literal-in-Cast : goal.returns-in_err-literal-in-Cast
+returns-in_err-literal-in-Cast c = grind arith
+
+pub returns-in_ok-literal-in-Boolean-clause-shape : goal.returns-in_ok-literal-in-Boolean-clause-shape
+returns-in_ok-literal-in-Boolean-clause-shape c = grind arith
+
+pub returns-in_ok-literal-in-Boolean-clause-edit : goal.returns-in_ok-literal-in-Boolean-clause-edit
+returns-in_ok-literal-in-Boolean-clause-edit c = grind arith
+
+pub returns-in_ok-literal-in-Boolean-2-clause-shape : goal.returns-in_ok-literal-in-Boolean-2-clause-shape
+returns-in_ok-literal-in-Boolean-2-clause-shape c = grind arith
+
+pub returns-in_ok-literal-in-Null-clause-shape : goal.returns-in_ok-literal-in-Null-clause-shape
+returns-in_ok-literal-in-Null-clause-shape c = grind arith
+
+pub returns-in_ok-literal-in-Null-clause-edit : goal.returns-in_ok-literal-in-Null-clause-edit
+returns-in_ok-literal-in-Null-clause-edit c = grind arith
+
+pub returns-in_ok-literal-in-Integer-clause-shape : goal.returns-in_ok-literal-in-Integer-clause-shape
+returns-in_ok-literal-in-Integer-clause-shape c = grind arith
+
+pub returns-in_ok-literal-in-Integer-clause-edit : goal.returns-in_ok-literal-in-Integer-clause-edit
+returns-in_ok-literal-in-Integer-clause-edit c = grind arith
+
+pub returns-in_ok-closed-in-Float-clause-shape : goal.returns-in_ok-closed-in-Float-clause-shape
+returns-in_ok-closed-in-Float-clause-shape c = grind arith
+
+pub returns-in_ok-closed-in-Float-clause-edit : goal.returns-in_ok-closed-in-Float-clause-edit
+returns-in_ok-closed-in-Float-clause-edit c = grind arith
+
+pub returns-in_ok-literal-in-Cast-clause-edit : goal.returns-in_ok-literal-in-Cast-clause-edit
+returns-in_ok-literal-in-Cast-clause-edit c = grind arith
+
+pub returns-in_ok-literal-in-Cast-clause-put : goal.returns-in_ok-literal-in-Cast-clause-put
+returns-in_ok-literal-in-Cast-clause-put c = grind arith

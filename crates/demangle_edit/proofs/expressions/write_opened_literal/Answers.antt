@@ -1,4 +1,4 @@
-use Rattle.std.proofs.Common.{rules, ◌≡◌, subst}
+use Rattle.std.proofs.Common.{rules, ◌≡◌, subst, arith}
 use Rattle.demangle_text.specs.Shape.{text}
 use Rattle.demangle_text.specs.State.{shape}
 use Rattle.demangle_text.proofs.Laws.{IsEdit-trans, StaysInPlace-edit, JoinsInPlace-join, JoinsInPlace-named, JoinsInPlace-trans}
@@ -19,3 +19,27 @@ returns-in_ok-append_value-in-Cast-clause-put c =
     let form : Cast ≡ spec.literal_form (text (shape old c.args.ty)) (spec.is_minus c.args.value.now) = search rules in
     subst (λ (f : LiteralForm). IsPutAfter f old c.append_value.new.buf c.args.paren c.args.ty c.in_ok-append_value-in-Cast.field-0) form
     (JoinsInPlace-trans _ _ _ _ _ _ _ edit cast c.in_ok-append_value-in-Cast.ensures.in_place)
+
+pub returns-in_err-opened-in-Cast : goal.returns-in_err-opened-in-Cast
+returns-in_err-opened-in-Cast c = grind arith
+
+pub append-requires : goal.append-requires
+append-requires c = grind arith
+
+pub returns-in_err-closed-in-Cast : goal.returns-in_err-closed-in-Cast
+returns-in_err-closed-in-Cast c = grind arith
+
+pub whole-cast-requires : goal.whole-cast-requires
+whole-cast-requires c = grind arith
+
+pub returns-in_err-append_value-in-Cast : goal.returns-in_err-append_value-in-Cast
+returns-in_err-append_value-in-Cast c = grind arith
+
+pub returns-in_ok-append_value-in-Cast-clause-shape : goal.returns-in_ok-append_value-in-Cast-clause-shape
+returns-in_ok-append_value-in-Cast-clause-shape c = grind arith
+
+pub returns-in_ok-append_value-in-Cast-clause-edit : goal.returns-in_ok-append_value-in-Cast-clause-edit
+returns-in_ok-append_value-in-Cast-clause-edit c = grind arith
+
+pub returns-in_default : goal.returns-in_default
+returns-in_default c = grind arith

@@ -33,3 +33,9 @@ returns-clause-shape c =
     ap (λ (t : Shape). appended (text_after new list) t) same ∙ ap (λ (v : List ℕ). appended v s) after
     ∙ sym (appended_twice more end s) ∙ ap (λ (v : List ℕ). appended v (appended more s)) end_is in
     subst (λ (t : Shape). Lives new c.up_to_end.result t) is c.up_to_end.ensures.shape
+
+pub returns-in_err-push : goal.returns-in_err-push
+returns-in_err-push c = grind arith
+
+pub up_to_end-requires : goal.up_to_end-requires
+up_to_end-requires c = grind arith

@@ -47,3 +47,15 @@ returns-clause-shape c = grind (arith, common_steps)
 
 pub returns-clause-edit : goal.returns-clause-edit
 returns-clause-edit c = grind (arith, common_steps)
+
+pub returns-in_err-all : goal.returns-in_err-all
+returns-in_err-all c = grind arith
+
+pub loop-part-init : goal.loop-part-init
+loop-part-init c = grind arith
+
+pub returns-in_err-longer-in-Text : goal.returns-in_err-longer-in-Text
+returns-in_err-longer-in-Text c = grind arith
+
+pub returns-in_err-all-in-Piece : goal.returns-in_err-all-in-Piece
+returns-in_err-all-in-Piece c = grind arith

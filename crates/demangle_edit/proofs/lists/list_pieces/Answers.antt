@@ -33,3 +33,12 @@ returns-clause-appends c =
 
 pub returns-clause-kept : goal.returns-clause-kept
 returns-clause-kept c = grind (arith, common_steps)
+
+pub returns-in_err-list : goal.returns-in_err-list
+returns-in_err-list c = grind arith
+
+pub loop-i-init : goal.loop-i-init
+loop-i-init c = grind arith
+
+pub returns-in_err-list-2 : goal.returns-in_err-list-2
+returns-in_err-list-2 c = grind arith

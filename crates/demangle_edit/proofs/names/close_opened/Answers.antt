@@ -18,3 +18,15 @@ overflow_add-before-2 c = grind (arith, common_steps)
 
 pub own_at-named-requires-clause-within : goal.own_at-named-requires-clause-within
 own_at-named-requires-clause-within c = grind (arith, common_steps)
+
+pub returns-in_err-whole : goal.returns-in_err-whole
+returns-in_err-whole c = grind arith
+
+pub own_at-named-requires-clause-living : goal.own_at-named-requires-clause-living
+own_at-named-requires-clause-living c = grind arith
+
+pub own_at-named-requires-clause-kind : goal.own_at-named-requires-clause-kind
+own_at-named-requires-clause-kind c = grind arith
+
+pub returns-clause-edit : goal.returns-clause-edit
+returns-clause-edit c = grind arith

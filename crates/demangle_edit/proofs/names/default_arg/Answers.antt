@@ -25,3 +25,9 @@ returns-clause-appends c =
 
 pub returns-clause-edit : goal.returns-clause-edit
 returns-clause-edit c = grind (arith, common_steps)
+
+pub returns-in_err-opened : goal.returns-in_err-opened
+returns-in_err-opened c = grind arith
+
+pub returns-in_err-named : goal.returns-in_err-named
+returns-in_err-named c = grind arith

@@ -40,3 +40,24 @@ returns-in_err-list-2-clause-shape c = grind (arith, laws)
 
 pub returns-clause-edit : goal.returns-clause-edit
 returns-clause-edit c = grind (arith, common_steps)
+
+pub returns-in_err-list : goal.returns-in_err-list
+returns-in_err-list c = grind arith
+
+pub loop-i-init : goal.loop-i-init
+loop-i-init c = grind arith
+
+pub append_piece-requires : goal.append_piece-requires
+append_piece-requires c = grind arith
+
+pub returns-in_err-list-2-clause-edit : goal.returns-in_err-list-2-clause-edit
+returns-in_err-list-2-clause-edit c = grind arith
+
+pub returns-in_err-list-2-clause-appends : goal.returns-in_err-list-2-clause-appends
+returns-in_err-list-2-clause-appends c = grind arith
+
+pub returns-in_err-whole : goal.returns-in_err-whole
+returns-in_err-whole c = grind arith
+
+pub close-requires : goal.close-requires
+close-requires c = grind arith

@@ -11,3 +11,12 @@ returns-clause-in_place c =
 
 pub returns-clause-shape : goal.returns-clause-shape
 returns-clause-shape c = grind (arith, common_steps)
+
+pub returns-in_err-name : goal.returns-in_err-name
+returns-in_err-name c = grind arith
+
+pub returns-in_err-append_name : goal.returns-in_err-append_name
+returns-in_err-append_name c = grind arith
+
+pub returns-clause-edit : goal.returns-clause-edit
+returns-clause-edit c = grind arith

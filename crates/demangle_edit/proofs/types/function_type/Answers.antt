@@ -42,3 +42,36 @@ declare-requires-clause-within c = grind (arith, common_steps)
 
 pub returns-clause-edit : goal.returns-clause-edit
 returns-clause-edit c = grind (arith, declarators, laws)
+
+pub returns-then-is_some : goal.returns-then-is_some
+returns-then-is_some c = grind arith
+
+pub returns-in_err-list : goal.returns-in_err-list
+returns-in_err-list c = grind arith
+
+pub returns-in_err-begun : goal.returns-in_err-begun
+returns-in_err-begun c = grind arith
+
+pub returns-in_err-closed : goal.returns-in_err-closed
+returns-in_err-closed c = grind arith
+
+pub append-requires-2 : goal.append-requires-2
+append-requires-2 c = grind arith
+
+pub returns-in_err-worded : goal.returns-in_err-worded
+returns-in_err-worded c = grind arith
+
+pub append-requires-3 : goal.append-requires-3
+append-requires-3 c = grind arith
+
+pub returns-in_err-whole : goal.returns-in_err-whole
+returns-in_err-whole c = grind arith
+
+pub len-len-requires : goal.len-len-requires
+len-len-requires c = grind arith
+
+pub declare-requires-clause-living : goal.declare-requires-clause-living
+declare-requires-clause-living c = grind arith
+
+pub declare-requires-clause-plain : goal.declare-requires-clause-plain
+declare-requires-clause-plain c = grind arith

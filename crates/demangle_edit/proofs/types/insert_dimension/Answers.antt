@@ -1,4 +1,4 @@
-use Rattle.std.proofs.Common.{List, ℕ, ◌++◌, codes, ap, ◌∙◌, subst, IfOk}
+use Rattle.std.proofs.Common.{List, ℕ, ◌++◌, codes, ap, ◌∙◌, subst, IfOk, arith}
 use Rattle.demangle_text.specs.Shape.{Shape, inserted}
 use Rattle.demangle_text.specs.State.{shape, Lives}
 use Rattle.demangle_edit.proofs.Insertions.{inserted_thrice}
@@ -24,3 +24,15 @@ returns-clause-in_place c =
     IfOk-weaker c.insert-3.result _ _ (λ p k. StaysInPlace-trans _ _ _ _ _ _
     (IsEdit-trans _ _ _ c.in_ok-opened.ensures.edit c.in_ok-filled.ensures.edit) at_filled
     (StaysInPlace-edit _ _ _ _ _ k)) c.insert-3.ensures.edit_of
+
+pub returns-in_err-opened : goal.returns-in_err-opened
+returns-in_err-opened c = grind arith
+
+pub returns-in_err-filled : goal.returns-in_err-filled
+returns-in_err-filled c = grind arith
+
+pub insert-requires-3 : goal.insert-requires-3
+insert-requires-3 c = grind arith
+
+pub returns-clause-edit : goal.returns-clause-edit
+returns-clause-edit c = grind arith

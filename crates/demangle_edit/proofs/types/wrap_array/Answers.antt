@@ -1,5 +1,6 @@
 -- A dimension goes in front of the other dimensions of an array without a group.
 use Rattle.std.proofs.Common.{rules, ◌≡◌, ◌+◌, ◌-◌, false, min, Some, sym, ◌∙◌, arith, is_some}
+use Rattle.std.proofs.lemmas.Grind.{common_steps, elements}
 use Rattle.demangle_text.specs.declared.pieces.Kind.TheVariants.{Array}
 use Rattle.demangle_text.specs.Calls.{after_of, kind_of, group_of}
 use Rattle.demangle_text.specs.State.{shape}
@@ -28,3 +29,42 @@ returns-in_ok-longer-in-Some-Array-clause-in_place c =
     c.in_ok-longer-in-Some-Array.ensures.in_place) in
     let at_whole = StaysInPlace-named _ _ _ _ c.plain-whole.result at_longer c.plain-whole.ensures.stands in
     StaysInPlace-named _ _ _ _ c.declare-in-Some-Array.result at_whole c.declare-in-Some-Array.ensures.stands
+
+pub returns-in_err-longer-in-None : goal.returns-in_err-longer-in-None
+returns-in_err-longer-in-None c = grind arith
+
+pub declare-requires : goal.declare-requires
+declare-requires c = grind (arith, elements)
+
+pub insert_dimension-requires-in-Some : goal.insert_dimension-requires-in-Some
+insert_dimension-requires-in-Some c = grind arith
+
+pub returns-in_err-array-in-Some : goal.returns-in_err-array-in-Some
+returns-in_err-array-in-Some c = grind arith
+
+pub overflow_sub-len : goal.overflow_sub-len
+overflow_sub-len c = grind (arith, elements)
+
+pub declare-cut-requires : goal.declare-cut-requires
+declare-cut-requires c = grind (arith, elements)
+
+pub insert_dimension-requires-in-Some-Array : goal.insert_dimension-requires-in-Some-Array
+insert_dimension-requires-in-Some-Array c = grind arith
+
+pub returns-in_err-longer-in-Some-Array : goal.returns-in_err-longer-in-Some-Array
+returns-in_err-longer-in-Some-Array c = grind arith
+
+pub plain-whole-requires : goal.plain-whole-requires
+plain-whole-requires c = grind arith
+
+pub declare-requires-in-Some-Array : goal.declare-requires-in-Some-Array
+declare-requires-in-Some-Array c = grind (arith, common_steps)
+
+pub returns-in_ok-longer-in-None : goal.returns-in_ok-longer-in-None
+returns-in_ok-longer-in-None c = grind arith
+
+pub returns-in_ok-array-in-Some : goal.returns-in_ok-array-in-Some
+returns-in_ok-array-in-Some c = grind arith
+
+pub returns-in_ok-longer-in-Some-Array-clause-edit : goal.returns-in_ok-longer-in-Some-Array-clause-edit
+returns-in_ok-longer-in-Some-Array-clause-edit c = grind (arith, elements)

@@ -1,4 +1,4 @@
-use Rattle.std.proofs.Common.{◌≡◌, ◌≤◌, ℕ, List, [], ◌∷◌, length, Bool, true, false, Option, Some, None, rules, arith, refl, slice_index_or}
+use Rattle.std.proofs.Common.{◌≡◌, ◌≤◌, ℕ, List, [], ◌∷◌, length, Bool, true, false, Option, Some, None, rules, arith, refl, slice_index_or, tests}
 use Rattle.std.specs.Prelude.{◌==◌, if◌then◌else◌}
 use Rattle.std.proofs.lemmas.Grind.{common_steps}
 use Rattle.std.proofs.lemmas.Bool.Decides.{nat_tests}
@@ -46,3 +46,22 @@ returns-in-None c = elim c.in_default-2.branch [
   | in_default-2-via-in-103+in_default w ↦ grind (arith, common_steps)
   | in_default-2-via-in_default w ↦ record { case = no_code c.args.bytes.now c.in-len2-up.len_at_least (grind (arith, nat_tests)) (grind (arith, nat_tests)) (grind (arith, nat_tests)) (grind (arith, nat_tests)) (search rules) }
 ]
+
+pub returns-in-97-eq100 : goal.returns-in-97-eq100
+returns-in-97-eq100 c = grind (arith, common_steps)
+
+pub returns-in-84-default : goal.returns-in-84-default
+returns-in-84-default c = grind arith
+
+pub returns-in-95 : goal.returns-in-95
+returns-in-95 c = grind arith
+
+pub returns-in_default-rest-2 : goal.returns-in_default-rest-2
+returns-in_default-rest-2 c = grind arith
+
+-- the search takes long without the tests of the number of operands
+pub returns-in-Some : goal.returns-in-Some
+returns-in-Some c =
+    let one : (c.in-Some.field-0 == 1) ≡ false = search (tests, rules) in
+    let three : (c.in-Some.field-0 == 3) ≡ false = search (tests, rules) in
+    search (tests, rules)

@@ -1,6 +1,6 @@
 -- The bytes go after the text, which ends the output then, and the outline is that of the shape with the bytes.
 use Rattle.demangle_text.proofs.States.{states, internals, on_err_from}
-use Rattle.std.proofs.lemmas.Grind.{common_steps}
+use Rattle.std.proofs.lemmas.Grind.{common_steps, elements}
 use Rattle.std.proofs.Common.{◌≡◌, ◌-◌, ◌++◌, ℕ, OnOk, OnErr, length, refl, sym, ap, ◌∙◌, subst, arith}
 use Rattle.demangle_text.specs.declared.pieces.Place.TheVariants.{End}
 use Rattle.demangle_text.specs.Pieces.{IsAt, outline_of, own_at}
@@ -97,3 +97,29 @@ truncated_on_err-requires c = grind (arith, common_steps)
 pub invariant_of-self-in_err-truncated_on_err : goal.invariant_of-self-in_err-truncated_on_err
 unfolding internals
 invariant_of-self-in_err-truncated_on_err c = grind (arith, common_steps)
+
+pub invariant_of-self : goal.invariant_of-self
+invariant_of-self c = grind arith
+
+pub returns-in_err-from : goal.returns-in_err-from
+returns-in_err-from c = grind arith
+
+pub returns-in_err-truncated_on_err-clause-shape : goal.returns-in_err-truncated_on_err-clause-shape
+returns-in_err-truncated_on_err-clause-shape c = grind arith
+
+pub returns-in_err-truncated_on_err-clause-edit : goal.returns-in_err-truncated_on_err-clause-edit
+returns-in_err-truncated_on_err-clause-edit c = grind arith
+
+pub returns-in_err-truncated_on_err-clause-edit_of : goal.returns-in_err-truncated_on_err-clause-edit_of
+returns-in_err-truncated_on_err-clause-edit_of c = grind arith
+
+pub returns-in_err-truncated_on_err-clause-main_err : goal.returns-in_err-truncated_on_err-clause-main_err
+unfolding internals
+returns-in_err-truncated_on_err-clause-main_err c = grind (arith, common_steps)
+
+pub with_bytes-requires-clause-text : goal.with_bytes-requires-clause-text
+with_bytes-requires-clause-text c = grind (arith, elements)
+
+pub with_bytes-requires-clause-within : goal.with_bytes-requires-clause-within
+unfolding internals
+with_bytes-requires-clause-within c = grind (arith, common_steps)

@@ -1,5 +1,5 @@
 -- The bytes and the other text go after the text that ends the output then.
-use Rattle.demangle_text.proofs.States.{states}
+use Rattle.demangle_text.proofs.States.{states, internals}
 use Rattle.demangle_text.specs.State.{IsAsOld, IsOlder, Stands, frame, frame_start, inside, main_bytes, outermost, outside, saved, scopes, shape}
 use Rattle.std.proofs.Common.{arith}
 use Rattle.std.proofs.lemmas.Grind.{common_steps}
@@ -100,3 +100,26 @@ truncated_on_err-requires-2 c = grind (arith, common_steps)
 pub invariant_of-self-in_err-truncated_on_err-2 : goal.invariant_of-self-in_err-truncated_on_err-2
 unfolding IsLiving shape main_bytes Stands frame_start frame outermost IsOlder IsAsOld inside outside saved scopes
 invariant_of-self-in_err-truncated_on_err-2 c = grind (arith, common_steps)
+
+pub returns-in_err-from : goal.returns-in_err-from
+returns-in_err-from c = grind arith
+
+pub returns-in_err-truncated_on_err-clause-splice : goal.returns-in_err-truncated_on_err-clause-splice
+returns-in_err-truncated_on_err-clause-splice c = grind arith
+
+pub returns-in_err-truncated_on_err-clause-edit : goal.returns-in_err-truncated_on_err-clause-edit
+returns-in_err-truncated_on_err-clause-edit c = grind arith
+
+pub returns-in_err-truncated_on_err-clause-main_err : goal.returns-in_err-truncated_on_err-clause-main_err
+unfolding internals
+returns-in_err-truncated_on_err-clause-main_err c = grind (arith, common_steps)
+
+pub returns-in_err-truncated_on_err-2-clause-splice : goal.returns-in_err-truncated_on_err-2-clause-splice
+returns-in_err-truncated_on_err-2-clause-splice c = grind arith
+
+pub returns-in_err-truncated_on_err-2-clause-edit : goal.returns-in_err-truncated_on_err-2-clause-edit
+returns-in_err-truncated_on_err-2-clause-edit c = grind arith
+
+pub returns-in_err-truncated_on_err-2-clause-main_err : goal.returns-in_err-truncated_on_err-2-clause-main_err
+unfolding internals
+returns-in_err-truncated_on_err-2-clause-main_err c = grind (arith, common_steps)

@@ -1,6 +1,8 @@
 -- Bytes between two texts that meet at the end, or the first text and bytes in front of a second one there, or bytes and
 -- the second text after the first.
 use Rattle.std.proofs.Common.{rules, ◌-◌, length, ap, ◌∙◌, subst, arith}
+use Rattle.std.proofs.lemmas.Grind.{common_steps}
+use Rattle.demangle_text.proofs.States.{internals, states}
 use Rattle.demangle_text.specs.Pieces.{IsAt, IsTail, IsAdjacent, IsJoint, EndsBy, whole_outline}
 use Rattle.demangle_text.specs.State.{IsLiving}
 use Rattle.demangle_text.specs.View.{store_of}
@@ -94,3 +96,36 @@ returns-clause-join_of c =
     let k = c.len-2.ensures.value ∙ ap (λ b. length b.output_text) c.self-2.view_is in
     IsJoinOf-joint c.args.self.now c.extend_by.new.self c.args.first c.args.second c.whole_at-2.result c.args.bytes.now from c.requires.first_living c.requires.second_living (extended c)
     (subst (IsAt c.whole_at-2.result from) k c.whole_at-2.ensures.stands)
+
+pub returns-in_err-insert_at : goal.returns-in_err-insert_at
+unfolding internals
+returns-in_err-insert_at c = grind (arith, states)
+
+pub whole_at-requires : goal.whole_at-requires
+unfolding internals
+whole_at-requires c = grind (arith, common_steps)
+
+pub returns-then-is_tail-2-clause-edit : goal.returns-then-is_tail-2-clause-edit
+returns-then-is_tail-2-clause-edit c = grind arith
+
+pub insert_piece-requires : goal.insert_piece-requires
+unfolding internals
+insert_piece-requires c = grind (arith, states)
+
+pub returns-in_err-insert_piece : goal.returns-in_err-insert_piece
+unfolding internals
+returns-in_err-insert_piece c = grind (arith, states)
+
+pub whole_at-requires-then-first : goal.whole_at-requires-then-first
+unfolding internals
+whole_at-requires-then-first c = grind (arith, common_steps)
+
+pub returns-then-first-clause-edit : goal.returns-then-first-clause-edit
+returns-then-first-clause-edit c = grind arith
+
+pub returns-in_err-from : goal.returns-in_err-from
+unfolding internals
+returns-in_err-from c = grind (arith, states)
+
+pub returns-clause-edit : goal.returns-clause-edit
+returns-clause-edit c = grind arith

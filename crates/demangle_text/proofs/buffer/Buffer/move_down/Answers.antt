@@ -97,3 +97,30 @@ shift-requires-clause-block c = grind (arith, common_steps)
 pub shift-requires-2-clause-block : goal.shift-requires-2-clause-block
 unfolding IsLiving shape main_bytes Stands frame_start frame outermost IsOlder IsAsOld inside outside saved scopes
 shift-requires-2-clause-block c = grind (arith, common_steps)
+
+pub invariant_of-self : goal.invariant_of-self
+invariant_of-self c = grind arith
+
+pub returns-in_err-add_text : goal.returns-in_err-add_text
+returns-in_err-add_text c = grind arith
+
+pub returns-in_err-spill_torn : goal.returns-in_err-spill_torn
+returns-in_err-spill_torn c = grind arith
+
+pub keep-requires-clause-before : goal.keep-requires-clause-before
+keep-requires-clause-before c = grind arith
+
+pub shift-requires-clause-ordered : goal.shift-requires-clause-ordered
+shift-requires-clause-ordered c = grind arith
+
+pub shift-requires-clause-apart : goal.shift-requires-clause-apart
+shift-requires-clause-apart c = grind arith
+
+pub shift-requires-2-clause-ordered : goal.shift-requires-2-clause-ordered
+shift-requires-2-clause-ordered c = grind arith
+
+pub shift-requires-2-clause-apart : goal.shift-requires-2-clause-apart
+shift-requires-2-clause-apart c = grind arith
+
+pub shift-requires-2-clause-fits : goal.shift-requires-2-clause-fits
+shift-requires-2-clause-fits c = grind arith

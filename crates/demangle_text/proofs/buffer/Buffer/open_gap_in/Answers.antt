@@ -7,7 +7,7 @@ use Rattle.growing_text.specs.Gap.{HasGap}
 use Rattle.demangle_text.specs.Pieces.{Store, IsTail, IsTailAt, piece_text}
 use Rattle.demangle_text.specs.State.{IsLiving}
 use Rattle.demangle_text.specs.View.{store_of}
-use Rattle.demangle_text.proofs.States.{on_err_from}
+use Rattle.demangle_text.proofs.States.{on_err_from, internals}
 use Rattle.demangle_text.proofs.Tails.{length-text}
 use Rattle.demangle_text.proofs.AtEnd.{tail-is, KeepsAll-left, IsOpen-tail, IsOpen-copied, IsStore-copied}
 use Rattle.demangle_text.proofs.buffer.Buffer.open_gap_in.Goals as goal
@@ -89,3 +89,22 @@ invariant_of-self-in_err-truncated_on_err c = grind (arith, common_steps)
 pub returns-clause-fits : goal.returns-clause-fits
 unfolding IsLiving shape main_bytes Stands frame_start frame outermost IsOlder IsAsOld inside outside saved scopes
 returns-clause-fits c = grind (arith, common_steps)
+
+pub returns-in_err-open_gap : goal.returns-in_err-open_gap
+returns-in_err-open_gap c = grind arith
+
+pub invariant_of-self : goal.invariant_of-self
+invariant_of-self c = grind arith
+
+pub returns-in_err-add_text : goal.returns-in_err-add_text
+returns-in_err-add_text c = grind arith
+
+pub returns-in_err-truncated_on_err-clause-opened : goal.returns-in_err-truncated_on_err-clause-opened
+returns-in_err-truncated_on_err-clause-opened c = grind arith
+
+pub returns-in_err-truncated_on_err-clause-fits : goal.returns-in_err-truncated_on_err-clause-fits
+returns-in_err-truncated_on_err-clause-fits c = grind arith
+
+pub returns-in_err-truncated_on_err-clause-main_err : goal.returns-in_err-truncated_on_err-clause-main_err
+unfolding internals
+returns-in_err-truncated_on_err-clause-main_err c = grind (arith, common_steps)

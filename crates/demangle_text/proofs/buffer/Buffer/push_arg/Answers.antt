@@ -1,5 +1,6 @@
 -- An argument after all others.
 use Rattle.std.proofs.Common.{◌<◌, length, refl, sym, subst, ap, arith}
+use Rattle.demangle_text.proofs.States.{internals, states}
 use Rattle.demangle_text.specs.Pieces.{Store}
 use Rattle.demangle_text.specs.View.{store_of}
 use Rattle.demangle_text.specs.State.{IsLiving, scopes}
@@ -17,3 +18,13 @@ returns-clause-scopes c =
     let s = store_of c.self.inside in
     let some : 0 < length (scopes s) = omega (arith, ap (λ (b : Store). length (scopes b)) c.self.view_is) in
     rw (← c.self.view_is) (scopes-arg s _ refl refl refl c.self.invariant c.args.piece c.in_ok-push.ensures.ok refl some)
+
+pub invariant_of-self : goal.invariant_of-self
+invariant_of-self c = grind arith
+
+pub returns-in_err-push : goal.returns-in_err-push
+returns-in_err-push c = grind arith
+
+pub returns-clause-kept : goal.returns-clause-kept
+unfolding internals
+returns-clause-kept c = grind (arith, states)
