@@ -50,9 +50,11 @@ pub prefix_found : (bytes : List ℕ) (at more : ℕ) → at ≤ length bytes �
 prefix_found bytes at more low none first some is_underscore =
     let rest = first_in_rest bytes at more first in
     let inside : at + more < length bytes = omega (arith, rest.inside, length-drop at bytes) in
+    let next : suc (at + more - 1) ≡ at + more = omega (arith, some) in
     record {
       inside = omega (arith, inside);
       underscore = is_underscore;
+      capital_z = ap (λ n. get_or bytes n 0) next ∙ sym (get_or-drop at bytes more 0) ∙ rest.found;
       before = no_prefix-take bytes (at + more - 1) (omega (arith, inside)) (λ k below. none_up_to bytes at more none rest k (omega (arith, below)));
     }
 

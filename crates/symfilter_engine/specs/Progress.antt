@@ -32,10 +32,11 @@ capital_z = 90
 abbrev pub HasNoPrefix : List ℕ → Type 0
 HasNoPrefix bytes = (k : ℕ) → slice_index bytes k ≡ underscore → slice_index bytes (suc k) ≡ capital_z → ⊥
 
--- An underscore stands there, and no `_Z` is in front of it. A `Z` after that underscore isn't required.
+-- The first `_Z` stands there.
 pub record IsFirstPrefix (bytes : List ℕ) (place : ℕ) : Type 0 where
   pub inside : place < length bytes
   pub underscore : slice_index bytes place ≡ underscore
+  pub capital_z : slice_index bytes (suc place) ≡ capital_z
   pub before : HasNoPrefix (take place bytes)
 
 -- from one place up to another all are bytes of words

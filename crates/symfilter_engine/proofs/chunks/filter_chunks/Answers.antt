@@ -131,3 +131,39 @@ returns-then-end-kept-clause-memory g c = λ refused.
     let ended = end_copied c.args.placement c.chunks.mid_word kept _ _ _ _ _ _ _ _ c.chunks.invariant.so_far c.in_ok-end.ensures.ok c.chunks.invariant.within c.if-end-kept.true in
     last_refused c.args.placement c.chunks.mid_word (take kept c.read_more.new.chunk.items) _ _ _ _ _ ended
     (subst (λ l. 0 < length (take kept l)) c.deref.ensures.value (c.write_last.ensures.some refused)) (c.write_last.ensures.memory refused)
+
+pub returns-in_err-chunk-clause-outcome : goal.returns-in_err-chunk-clause-outcome
+returns-in_err-chunk-clause-outcome g c = grind (arith, common_steps)
+
+pub slice_bounds-write_last-end : goal.slice_bounds-write_last-end
+slice_bounds-write_last-end g c = grind (arith, common_steps)
+
+pub write_last-requires-clause-unended : goal.write_last-requires-clause-unended
+write_last-requires-clause-unended g c = grind (arith, common_steps)
+
+pub returns-then-end-kept-clause-put : goal.returns-then-end-kept-clause-put
+returns-then-end-kept-clause-put g c = grind (arith, common_steps)
+
+pub slice_bounds-write_chunk-end : goal.slice_bounds-write_chunk-end
+slice_bounds-write_chunk-end g c = grind (arith, common_steps)
+
+pub write_chunk-requires-clause-within : goal.write_chunk-requires-clause-within
+write_chunk-requires-clause-within g c = grind (arith, common_steps)
+
+pub copy_within-requires-clause-start_le_end : goal.copy_within-requires-clause-start_le_end
+copy_within-requires-clause-start_le_end g c = grind (arith, common_steps)
+
+pub copy_within-requires-clause-in_bounds : goal.copy_within-requires-clause-in_bounds
+copy_within-requires-clause-in_bounds g c = grind (arith, common_steps)
+
+pub copy_within-requires-clause-dest_in_bounds : goal.copy_within-requires-clause-dest_in_bounds
+copy_within-requires-clause-dest_in_bounds g c = grind (arith, common_steps)
+
+pub overflow_sub-kept : goal.overflow_sub-kept
+overflow_sub-kept g c = grind (arith, common_steps)
+
+pub same-demangler-in-chunks-2 : goal.same-demangler-in-chunks-2
+same-demangler-in-chunks-2 g c = grind (arith, common_steps)
+
+pub chunks-smaller : goal.chunks-smaller
+chunks-smaller g c = grind (arith, common_steps)

@@ -1,5 +1,6 @@
 use Rattle.std.proofs.Common.{◌-◌, length, sym, ◌∙◌, arith}
 use Rattle.std.proofs.lemmas.List.{get_or_past}
+use Rattle.std.proofs.lemmas.Grind.{common_steps}
 use Rattle.symfilter_engine.proofs.WordPlaces.{undotted_at}
 use Rattle.symfilter_engine.proofs.words.stem_len.Goals as goal
 use Rattle.symfilter_engine.proofs.words.stem_len.Goals.{then-len-eq0-via-then-len-eq0, then-len-eq0-via-else-len-eq0+then-word-len-ne46}
@@ -15,3 +16,6 @@ returns-then-len-eq0-clause-stem c =
 
 pub returns-else-word-len-eq46-clause-stem : goal.returns-else-word-len-eq46-clause-stem
 returns-else-word-len-eq46-clause-stem c = undotted_at c.args.word.now c.loop-len.len c.loop-len.invariant.inside c.if-word-len-eq46.false
+
+pub loop-len-preserved : goal.loop-len-preserved
+loop-len-preserved c = grind (arith, common_steps)

@@ -24,3 +24,9 @@ returns-in_default-bytes-clause-value c =
       | in_default-bytes-via-else-bytes-lt2+else-bytes-lt3+else-bytes-lt4+in_default-1 w ↦ grind (arith, common_steps)
     ] in
     none ∙ ap (spec.symbol_at c.args.strip) (take_rest word front) ∙ ap (λ n. spec.symbol_at c.args.strip (drop n word)) c.prefix_chars_len-chars_len.ensures.value
+
+pub returns-in-95-2-clause-value : goal.returns-in-95-2-clause-value
+returns-in-95-2-clause-value c = grind (arith, common_steps)
+
+pub returns-in-95-bytes-clause-value : goal.returns-in-95-bytes-clause-value
+returns-in-95-bytes-clause-value c = grind (arith, common_steps)
