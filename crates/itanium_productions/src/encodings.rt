@@ -1,10 +1,10 @@
 //! Encodings and local names (Itanium C++ ABI 5.1, "General Structure" and "Scope Encoding").
 #![tactic(auto, using(itanium_reader::proofs::Rules::buffers))]
 
-ghost use Rattle.std.specs.Prelude.{OnOk};
+ghost use Rattle.std.specs.Prelude.{◌≡◌, OnOk};
 ghost use Rattle.std.specs.Option.{unwrap_or};
 ghost use Rattle.demangle_quals.specs.Quals.{no_quals};
-ghost use Rattle.demangle_text.specs.State.{IsLiving, shape, IsRun, SameFrame};
+ghost use Rattle.demangle_text.specs.State.{IsLiving, shape, IsRun, SameFrame, main_bytes};
 ghost use Rattle.itanium_syntax.specs.Context.{inside_encoding, showing_words, inside_params};
 ghost use Rattle.itanium_syntax.specs.Encodings.{return_case, entity_case};
 ghost use Rattle.itanium_grammar.specs.Cases.{AtE};
@@ -42,6 +42,7 @@ pub(crate) fn read_return(
     ensures reads { Leaves result reader.new (spec.return_as (return_case end templ ctor reader.old.rest.now)
         (spec.parse_type depth context) (state reader.old)) }
     ensures kept { OnOk result (SameFrame reader.old.buffer.value reader.new.buffer.value) }
+    ensures output { OnOk result (main_bytes reader.new.buffer.value ≡ main_bytes reader.old.buffer.value) }
     ensures bounds { MayTakeNone 2 result (state reader.old) (state reader.new) }
     ensures saved { SavedBounds 0 result (state reader.old) (state reader.new) }
 {
