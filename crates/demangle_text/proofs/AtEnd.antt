@@ -1,4 +1,4 @@
--- A text that was brought to the end of the output, and what is put after it or into it there.
+-- A text that ends the output, and what is put after it or into it there.
 use Rattle.std.proofs.Common.{◌≡◌, ℕ, ◌+◌, ◌-◌, ◌≤◌, Bool, true, false, List, ◌++◌, length, take, drop, slice_range, refl, sym, ap, ◌∙◌, subst, arith, append_assoc}
 use Rattle.std.proofs.lemmas.List.{length-append, length-drop, length-take-le, take_at, drop_at, take_all, drop_all, append-nil, take-append-le, drop-append-le, take-append-drop}
 use Rattle.demangle_text.specs.declared.pieces.Piece.{Piece}
