@@ -3,7 +3,7 @@ use Rattle.std.proofs.lemmas.List.{length-set, get_or_default}
 use Rattle.std.proofs.lemmas.List.Elements.{AllWithin-more, AllWithin-more_set}
 use Rattle.demangle_text.specs.declared.pieces.Piece.{Piece}
 use Rattle.demangle_text.specs.Pieces.{IsApart, IsPiece, Extends, shape_in}
-use Rattle.demangle_text.proofs.States.{IsPiece-spilled, shape-spilled, replaced_lie, replaced_shapes, Extends-trans}
+use Rattle.demangle_text.proofs.States.{IsPiece-spilled, shape-spilled, replaced_lie, replaced_shapes, Extends-trans, states}
 use Rattle.demangle_text.proofs.Reaches.{within-apart}
 use Rattle.demangle_text.proofs.moves.spill_torn_of.Goals as goal
 use Rattle.demangle_text.proofs.moves.spill_torn_of.Goals.{then-is_torn+in_ok-add, else-is_torn}
@@ -59,3 +59,6 @@ loop-i-preserved c =
             apart = AllWithin-more apart ps 0 i so_far.apart (λ (d : Piece). subst apart (is ∙ get_or_default ps i p d there) stays);
           })
     ]
+
+pub returns-in_err-add : goal.returns-in_err-add
+returns-in_err-add c = grind (arith, states)

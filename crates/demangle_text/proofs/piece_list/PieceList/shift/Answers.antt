@@ -1,5 +1,6 @@
 -- Each piece from the first one that the move reaches on is carried along, with its reach.
 use Rattle.std.proofs.Common.{◌≡◌, ◌<◌, ◌≤◌, ◌++◌, ℕ, Bool, List, All, not, true, false, length, map, take, drop, get_or, sym, ap, ◌∙◌, subst, refl, arith}
+use Rattle.std.proofs.lemmas.Grind.{common_steps}
 use Rattle.std.proofs.lemmas.List.{get_or-take, get_or-map, length-take-le, length-map, length-set, map-set, take-append-le, take_all}
 use Rattle.std.specs.List.{AllWithin}
 use Rattle.std.proofs.lemmas.List.Edits.{map_over_more}
@@ -155,3 +156,9 @@ returns c =
     record {
       value = rw (c.loop-i.invariant.count, value) (take-append-le count front (drop count ps) (omega (arith, long)) ∙ take_all count front (omega (arith, long)) ∙ ap (map f) c.self.view_is);
     }
+
+pub index-requires : goal.index-requires
+index-requires c = grind (arith, common_steps)
+
+pub index_mut-requires : goal.index_mut-requires
+index_mut-requires c = grind (arith, common_steps)
