@@ -1,9 +1,10 @@
 use Rattle.std.proofs.Common.{◌<◌, true, length, slice_range, ap, ◌∙◌, refl, sym, subst, rules, arith}
+use Rattle.std.proofs.lemmas.Bool.{false≢true}
 use Rattle.std.proofs.lemmas.List.{length-set, get_or_default}
 use Rattle.std.proofs.lemmas.List.Elements.{AllWithin-more, AllWithin-more_set}
 use Rattle.demangle_text.specs.declared.pieces.Piece.{Piece}
 use Rattle.demangle_text.specs.Pieces.{IsApart, IsPiece, Extends, shape_in}
-use Rattle.demangle_text.proofs.States.{IsPiece-spilled, shape-spilled, replaced_lie, replaced_shapes, Extends-trans}
+use Rattle.demangle_text.proofs.States.{IsPiece-spilled, shape-spilled, replaced_lie, replaced_shapes, Extends-trans, states}
 use Rattle.demangle_text.proofs.Reaches.{within-apart}
 use Rattle.demangle_text.proofs.moves.spill_torn_of.Goals as goal
 use Rattle.demangle_text.proofs.moves.spill_torn_of.Goals.{then-is_torn+in_ok-add, else-is_torn}
@@ -18,7 +19,7 @@ loop-i-init c = record {
 }
 
 pub set-requires-clause-ends : goal.set-requires-clause-ends
-set-requires-clause-ends c = λ end h home. absurd (cc)
+set-requires-clause-ends c = λ end h home. absurd (false≢true (sym home))
 
 pub loop-i-preserved : goal.loop-i-preserved
 loop-i-preserved c =
@@ -47,7 +48,7 @@ loop-i-preserved c =
             lie = replaced_lie output spill new ps i q q e so_far.lie (IsPiece-spilled output spill new p from to here home added w.len-from.ensures.value w.len.ensures.value);
             shapes = replaced_shapes output spill new ps i p q there e so_far.lie (same ∙ ap (shape_in output spill) is) ∙ so_far.shapes;
             long = length-set ps i q ∙ so_far.long;
-            apart = AllWithin-more_set ps i q there apart so_far.apart (λ h above. let no : ⊥ = cc in absurd no);
+            apart = AllWithin-more_set ps i q there apart so_far.apart (λ h above. absurd (false≢true (sym h)));
           })
       | else-is_torn w ↦
           let stays = c.is_torn.ensures.apart w.if-is_torn.false in
@@ -59,3 +60,6 @@ loop-i-preserved c =
             apart = AllWithin-more apart ps 0 i so_far.apart (λ (d : Piece). subst apart (is ∙ get_or_default ps i p d there) stays);
           })
     ]
+
+pub returns-in_err-add : goal.returns-in_err-add
+returns-in_err-add c = grind (arith, states)

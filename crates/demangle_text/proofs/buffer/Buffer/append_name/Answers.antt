@@ -43,3 +43,6 @@ invariant_of-self-2 c = grind (arith, states)
 pub returns-clause-edit_of : goal.returns-clause-edit_of
 unfolding IsLiving shape main_bytes Stands frame_start frame outermost IsOlder IsAsOld inside outside saved scopes
 returns-clause-edit_of c = grind (arith, common_steps)
+
+pub returns-in_err-add_pair : goal.returns-in_err-add_pair
+returns-in_err-add_pair c = grind arith

@@ -2,6 +2,7 @@
 use Rattle.demangle_text.specs.State.{IsAsOld, IsLiving, IsOlder, Stands, frame, frame_start, inside, main_bytes, outermost, outside, saved, scopes}
 use Rattle.std.proofs.lemmas.Grind.{common_steps}
 use Rattle.std.proofs.Common.{◌≡◌, ◌+◌, ◌-◌, ◌++◌, ℕ, List, length, refl, ap, ◌∙◌, subst, arith}
+use Rattle.demangle_text.proofs.States.{internals, states}
 use Rattle.std.proofs.lemmas.List.{length-append}
 use Rattle.demangle_text.specs.declared.pieces.Place.TheVariants.{End}
 use Rattle.demangle_text.specs.Pieces.{Store, IsAt, outline_of, own_at, own_text, layout_with}
@@ -69,3 +70,7 @@ returns-clause-edit_of c =
 pub with_bytes-requires-clause-within : goal.with_bytes-requires-clause-within
 unfolding IsLiving shape main_bytes Stands frame_start frame outermost IsOlder IsAsOld inside outside saved scopes
 with_bytes-requires-clause-within c = grind (arith, common_steps)
+
+pub returns-in_err-from : goal.returns-in_err-from
+unfolding internals
+returns-in_err-from c = grind (arith, states)

@@ -1,5 +1,7 @@
 -- The last scope begins at the last place.
 use Rattle.std.proofs.Common.{◌≡◌, ◌-◌, ◌<◌, ℕ, List, Some, length, drop, option_map, slice_get, refl, sym, ap, ◌∙◌, subst, arith}
+use Rattle.demangle_text.proofs.States.{internals}
+use Rattle.std.proofs.lemmas.Grind.{common_steps}
 use Rattle.std.proofs.lemmas.List.{length-drop}
 use Rattle.std.proofs.lemmas.Option.{slice_get_past, get_or_from_slice_get, slice_get_within}
 use Rattle.demangle_text.specs.State.{shape}
@@ -49,3 +51,7 @@ returns-else-i-len-clause-shape c =
     let e = sym (get_or_from_slice_get s.scope_starts (length s.scope_starts - 1) from 0 last) in
     let none = slice_get_past (drop from s.arg_pieces) c.args.i (omega (arith, c.len.ensures.value, length-drop from s.arg_pieces)) in
     rw (← c.self.view_is) (ap (option_map (shape s)) (sym none) ∙ arg_found s c.args.i (length s.scope_starts) from refl some e)
+
+pub returns-in_err-start : goal.returns-in_err-start
+unfolding internals
+returns-in_err-start c = grind (arith, common_steps)

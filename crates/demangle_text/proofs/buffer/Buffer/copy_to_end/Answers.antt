@@ -1,4 +1,4 @@
-use Rattle.demangle_text.proofs.States.{states}
+use Rattle.demangle_text.proofs.States.{states, internals}
 use Rattle.demangle_text.specs.State.{IsAsOld, IsLiving, IsOlder, Stands, frame, frame_start, inside, main_bytes, outermost, outside, saved, scopes, shape}
 use Rattle.std.proofs.Common.{arith}
 use Rattle.std.proofs.lemmas.Grind.{common_steps}
@@ -20,3 +20,7 @@ returns-clause-shape c = grind (arith, common_steps)
 pub returns-clause-output : goal.returns-clause-output
 unfolding IsLiving shape main_bytes Stands frame_start frame outermost IsOlder IsAsOld inside outside saved scopes
 returns-clause-output c = grind (arith, states)
+
+pub returns-in_err-add_text : goal.returns-in_err-add_text
+unfolding internals
+returns-in_err-add_text c = grind (arith, states)

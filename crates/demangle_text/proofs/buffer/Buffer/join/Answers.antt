@@ -1,6 +1,7 @@
 -- Bytes between two texts that meet at the end, or the first text and bytes in front of a second one there, or bytes and
 -- the second text after the first.
-use Rattle.std.proofs.Common.{rules, ◌-◌, length, ap, ◌∙◌, subst, arith}
+use Rattle.std.proofs.Common.{rules, ◌-◌, length, ap, ◌∙◌, subst, arith, sym}
+use Rattle.std.proofs.lemmas.Bool.{false≢true}
 use Rattle.std.proofs.lemmas.Grind.{common_steps}
 use Rattle.demangle_text.proofs.States.{internals, states}
 use Rattle.demangle_text.specs.Pieces.{IsAt, IsTail, IsAdjacent, IsJoint, EndsBy, whole_outline}
@@ -40,7 +41,7 @@ moved c =
     let b = c.args.self.now in
     let s = store_of c.self.inside in
     let apart = λ (h : IsAdjacent b c.args.first c.args.second).
-    let t = c.is_tail-then-is_tail.ensures.other (is-adjacent s b c.args.first c.args.second c.self.view_is h) in let f = c.if-is_tail-2.false in let k : ⊥ = cc (t, f) in k in
+    let t = c.is_tail-then-is_tail.ensures.other (is-adjacent s b c.args.first c.args.second c.self.view_is h) in let f = c.if-is_tail-2.false in let k : ⊥ = false≢true (sym f ∙ t) in k in
     let tail = tail-is s b c.args.second c.len.result c.self.view_is c.len.ensures.value (c.is_tail.ensures.tail c.if-is_tail.true) in
     let before : EndsBy c.args.second.from_byte c.args.first = search rules in
     IsJoint-moved b c.insert_piece.new.self c.args.first c.args.bytes.now c.args.second apart tail before c.requires.second_living.ordered c.in_ok-insert_piece.ensures.output
@@ -70,15 +71,15 @@ extended c =
     let apart = λ (h : IsAdjacent b one two).
     let k : ⊥ = elim c.if-is_tail.branch [
       | then-is_tail+else-is_tail-2+else-first+else-first-second w ↦
-          let t = w.is_tail-then-is_tail.ensures.other (is-adjacent s b one two c.self.view_is h) in let f = w.if-is_tail-2.false in let k : ⊥ = cc (t, f) in k
+          let t = w.is_tail-then-is_tail.ensures.other (is-adjacent s b one two c.self.view_is h) in let f = w.if-is_tail-2.false in let k : ⊥ = false≢true (sym f ∙ t) in k
       | else-is_tail w ↦
-          let t = there (adjacent-tail b one two c.requires.first_living h) in let f = w.if-is_tail.false in let k : ⊥ = cc (t, f) in k
+          let t = there (adjacent-tail b one two c.requires.first_living h) in let f = w.if-is_tail.false in let k : ⊥ = false≢true (sym f ∙ t) in k
     ] in k in
     let later = λ (h : IsTail b two) (before : EndsBy two.from_byte one).
     let t = there h in
     let k : ⊥ = elim c.if-is_tail.branch [
       | then-is_tail+else-is_tail-2+else-first+else-first-second w ↦ let k : ⊥ = omega (arith, before w.if-first.false, w.if-first-second.false) in k
-      | else-is_tail w ↦ let f = w.if-is_tail.false in let k : ⊥ = cc (t, f) in k
+      | else-is_tail w ↦ let f = w.if-is_tail.false in let k : ⊥ = false≢true (sym f ∙ t) in k
     ] in k in
     IsJoint-spliced b c.extend_by.new.self one c.args.bytes.now two c.in_ok-from.from apart later c.requires.first_living c.in_ok-from.ensures.splice
 

@@ -1,7 +1,8 @@
 -- A gap in the text that ends the output, or in a copy of it there.
 use Rattle.demangle_text.specs.State.{IsAsOld, IsOlder, Stands, frame, frame_start, inside, main_bytes, outermost, outside, saved, scopes, shape}
 use Rattle.std.proofs.lemmas.Grind.{common_steps}
-use Rattle.std.proofs.Common.{◌≡◌, ◌+◌, ◌-◌, List, ℕ, OnOk, OnErr, length, take, drop, sym, ap, subst, arith}
+use Rattle.std.proofs.Common.{◌≡◌, ◌+◌, ◌-◌, List, ℕ, OnOk, OnErr, length, take, drop, sym, ap, subst, arith, ◌∙◌}
+use Rattle.std.proofs.lemmas.Bool.{false≢true}
 use Rattle.std.proofs.lemmas.List.{length-append}
 use Rattle.growing_text.specs.Gap.{HasGap}
 use Rattle.demangle_text.specs.Pieces.{Store, IsTail, IsTailAt, piece_text}
@@ -41,7 +42,7 @@ invariant_of-self-2 c =
     let lies = subst (λ (b : Store). IsLiving b p) (sym c.self.view_is) c.requires.living in
     let apart = λ (h : IsTail s p).
     let t = c.is_tail.ensures.other (subst (λ (k : ℕ). IsTailAt s.marked_len k p) (sym c.len.ensures.value) h) in
-    let f = c.if-is_tail.false in let k : ⊥ = cc (t, f) in k in
+    let f = c.if-is_tail.false in let k : ⊥ = false≢true (sym f ∙ t) in k in
     let copied = c.in_ok-add_text.ensures.ok in
     let place = c.len-2.result - (c.text_len.result - at) in
     let there : place ≡ from + at =
@@ -64,7 +65,7 @@ returns-clause-opened c =
     let lies = subst (λ (b : Store). IsLiving b p) (sym c.self.view_is) c.requires.living in
     let apart = λ (h : IsTail s p).
     let t = c.is_tail.ensures.other (subst (λ (k : ℕ). IsTailAt s.marked_len k p) (sym c.len.ensures.value) h) in
-    let f = c.if-is_tail.false in let k : ⊥ = cc (t, f) in k in
+    let f = c.if-is_tail.false in let k : ⊥ = false≢true (sym f ∙ t) in k in
     let copied = c.in_ok-add_text.ensures.ok in
     let place = c.len-2.result - (c.text_len.result - at) in
     let there : place ≡ from + at =

@@ -68,3 +68,6 @@ index_mut-requires c = grind (arith, common_steps)
 
 pub overflow_add-self : goal.overflow_add-self
 overflow_add-self c = grind (arith, common_steps)
+
+pub returns-in_err-grow : goal.returns-in_err-grow
+returns-in_err-grow c = grind (arith, common_steps)

@@ -1,5 +1,7 @@
 -- Each piece from the first one that the move reaches on is carried along, with its reach.
 use Rattle.std.proofs.Common.{◌≡◌, ◌<◌, ◌≤◌, ◌++◌, ℕ, Bool, List, All, not, true, false, length, map, take, drop, get_or, sym, ap, ◌∙◌, subst, refl, arith}
+use Rattle.std.proofs.lemmas.Bool.{false≢true}
+use Rattle.std.proofs.lemmas.Grind.{common_steps}
 use Rattle.std.proofs.lemmas.List.{get_or-take, get_or-map, length-take-le, length-map, length-set, map-set, take-append-le, take_all}
 use Rattle.std.specs.List.{AllWithin}
 use Rattle.std.proofs.lemmas.List.Edits.{map_over_more}
@@ -88,7 +90,7 @@ longer c = elim c.if-not-piece.branch [
 
 last : (c : goal.After-self-1) → EndsBy c.if-not-piece.reach c.if-not-piece.piece
 last c = elim c.if-not-piece.branch [
-  | else-not-piece w ↦ λ home. let no : true ≡ false = sym (ap not (ap (λ (p : Piece). p.spilled) (sym w.piece-is) ∙ home)) ∙ w.if-not-piece.false in let k : ⊥ = cc in absurd k
+  | else-not-piece w ↦ λ home. let no : true ≡ false = sym (ap not (ap (λ (p : Piece). p.spilled) (sym w.piece-is) ∙ home)) ∙ w.if-not-piece.false in absurd (false≢true (sym no))
   | then-not-piece w ↦ λ home. omega (arith, w.reach-is, w.max-reach.ensures, ap (λ (p : Piece). p.to_byte) w.piece-is)
 ]
 
@@ -97,7 +99,7 @@ moved c =
     let low = c.args.block.low in
     let p = c.index.result.now.piece in
     elim c.if-not-piece.branch [
-      | else-not-piece w ↦ w.piece-is ∙ carried-stays low _ _ p (λ home. let no : true ≡ false = sym (ap not home) ∙ w.if-not-piece.false in let k : ⊥ = cc in absurd k)
+      | else-not-piece w ↦ w.piece-is ∙ carried-stays low _ _ p (λ home. let no : true ≡ false = sym (ap not home) ∙ w.if-not-piece.false in absurd (false≢true (sym no)))
       | then-not-piece w ↦ w.piece-is ∙ elim w.if-block-piece.branch [
         | then-block-piece b ↦ b.piece-is ∙ carried-moves low _ _ p (not_true _ w.if-not-piece.true) b.if-block-piece.true
         | else-block-piece b ↦ b.piece-is ∙ carried-stays low _ _ p (λ home. omega (arith, b.if-block-piece.false))
@@ -155,3 +157,9 @@ returns c =
     record {
       value = rw (c.loop-i.invariant.count, value) (take-append-le count front (drop count ps) (omega (arith, long)) ∙ take_all count front (omega (arith, long)) ∙ ap (map f) c.self.view_is);
     }
+
+pub index-requires : goal.index-requires
+index-requires c = grind (arith, common_steps)
+
+pub index_mut-requires : goal.index_mut-requires
+index_mut-requires c = grind (arith, common_steps)
