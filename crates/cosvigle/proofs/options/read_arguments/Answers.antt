@@ -1,5 +1,6 @@
 use Rattle.std.proofs.Common.{◌+◌, ◌<◌, length, drop, get_or, [], refl, sym, subst, ◌∙◌, arith}
 use Rattle.std.proofs.lemmas.List.{take_rest}
+use Rattle.std.proofs.lemmas.Grind.{common_steps}
 use Rattle.cosvigle.specs.declared.options.Kind.TheVariants.{End, Name, Letters, Symbol}
 use Rattle.cosvigle.specs.declared.options.Request.TheVariants.{Symbols, Stopped}
 use Rattle.cosvigle.specs.Options.{AsksFor, texts}
@@ -20,7 +21,7 @@ returns-in-Stop c =
     let at = c.loop-at.at in
     let inside : at < length all = omega arith in
     record {
-      asked =
+      request =
           subst (λ s. AsksFor s (Stopped c.in-Stop.stop c.loop-at.last))
           (sym (stop_turn all at record { ref_ptr = (0, 0); now = [] } _ c.loop-at.state c.in-Stop.stop _ _ inside c.in-Stop.is c.loop-at.invariant)) (refl, refl);
     }
@@ -33,7 +34,7 @@ returns-in-End c =
     let read_all = go_turn all at _ _ c.loop-at.state c.in-Go.flags _ _ End inside c.in-Go.is (sym c.kind_of.ensures.value ∙ c.in-End.is) c.loop-at.invariant
     ∙ read_ended c.in-Go.flags (texts c.loop-at.symbols.items) (drop (at + 1) (texts all)) in
     record {
-      asked =
+      request =
           subst (λ s. AsksFor s (Symbols c.in-Go.flags c.extend_from_slice.new.self)) (sym read_all)
           (refl, symbols_after c.loop-at.symbols.items c.extend_from_slice.new.self.items all (at + 1) c.in_ok-extend_from_slice-in-End.ensures.items);
     }
@@ -55,3 +56,12 @@ loop-at-preserved c =
           rw (w.state-is, w.symbols-is, w.last-is, next_symbol _ _ _ w.in_ok-push-in-Symbol.ensures.items)
           (go_turn all at _ _ c.loop-at.state c.in-Go.flags _ _ Symbol inside c.in-Go.is (says ∙ w.in-Symbol.is) c.loop-at.invariant)
     ]
+
+pub slice_bounds-after_name-count : goal.slice_bounds-after_name-count
+slice_bounds-after_name-count c = grind (arith, common_steps)
+
+pub slice_bounds-after_name-start : goal.slice_bounds-after_name-start
+slice_bounds-after_name-start c = grind (arith, common_steps)
+
+pub returns : goal.returns
+returns c = grind (arith, common_steps)
