@@ -1,4 +1,5 @@
 pub mod Loops
+pub mod Refused
 pub mod Texts
 pub mod Unfold
 pub mod Turns

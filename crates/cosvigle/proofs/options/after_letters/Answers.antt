@@ -1,5 +1,6 @@
 use Rattle.std.proofs.Common.{◌+◌, sym, ap, ◌∙◌, arith}
 use Rattle.std.proofs.lemmas.List.{take_rest}
+use Rattle.std.proofs.lemmas.Grind.{common_steps}
 use Rattle.cosvigle.specs.Options.{after_format}
 use Rattle.cosvigle.proofs.Steps.{letters_value}
 use Rattle.cosvigle.proofs.options.after_letters.Goals as goal
@@ -13,3 +14,12 @@ returns-in-Value c =
           c.after_format.ensures.value ∙ ap (after_format c.in-Value.next) (take_rest argument (at + 1))
           ∙ sym (c.loop-at.invariant ∙ letters_value c.loop-at.flags c.in-Value.next argument at (omega arith) (sym c.after_letter.ensures.value ∙ c.in-Value.is));
     }
+
+pub returns-in_default : goal.returns-in_default
+returns-in_default c = grind (arith, common_steps)
+
+pub loop-at-preserved : goal.loop-at-preserved
+loop-at-preserved c = grind (arith, common_steps)
+
+pub returns : goal.returns
+returns c = grind (arith, common_steps)

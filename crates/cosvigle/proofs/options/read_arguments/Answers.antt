@@ -1,5 +1,6 @@
 use Rattle.std.proofs.Common.{◌+◌, ◌<◌, length, drop, get_or, [], refl, sym, subst, ◌∙◌, arith}
 use Rattle.std.proofs.lemmas.List.{take_rest}
+use Rattle.std.proofs.lemmas.Grind.{common_steps}
 use Rattle.cosvigle.specs.declared.options.Kind.TheVariants.{End, Name, Letters, Symbol}
 use Rattle.cosvigle.specs.declared.options.Request.TheVariants.{Symbols, Stopped}
 use Rattle.cosvigle.specs.Options.{AsksFor, texts}
@@ -55,3 +56,12 @@ loop-at-preserved c =
           rw (w.state-is, w.symbols-is, w.last-is, next_symbol _ _ _ w.in_ok-push-in-Symbol.ensures.items)
           (go_turn all at _ _ c.loop-at.state c.in-Go.flags _ _ Symbol inside c.in-Go.is (says ∙ w.in-Symbol.is) c.loop-at.invariant)
     ]
+
+pub slice_bounds-after_name-count : goal.slice_bounds-after_name-count
+slice_bounds-after_name-count c = grind (arith, common_steps)
+
+pub slice_bounds-after_name-start : goal.slice_bounds-after_name-start
+slice_bounds-after_name-start c = grind (arith, common_steps)
+
+pub returns : goal.returns
+returns c = grind (arith, common_steps)

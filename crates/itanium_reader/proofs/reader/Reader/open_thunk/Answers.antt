@@ -3,6 +3,7 @@ use Rattle.std.proofs.lemmas.List.{length-drop, get_or_read}
 use Rattle.std.proofs.lemmas.Grind.{common_steps}
 use Rattle.demangle_text.specs.State.{saved, scopes}
 use Rattle.itanium_reader.specs.Parser.{ParserState, thunk_front}
+use Rattle.itanium_reader.proofs.Refused.{refused}
 use Rattle.itanium_reader.proofs.reader.Reader.open_thunk.Goals as goal
 
 pub returns-in_ok-words-in-Covariant-clause-bounds : goal.returns-in_ok-words-in-Covariant-clause-bounds
@@ -81,3 +82,15 @@ returns-in_ok-words-in-Covariant-clause-reads c = grind (arith, common_steps)
 
 pub returns-in_ok-words-in-Covariant-clause-last : goal.returns-in_ok-words-in-Covariant-clause-last
 returns-in_ok-words-in-Covariant-clause-last c = grind (arith, common_steps)
+
+pub returns-in_err-begun : goal.returns-in_err-begun
+returns-in_err-begun c = rw (refused c.from_residual.result c.from_residual.ensures) (search rules)
+
+pub returns-in_err-words-in-Single : goal.returns-in_err-words-in-Single
+returns-in_err-words-in-Single c = rw (refused c.from_residual-in_err-words-in-Single.result c.from_residual-in_err-words-in-Single.ensures) (search rules)
+
+pub returns-in_err-one-in-Covariant : goal.returns-in_err-one-in-Covariant
+returns-in_err-one-in-Covariant c = rw (refused c.from_residual-in_err-one-in-Covariant.result c.from_residual-in_err-one-in-Covariant.ensures) (search rules)
+
+pub returns-in_err-words-in-Covariant : goal.returns-in_err-words-in-Covariant
+returns-in_err-words-in-Covariant c = rw (refused c.from_residual-in_err-words-in-Covariant.result c.from_residual-in_err-words-in-Covariant.ensures) (search rules)
