@@ -1,6 +1,6 @@
 -- The text with the group in it stands at the end, and its outline is that of the declarator with the group.
 use Rattle.demangle_text.specs.State.{IsAsOld, IsOlder, Stands, frame, frame_start, inside, main_bytes, outermost, outside, saved, scopes}
-use Rattle.std.proofs.lemmas.Grind.{common_steps}
+use Rattle.std.proofs.lemmas.Grind.{common_steps, elements}
 use Rattle.std.proofs.Common.{true, ◌≡◌, ◌-◌, ◌+◌, ◌++◌, ◌∷◌, [], ℕ, List, length, take, drop, sym, ap, ◌∙◌, subst, arith, append_assoc}
 use Rattle.std.proofs.lemmas.List.{length-append, length-take-le}
 use Rattle.growing_text.proofs.Rooms.{room-fits, fits-first, fits-second, three-put}
@@ -232,8 +232,8 @@ returns-clause-edit_of c =
 
 pub open_in-requires-clause-within : goal.open_in-requires-clause-within
 unfolding IsLiving shape main_bytes Stands frame_start frame outermost IsOlder IsAsOld inside outside saved scopes
-open_in-requires-clause-within c = grind (arith, common_steps)
+open_in-requires-clause-within c = grind (arith, elements)
 
 pub with_bytes-moved-requires-clause-text : goal.with_bytes-moved-requires-clause-text
 unfolding IsLiving shape main_bytes Stands frame_start frame outermost IsOlder IsAsOld inside outside saved scopes
-with_bytes-moved-requires-clause-text c = grind (arith, common_steps)
+with_bytes-moved-requires-clause-text c = grind (arith, elements)
