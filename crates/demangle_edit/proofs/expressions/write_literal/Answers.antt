@@ -1,9 +1,9 @@
-use Rattle.demangle_text.proofs.Laws.{laws, StaysInPlace-edit, AppendsPiece-push, AppendsPiece-edit, AppendsPiece-named, IsEdit-keeps, IsEdit-trans}
+use Rattle.demangle_text.proofs.Laws.{laws, StaysInPlace-edit, StaysInPlace-trans, AppendsPiece-push, AppendsPiece-edit, AppendsPiece-named, IsEdit-keeps, IsEdit-trans}
 use Rattle.std.proofs.Common.{rules, ◌≡◌, subst, arith}
 use Rattle.demangle_text.specs.Shape.{text}
 use Rattle.demangle_text.specs.State.{shape}
 use Rattle.demangle_edit.specs.declared.expressions.LiteralForm.{LiteralForm}
-use Rattle.demangle_edit.specs.declared.expressions.LiteralForm.TheVariants.{Float}
+use Rattle.demangle_edit.specs.declared.expressions.LiteralForm.TheVariants.{Cast, Float}
 use Rattle.demangle_edit.specs.Calls.{IsPut}
 use Rattle.demangle_edit.specs.Expressions as spec
 use Rattle.std.proofs.lemmas.Grind.{common_steps, elements}
@@ -126,5 +126,10 @@ returns-in_ok-closed-in-Float-clause-edit c = grind arith
 pub returns-in_ok-literal-in-Cast-clause-edit : goal.returns-in_ok-literal-in-Cast-clause-edit
 returns-in_ok-literal-in-Cast-clause-edit c = grind arith
 
+-- the text of the type stays in front
 pub returns-in_ok-literal-in-Cast-clause-put : goal.returns-in_ok-literal-in-Cast-clause-put
-returns-in_ok-literal-in-Cast-clause-put c = grind arith
+returns-in_ok-literal-in-Cast-clause-put c =
+    let old = c.args.buf.now in
+    let stays = StaysInPlace-trans _ _ _ _ _ _ c.in_ok-cast-in-Cast.ensures.edit c.in_ok-cast-in-Cast.ensures.in_place c.in_ok-literal-in-Cast.ensures.in_place in
+    let form : Cast ≡ spec.literal_form (text (shape old c.args.ty)) (spec.is_minus c.args.value.now) = search rules in
+    subst (λ (f : LiteralForm). IsPut f old c.append_value-in-Cast.new.buf c.args.ty c.in_ok-literal-in-Cast.literal) form stays
