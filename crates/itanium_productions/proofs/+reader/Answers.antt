@@ -800,3 +800,67 @@ specials::read_thunk-returns-in_err-read_encoding-clause-reads t c = grind (arit
 
 pub specials::read_type_special-print_worded-requires-clause-after : goal.specials::read_type_special-print_worded-requires-clause-after
 specials::read_type_special-print_worded-requires-clause-after t c = grind (arith, words)
+
+pub args::read_template_arg-returns-clause-reads : goal.args::read_template_arg-returns-clause-reads
+args::read_template_arg-returns-clause-reads t c = grind (arith, arguments)
+
+pub encodings::read_encoding-returns-in-SpecialEncoding-clause-reads : goal.encodings::read_encoding-returns-in-SpecialEncoding-clause-reads
+encodings::read_encoding-returns-in-SpecialEncoding-clause-reads t c = grind (arith, encodings)
+
+pub encodings::read_encoding-returns-in-NameEncoding-clause-reads : goal.encodings::read_encoding-returns-in-NameEncoding-clause-reads
+encodings::read_encoding-returns-in-NameEncoding-clause-reads t c = grind (arith, encodings)
+
+pub encodings::read_encoding-returns-in_ok-read_name-in-FullEncoding-clause-reads : goal.encodings::read_encoding-returns-in_ok-read_name-in-FullEncoding-clause-reads
+encodings::read_encoding-returns-in_ok-read_name-in-FullEncoding-clause-reads t c = grind (arith, encodings)
+
+pub expressions::read_expr_primary-returns-in_err-framed_type-in-ValueLiteral-clause-reads : goal.expressions::read_expr_primary-returns-in_err-framed_type-in-ValueLiteral-clause-reads
+expressions::read_expr_primary-returns-in_err-framed_type-in-ValueLiteral-clause-reads t c = grind (arith, primaries)
+
+pub expressions::read_expr_primary-returns-in_default-clause-reads : goal.expressions::read_expr_primary-returns-in_default-clause-reads
+expressions::read_expr_primary-returns-in_default-clause-reads t c = grind (arith, primaries)
+
+pub expressions::read_expr_primary-returns-in_default-literal-clause-reads : goal.expressions::read_expr_primary-returns-in_default-literal-clause-reads
+expressions::read_expr_primary-returns-in_default-literal-clause-reads t c = grind (arith, primaries)
+
+pub expressions::read_expr_primary-returns-in-Some-literal-clause-reads : goal.expressions::read_expr_primary-returns-in-Some-literal-clause-reads
+expressions::read_expr_primary-returns-in-Some-literal-clause-reads t c = grind (arith, primaries)
+
+pub expressions::read_greater-returns-clause-reads : goal.expressions::read_greater-returns-clause-reads
+expressions::read_greater-returns-clause-reads t c = grind (arith, common_steps)
+
+pub expressions::read_greater-returns-clause-bounds : goal.expressions::read_greater-returns-clause-bounds
+expressions::read_greater-returns-clause-bounds t c = grind (arith, buffers)
+
+pub expressions::read_greater-returns-clause-saved : goal.expressions::read_greater-returns-clause-saved
+expressions::read_greater-returns-clause-saved t c = grind (arith, buffers)
+
+pub expressions::read_conditional-returns-clause-reads : goal.expressions::read_conditional-returns-clause-reads
+expressions::read_conditional-returns-clause-reads t c = grind (arith, common_steps)
+
+pub expressions::read_conditional-returns-clause-saved : goal.expressions::read_conditional-returns-clause-saved
+expressions::read_conditional-returns-clause-saved t c = grind (arith, buffers)
+
+pub names::read_name-returns-in_err-depth-clause-reads : goal.names::read_name-returns-in_err-depth-clause-reads
+names::read_name-returns-in_err-depth-clause-reads t c = grind (arith, names)
+
+pub names::read_name-returns-in_err-read_nested_name-in-NestedName-clause-reads : goal.names::read_name-returns-in_err-read_nested_name-in-NestedName-clause-reads
+names::read_name-returns-in_err-read_nested_name-in-NestedName-clause-reads t c = grind (arith, names)
+
+pub names::read_name-returns-in_err-read_local_name-in-LocalName-clause-reads : goal.names::read_name-returns-in_err-read_local_name-in-LocalName-clause-reads
+names::read_name-returns-in_err-read_local_name-in-LocalName-clause-reads t c = grind (arith, names)
+
+pub names::read_name-returns-in_err-read_unscoped_name-in-UnscopedName-clause-reads : goal.names::read_name-returns-in_err-read_unscoped_name-in-UnscopedName-clause-reads
+names::read_name-returns-in_err-read_unscoped_name-in-UnscopedName-clause-reads t c = grind (arith, names)
+
+pub names::read_name-returns-in_err-check_width-clause-reads : goal.names::read_name-returns-in_err-check_width-clause-reads
+names::read_name-returns-in_err-check_width-clause-reads t c = grind (arith, names)
+
+pub names::read_name-returns-in_err-check_width-2-clause-reads : goal.names::read_name-returns-in_err-check_width-2-clause-reads
+names::read_name-returns-in_err-check_width-2-clause-reads t c = grind (arith, names)
+
+pub expressions::read_expression-returns-in_err-check_width-clause-reads : goal.expressions::read_expression-returns-in_err-check_width-clause-reads
+expressions::read_expression-returns-in_err-check_width-clause-reads t c =
+    let r = c.from_residual-in_err-check_width in
+    let e = err_from_is_err_and r.result r.ensures.1 in
+    let read = c.match-expression_case.reader in
+    rw (e.1, e.2) (too_long _ (shape read.buffer.value read.found) _ (c.in_err-check_width.ensures {u = tt}).fits (λ wide. grind (arith, expressions)))
