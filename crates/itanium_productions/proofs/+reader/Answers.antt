@@ -1,4 +1,4 @@
-use Rattle.itanium_reader.proofs.Rules.{argument_lists, arguments, encodings, expressions, local_names, packs, primaries, thunks}
+use Rattle.itanium_reader.proofs.Rules.{argument_lists, arguments, encodings, expressions, local_names, packs, primaries, specials, thunks}
 use Rattle.itanium_productions.proofs.OwnQualifiers.{names}
 use Rattle.itanium_reader.proofs.Rules.{first_segments, nested_names, outer_names, unqualified_names}
 use Rattle.itanium_reader.proofs.Rules.{typed_lists, words}
@@ -864,3 +864,36 @@ expressions::read_expression-returns-in_err-check_width-clause-reads t c =
     let e = err_from_is_err_and r.result r.ensures.1 in
     let read = c.match-expression_case.reader in
     rw (e.1, e.2) (too_long _ (shape read.buffer.value read.found) _ (c.in_err-check_width.ensures {u = tt}).fits (λ wide. grind (arith, expressions)))
+
+pub args::read_template_arg-returns-in_err-read_argument_pack-in-PackArgument-clause-reads : goal.args::read_template_arg-returns-in_err-read_argument_pack-in-PackArgument-clause-reads
+args::read_template_arg-returns-in_err-read_argument_pack-in-PackArgument-clause-reads t c = grind (arith, arguments)
+
+pub args::read_template_arg-returns-in_err-read_expr_primary-in-PrimaryArgument-clause-reads : goal.args::read_template_arg-returns-in_err-read_expr_primary-in-PrimaryArgument-clause-reads
+args::read_template_arg-returns-in_err-read_expr_primary-in-PrimaryArgument-clause-reads t c = grind (arith, arguments)
+
+pub args::read_template_arg-returns-in_err-read_type-in-TypeArgument-clause-reads : goal.args::read_template_arg-returns-in_err-read_type-in-TypeArgument-clause-reads
+args::read_template_arg-returns-in_err-read_type-in-TypeArgument-clause-reads t c = grind (arith, arguments)
+
+pub args::read_template_args-close_arguments-requires-clause-inner : goal.args::read_template_args-close_arguments-requires-clause-inner
+args::read_template_args-close_arguments-requires-clause-inner t c = grind (arith, argument_lists)
+
+pub specials::read_construction-returns-clause-run : goal.specials::read_construction-returns-clause-run
+specials::read_construction-returns-clause-run t c = grind (arith, words)
+
+pub specials::read_special_name-returns-in-TypeSpecial-clause-reads : goal.specials::read_special_name-returns-in-TypeSpecial-clause-reads
+specials::read_special_name-returns-in-TypeSpecial-clause-reads t c = grind (arith, specials)
+
+pub specials::read_special_name-returns-in-NameSpecial-clause-reads : goal.specials::read_special_name-returns-in-NameSpecial-clause-reads
+specials::read_special_name-returns-in-NameSpecial-clause-reads t c = grind (arith, specials)
+
+pub specials::read_special_name-returns-in-TemporarySpecial-clause-reads : goal.specials::read_special_name-returns-in-TemporarySpecial-clause-reads
+specials::read_special_name-returns-in-TemporarySpecial-clause-reads t c = grind (arith, specials)
+
+pub specials::read_special_name-returns-in-ConstructionSpecial-clause-reads : goal.specials::read_special_name-returns-in-ConstructionSpecial-clause-reads
+specials::read_special_name-returns-in-ConstructionSpecial-clause-reads t c = grind (arith, specials)
+
+pub specials::read_special_name-returns-in-ThunkSpecial-clause-reads : goal.specials::read_special_name-returns-in-ThunkSpecial-clause-reads
+specials::read_special_name-returns-in-ThunkSpecial-clause-reads t c = grind (arith, specials)
+
+pub specials::read_special_name-returns-in-UnreadableSpecial-clause-reads : goal.specials::read_special_name-returns-in-UnreadableSpecial-clause-reads
+specials::read_special_name-returns-in-UnreadableSpecial-clause-reads t c = grind (arith, specials)
