@@ -7,7 +7,7 @@ use Rattle.std.proofs.Common.{◌≡◌, ◌<◌, ◌+◌, ◌*◌, ◌^◌, ◌
 use Rattle.std.proofs.Common.{codes}
 use Rattle.std.proofs.lemmas.List.{append-nil, length-append, length-drop}
 use Rattle.std.proofs.lemmas.Result.{err_from_is_err_and}
-use Rattle.demangle_text.specs.State.{shape, SameFrame, KeepsAll, IsEdit, Opens, main_bytes, saved, scopes}
+use Rattle.demangle_text.specs.State.{shape, SameFrame, KeepsAll, IsEdit, IsRun, Opens, main_bytes, saved, scopes}
 use Rattle.demangle_text.specs.Shape.{Shape, plain_shape, text, text_len, appended}
 use Rattle.demangle_text.specs.Calls.{joined, text_after}
 use Rattle.demangle_text.specs.declared.buffer.Buffer.{Buffer}
@@ -443,7 +443,10 @@ specials::read_thunk-returns-in_err-check_width-clause-reads t c =
     let opened = c.open_thunk.new.self in
     let symbol = c.close_found.new.self in
     let found = shape c.print_worded.new.self.buffer.value c.print_worded.new.self.found in
-    let kept : SameFrame opened.buffer.value symbol.buffer.value = search (rules, runs) in
+    let opens : Opens opened.buffer.value c.open-mark.new.self c.open-mark.result =
+    subst (λ (b : Buffer). Opens b c.open-mark.new.self c.open-mark.result) c.deref_mut.ensures.value c.open-mark.ensures.opens in
+    let since = IsSince-run _ _ _ _ (IsSince-opens _ _ _ opens) (c.in_ok-read_encoding.ensures {u = tt}).run in
+    let kept : SameFrame opened.buffer.value symbol.buffer.value = SameFrame-closed _ _ _ _ since (c.in_ok-close_found.ensures {u = tt}).closed in
     let words = kept.pieces opened.found (c.in_ok-open_thunk.ensures {u = tt}).reads.0 in
     let built = c.in_ok-print_worded.ensures.shape.shape_is
     ∙ ap (λ (s : Shape). worded_shape (text s) (shape symbol.buffer.value symbol.found) (codes ")}")) words.shape_is in
@@ -456,7 +459,10 @@ pub specials::read_thunk-returns-clause-reads : goal.specials::read_thunk-return
 specials::read_thunk-returns-clause-reads t c =
     let opened = c.open_thunk.new.self in
     let symbol = c.close_found.new.self in
-    let kept : SameFrame opened.buffer.value symbol.buffer.value = search (rules, runs) in
+    let opens : Opens opened.buffer.value c.open-mark.new.self c.open-mark.result =
+    subst (λ (b : Buffer). Opens b c.open-mark.new.self c.open-mark.result) c.deref_mut.ensures.value c.open-mark.ensures.opens in
+    let since = IsSince-run _ _ _ _ (IsSince-opens _ _ _ opens) (c.in_ok-read_encoding.ensures {u = tt}).run in
+    let kept : SameFrame opened.buffer.value symbol.buffer.value = SameFrame-closed _ _ _ _ since (c.in_ok-close_found.ensures {u = tt}).closed in
     let words = kept.pieces opened.found (c.in_ok-open_thunk.ensures {u = tt}).reads.0 in
     let built = c.in_ok-print_worded.ensures.shape.shape_is
     ∙ ap (λ (s : Shape). worded_shape (text s) (shape symbol.buffer.value symbol.found) (codes ")}")) words.shape_is in (
@@ -476,8 +482,14 @@ specials::read_thunk-print_worded-requires-clause-after t c =
 
 pub specials::read_thunk-returns-clause-run : goal.specials::read_thunk-returns-clause-run
 specials::read_thunk-returns-clause-run t c =
-    let kept : SameFrame c.open_thunk.new.self.buffer.value c.close_found.new.self.buffer.value = search (rules, runs) in
-    search (rules, runs, kept)
+    let opened = c.open_thunk.new.self in
+    let symbol = c.close_found.new.self in
+    let opens : Opens opened.buffer.value c.open-mark.new.self c.open-mark.result =
+    subst (λ (b : Buffer). Opens b c.open-mark.new.self c.open-mark.result) c.deref_mut.ensures.value c.open-mark.ensures.opens in
+    let since = IsSince-run _ _ _ _ (IsSince-opens _ _ _ opens) (c.in_ok-read_encoding.ensures {u = tt}).run in
+    let kept : SameFrame opened.buffer.value symbol.buffer.value = SameFrame-closed _ _ _ _ since (c.in_ok-close_found.ensures {u = tt}).closed in
+    let first : IsRun c.args.reader.now.buffer.value opened.buffer.value = search rules in
+    IsRun-trans _ _ _ first (IsRun-trans _ _ _ (IsRun-same _ _ kept) c.in_ok-print_worded.ensures.run)
 
 -- an operator, and what was read right after it
 pub expressions::read_pre-print_worded-requires-clause-after : goal.expressions::read_pre-print_worded-requires-clause-after
