@@ -1,4 +1,4 @@
-use Rattle.itanium_reader.proofs.Rules.{argument_lists, arguments, encodings, expressions, local_names, packs, primaries, thunks}
+use Rattle.itanium_reader.proofs.Rules.{argument_lists, arguments, encodings, expressions, local_names, packs, primaries, specials, thunks}
 use Rattle.itanium_productions.proofs.OwnQualifiers.{names}
 use Rattle.itanium_reader.proofs.Rules.{first_segments, nested_names, outer_names, unqualified_names}
 use Rattle.itanium_reader.proofs.Rules.{typed_lists, words}
@@ -7,7 +7,7 @@ use Rattle.std.proofs.Common.{◌≡◌, ◌<◌, ◌+◌, ◌*◌, ◌^◌, ◌
 use Rattle.std.proofs.Common.{codes}
 use Rattle.std.proofs.lemmas.List.{append-nil, length-append, length-drop}
 use Rattle.std.proofs.lemmas.Result.{err_from_is_err_and}
-use Rattle.demangle_text.specs.State.{shape, SameFrame, KeepsAll, IsEdit, Opens, main_bytes, saved, scopes}
+use Rattle.demangle_text.specs.State.{shape, SameFrame, KeepsAll, IsEdit, IsRun, Opens, main_bytes, saved, scopes}
 use Rattle.demangle_text.specs.Shape.{Shape, plain_shape, text, text_len, appended}
 use Rattle.demangle_text.specs.Calls.{joined, text_after}
 use Rattle.demangle_text.specs.declared.buffer.Buffer.{Buffer}
@@ -443,7 +443,10 @@ specials::read_thunk-returns-in_err-check_width-clause-reads t c =
     let opened = c.open_thunk.new.self in
     let symbol = c.close_found.new.self in
     let found = shape c.print_worded.new.self.buffer.value c.print_worded.new.self.found in
-    let kept : SameFrame opened.buffer.value symbol.buffer.value = search (rules, runs) in
+    let opens : Opens opened.buffer.value c.open-mark.new.self c.open-mark.result =
+    subst (λ (b : Buffer). Opens b c.open-mark.new.self c.open-mark.result) c.deref_mut.ensures.value c.open-mark.ensures.opens in
+    let since = IsSince-run _ _ _ _ (IsSince-opens _ _ _ opens) (c.in_ok-read_encoding.ensures {u = tt}).run in
+    let kept : SameFrame opened.buffer.value symbol.buffer.value = SameFrame-closed _ _ _ _ since (c.in_ok-close_found.ensures {u = tt}).closed in
     let words = kept.pieces opened.found (c.in_ok-open_thunk.ensures {u = tt}).reads.0 in
     let built = c.in_ok-print_worded.ensures.shape.shape_is
     ∙ ap (λ (s : Shape). worded_shape (text s) (shape symbol.buffer.value symbol.found) (codes ")}")) words.shape_is in
@@ -456,7 +459,10 @@ pub specials::read_thunk-returns-clause-reads : goal.specials::read_thunk-return
 specials::read_thunk-returns-clause-reads t c =
     let opened = c.open_thunk.new.self in
     let symbol = c.close_found.new.self in
-    let kept : SameFrame opened.buffer.value symbol.buffer.value = search (rules, runs) in
+    let opens : Opens opened.buffer.value c.open-mark.new.self c.open-mark.result =
+    subst (λ (b : Buffer). Opens b c.open-mark.new.self c.open-mark.result) c.deref_mut.ensures.value c.open-mark.ensures.opens in
+    let since = IsSince-run _ _ _ _ (IsSince-opens _ _ _ opens) (c.in_ok-read_encoding.ensures {u = tt}).run in
+    let kept : SameFrame opened.buffer.value symbol.buffer.value = SameFrame-closed _ _ _ _ since (c.in_ok-close_found.ensures {u = tt}).closed in
     let words = kept.pieces opened.found (c.in_ok-open_thunk.ensures {u = tt}).reads.0 in
     let built = c.in_ok-print_worded.ensures.shape.shape_is
     ∙ ap (λ (s : Shape). worded_shape (text s) (shape symbol.buffer.value symbol.found) (codes ")}")) words.shape_is in (
@@ -476,8 +482,14 @@ specials::read_thunk-print_worded-requires-clause-after t c =
 
 pub specials::read_thunk-returns-clause-run : goal.specials::read_thunk-returns-clause-run
 specials::read_thunk-returns-clause-run t c =
-    let kept : SameFrame c.open_thunk.new.self.buffer.value c.close_found.new.self.buffer.value = search (rules, runs) in
-    search (rules, runs, kept)
+    let opened = c.open_thunk.new.self in
+    let symbol = c.close_found.new.self in
+    let opens : Opens opened.buffer.value c.open-mark.new.self c.open-mark.result =
+    subst (λ (b : Buffer). Opens b c.open-mark.new.self c.open-mark.result) c.deref_mut.ensures.value c.open-mark.ensures.opens in
+    let since = IsSince-run _ _ _ _ (IsSince-opens _ _ _ opens) (c.in_ok-read_encoding.ensures {u = tt}).run in
+    let kept : SameFrame opened.buffer.value symbol.buffer.value = SameFrame-closed _ _ _ _ since (c.in_ok-close_found.ensures {u = tt}).closed in
+    let first : IsRun c.args.reader.now.buffer.value opened.buffer.value = search rules in
+    IsRun-trans _ _ _ first (IsRun-trans _ _ _ (IsRun-same _ _ kept) c.in_ok-print_worded.ensures.run)
 
 -- an operator, and what was read right after it
 pub expressions::read_pre-print_worded-requires-clause-after : goal.expressions::read_pre-print_worded-requires-clause-after
@@ -800,3 +812,100 @@ specials::read_thunk-returns-in_err-read_encoding-clause-reads t c = grind (arit
 
 pub specials::read_type_special-print_worded-requires-clause-after : goal.specials::read_type_special-print_worded-requires-clause-after
 specials::read_type_special-print_worded-requires-clause-after t c = grind (arith, words)
+
+pub args::read_template_arg-returns-clause-reads : goal.args::read_template_arg-returns-clause-reads
+args::read_template_arg-returns-clause-reads t c = grind (arith, arguments)
+
+pub encodings::read_encoding-returns-in-SpecialEncoding-clause-reads : goal.encodings::read_encoding-returns-in-SpecialEncoding-clause-reads
+encodings::read_encoding-returns-in-SpecialEncoding-clause-reads t c = grind (arith, encodings)
+
+pub encodings::read_encoding-returns-in-NameEncoding-clause-reads : goal.encodings::read_encoding-returns-in-NameEncoding-clause-reads
+encodings::read_encoding-returns-in-NameEncoding-clause-reads t c = grind (arith, encodings)
+
+pub encodings::read_encoding-returns-in_ok-read_name-in-FullEncoding-clause-reads : goal.encodings::read_encoding-returns-in_ok-read_name-in-FullEncoding-clause-reads
+encodings::read_encoding-returns-in_ok-read_name-in-FullEncoding-clause-reads t c = grind (arith, encodings)
+
+pub expressions::read_expr_primary-returns-in_err-framed_type-in-ValueLiteral-clause-reads : goal.expressions::read_expr_primary-returns-in_err-framed_type-in-ValueLiteral-clause-reads
+expressions::read_expr_primary-returns-in_err-framed_type-in-ValueLiteral-clause-reads t c = grind (arith, primaries)
+
+pub expressions::read_expr_primary-returns-in_default-clause-reads : goal.expressions::read_expr_primary-returns-in_default-clause-reads
+expressions::read_expr_primary-returns-in_default-clause-reads t c = grind (arith, primaries)
+
+pub expressions::read_expr_primary-returns-in_default-literal-clause-reads : goal.expressions::read_expr_primary-returns-in_default-literal-clause-reads
+expressions::read_expr_primary-returns-in_default-literal-clause-reads t c = grind (arith, primaries)
+
+pub expressions::read_expr_primary-returns-in-Some-literal-clause-reads : goal.expressions::read_expr_primary-returns-in-Some-literal-clause-reads
+expressions::read_expr_primary-returns-in-Some-literal-clause-reads t c = grind (arith, primaries)
+
+pub expressions::read_greater-returns-clause-reads : goal.expressions::read_greater-returns-clause-reads
+expressions::read_greater-returns-clause-reads t c = grind (arith, common_steps)
+
+pub expressions::read_greater-returns-clause-bounds : goal.expressions::read_greater-returns-clause-bounds
+expressions::read_greater-returns-clause-bounds t c = grind (arith, buffers)
+
+pub expressions::read_greater-returns-clause-saved : goal.expressions::read_greater-returns-clause-saved
+expressions::read_greater-returns-clause-saved t c = grind (arith, buffers)
+
+pub expressions::read_conditional-returns-clause-reads : goal.expressions::read_conditional-returns-clause-reads
+expressions::read_conditional-returns-clause-reads t c = grind (arith, common_steps)
+
+pub expressions::read_conditional-returns-clause-saved : goal.expressions::read_conditional-returns-clause-saved
+expressions::read_conditional-returns-clause-saved t c = grind (arith, buffers)
+
+pub names::read_name-returns-in_err-depth-clause-reads : goal.names::read_name-returns-in_err-depth-clause-reads
+names::read_name-returns-in_err-depth-clause-reads t c = grind (arith, names)
+
+pub names::read_name-returns-in_err-read_nested_name-in-NestedName-clause-reads : goal.names::read_name-returns-in_err-read_nested_name-in-NestedName-clause-reads
+names::read_name-returns-in_err-read_nested_name-in-NestedName-clause-reads t c = grind (arith, names)
+
+pub names::read_name-returns-in_err-read_local_name-in-LocalName-clause-reads : goal.names::read_name-returns-in_err-read_local_name-in-LocalName-clause-reads
+names::read_name-returns-in_err-read_local_name-in-LocalName-clause-reads t c = grind (arith, names)
+
+pub names::read_name-returns-in_err-read_unscoped_name-in-UnscopedName-clause-reads : goal.names::read_name-returns-in_err-read_unscoped_name-in-UnscopedName-clause-reads
+names::read_name-returns-in_err-read_unscoped_name-in-UnscopedName-clause-reads t c = grind (arith, names)
+
+pub names::read_name-returns-in_err-check_width-clause-reads : goal.names::read_name-returns-in_err-check_width-clause-reads
+names::read_name-returns-in_err-check_width-clause-reads t c = grind (arith, names)
+
+pub names::read_name-returns-in_err-check_width-2-clause-reads : goal.names::read_name-returns-in_err-check_width-2-clause-reads
+names::read_name-returns-in_err-check_width-2-clause-reads t c = grind (arith, names)
+
+pub expressions::read_expression-returns-in_err-check_width-clause-reads : goal.expressions::read_expression-returns-in_err-check_width-clause-reads
+expressions::read_expression-returns-in_err-check_width-clause-reads t c =
+    let r = c.from_residual-in_err-check_width in
+    let e = err_from_is_err_and r.result r.ensures.1 in
+    let read = c.match-expression_case.reader in
+    rw (e.1, e.2) (too_long _ (shape read.buffer.value read.found) _ (c.in_err-check_width.ensures {u = tt}).fits (λ wide. grind (arith, expressions)))
+
+pub args::read_template_arg-returns-in_err-read_argument_pack-in-PackArgument-clause-reads : goal.args::read_template_arg-returns-in_err-read_argument_pack-in-PackArgument-clause-reads
+args::read_template_arg-returns-in_err-read_argument_pack-in-PackArgument-clause-reads t c = grind (arith, arguments)
+
+pub args::read_template_arg-returns-in_err-read_expr_primary-in-PrimaryArgument-clause-reads : goal.args::read_template_arg-returns-in_err-read_expr_primary-in-PrimaryArgument-clause-reads
+args::read_template_arg-returns-in_err-read_expr_primary-in-PrimaryArgument-clause-reads t c = grind (arith, arguments)
+
+pub args::read_template_arg-returns-in_err-read_type-in-TypeArgument-clause-reads : goal.args::read_template_arg-returns-in_err-read_type-in-TypeArgument-clause-reads
+args::read_template_arg-returns-in_err-read_type-in-TypeArgument-clause-reads t c = grind (arith, arguments)
+
+pub args::read_template_args-close_arguments-requires-clause-inner : goal.args::read_template_args-close_arguments-requires-clause-inner
+args::read_template_args-close_arguments-requires-clause-inner t c = grind (arith, argument_lists)
+
+pub specials::read_construction-returns-clause-run : goal.specials::read_construction-returns-clause-run
+specials::read_construction-returns-clause-run t c = grind (arith, words)
+
+pub specials::read_special_name-returns-in-TypeSpecial-clause-reads : goal.specials::read_special_name-returns-in-TypeSpecial-clause-reads
+specials::read_special_name-returns-in-TypeSpecial-clause-reads t c = grind (arith, specials)
+
+pub specials::read_special_name-returns-in-NameSpecial-clause-reads : goal.specials::read_special_name-returns-in-NameSpecial-clause-reads
+specials::read_special_name-returns-in-NameSpecial-clause-reads t c = grind (arith, specials)
+
+pub specials::read_special_name-returns-in-TemporarySpecial-clause-reads : goal.specials::read_special_name-returns-in-TemporarySpecial-clause-reads
+specials::read_special_name-returns-in-TemporarySpecial-clause-reads t c = grind (arith, specials)
+
+pub specials::read_special_name-returns-in-ConstructionSpecial-clause-reads : goal.specials::read_special_name-returns-in-ConstructionSpecial-clause-reads
+specials::read_special_name-returns-in-ConstructionSpecial-clause-reads t c = grind (arith, specials)
+
+pub specials::read_special_name-returns-in-ThunkSpecial-clause-reads : goal.specials::read_special_name-returns-in-ThunkSpecial-clause-reads
+specials::read_special_name-returns-in-ThunkSpecial-clause-reads t c = grind (arith, specials)
+
+pub specials::read_special_name-returns-in-UnreadableSpecial-clause-reads : goal.specials::read_special_name-returns-in-UnreadableSpecial-clause-reads
+specials::read_special_name-returns-in-UnreadableSpecial-clause-reads t c = grind (arith, specials)
