@@ -73,3 +73,9 @@ end_answer-requires-clause-innermost c = grind (arith, common_steps)
 
 pub returns-clause-one : goal.returns-clause-one
 returns-clause-one c = grind (arith, answers)
+
+pub returns-in_err-buffer-in-None-clause-one : goal.returns-in_err-buffer-in-None-clause-one
+returns-in_err-buffer-in-None-clause-one c = grind (arith, answers)
+
+pub returns-in_err-answered-clause-one : goal.returns-in_err-answered-clause-one
+returns-in_err-answered-clause-one c = grind (arith, answers)
