@@ -10,3 +10,6 @@ returns-then-is_empty-clause-answer c = grind (arith, common_steps)
 
 pub close-requires-clause-innermost : goal.close-requires-clause-innermost
 close-requires-clause-innermost c = grind (arith, common_steps)
+
+pub returns-clause-ended : goal.returns-clause-ended
+returns-clause-ended c = grind (arith, common_steps)
