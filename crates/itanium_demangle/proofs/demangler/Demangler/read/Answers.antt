@@ -73,3 +73,33 @@ end_answer-requires-clause-innermost c = grind (arith, common_steps)
 
 pub returns-clause-one : goal.returns-clause-one
 returns-clause-one c = grind (arith, answers)
+
+pub returns-in_err-buffer-in-None-clause-one : goal.returns-in_err-buffer-in-None-clause-one
+returns-in_err-buffer-in-None-clause-one c = grind (arith, answers)
+
+pub returns-in_err-answered-clause-one : goal.returns-in_err-answered-clause-one
+returns-in_err-answered-clause-one c = grind (arith, answers)
+
+pub returns-in-Err-Unreadable-clause-bounds : goal.returns-in-Err-Unreadable-clause-bounds
+returns-in-Err-Unreadable-clause-bounds c = grind (arith, answers)
+
+pub returns-in-Err-Unreadable-clause-components : goal.returns-in-Err-Unreadable-clause-components
+returns-in-Err-Unreadable-clause-components c = grind (arith, common_steps)
+
+pub returns-in-Err-Unreadable-clause-saved : goal.returns-in-Err-Unreadable-clause-saved
+returns-in-Err-Unreadable-clause-saved c = grind (arith, common_steps)
+
+pub returns-in-Err-Unreadable-clause-longest : goal.returns-in-Err-Unreadable-clause-longest
+returns-in-Err-Unreadable-clause-longest c = grind (arith, common_steps)
+
+pub returns-in-Err-Unreadable-clause-answer : goal.returns-in-Err-Unreadable-clause-answer
+returns-in-Err-Unreadable-clause-answer c = grind (arith, common_steps)
+
+pub returns-in-Err-Unreadable-clause-counts : goal.returns-in-Err-Unreadable-clause-counts
+returns-in-Err-Unreadable-clause-counts c = grind (arith, answers)
+
+pub invariant_of-self-in-Err-Memory : goal.invariant_of-self-in-Err-Memory
+invariant_of-self-in-Err-Memory c = grind (arith, common_steps)
+
+pub returns-clause-bounds : goal.returns-clause-bounds
+returns-clause-bounds c = grind (arith, answers)
