@@ -3,7 +3,7 @@ use Rattle.demangle_text.specs.State.{IsAsOld, IsOlder, Stands, frame, frame_sta
 use Rattle.std.proofs.lemmas.Grind.{common_steps, elements}
 use Rattle.std.proofs.Common.{true, ◌≡◌, ◌-◌, ◌+◌, ◌++◌, ◌∷◌, [], ℕ, List, length, take, drop, sym, ap, ◌∙◌, subst, arith, append_assoc}
 use Rattle.std.proofs.lemmas.List.{length-append, length-take-le}
-use Rattle.growing_text.proofs.Rooms.{room-fits, fits-first, fits-second, three-put}
+use Rattle.growing_text.proofs.Gaps.{gap-fits, fits-first, fits-second, three-put}
 use Rattle.demangle_text.specs.Pieces.{IsAt, outline_of, own_at, place_at, layout_opened, group_from, piece_text}
 use Rattle.demangle_text.specs.declared.pieces.Piece.{Piece}
 use Rattle.demangle_text.specs.declared.pieces.Place.TheVariants.{Suffix}
@@ -11,7 +11,7 @@ use Rattle.demangle_text.specs.Shape.{moved, gap_after}
 use Rattle.demangle_text.specs.State.{IsLiving, IsEditOf, shape}
 use Rattle.demangle_text.specs.View.{store_of}
 use Rattle.demangle_text.proofs.States.{text_is}
-use Rattle.demangle_text.proofs.Brought.{IsOpen-same, IsStore-put, IsEdit-put, IsSplice-put}
+use Rattle.demangle_text.proofs.AtEnd.{IsOpen-same, IsStore-put, IsEdit-put, IsSplice-put}
 use Rattle.demangle_text.proofs.Groups.{group_text, layout_grouped}
 use Rattle.demangle_text.proofs.Tails.{Lives-opened, length-text, suffix_within, opened-longer, own-fits, layout-fits, IsEditOf-spliced}
 use Rattle.demangle_text.proofs.buffer.Buffer.open_group.Goals as goal
@@ -44,7 +44,7 @@ put-middle-requires c =
     let n = length front + length bytes + 1 in
     let o = IsOpen-same b (store_of c.self.inside) _ p at n from c.self.view_is c.in_ok-from.ensures.opened in
     let low = sym (length-take-le (from + at) o.output o.within) in
-    record { within = room-fits (take (from + at) o.output) (drop (from + at) o.output) c.self.inside.output n (from + at) (length front) o.room low (omega arith) }
+    record { within = gap-fits (take (from + at) o.output) (drop (from + at) o.output) c.self.inside.output n (from + at) (length front) o.gap low (omega arith) }
 
 pub put-end-requires : goal.put-end-requires
 put-end-requires c =
@@ -60,7 +60,7 @@ put-end-requires c =
     let one = c.put-middle in
     record {
       within = fits-first (take (from + at) o.output) (drop (from + at) o.output) c.self.inside.output front bytes (41 ∷ [])
-          one.new.self one.new.self n (from + at) one.result 0 o.room low (omega arith) one.ensures.value one.ensures.ends;
+          one.new.self one.new.self n (from + at) one.result 0 o.gap low (omega arith) one.ensures.value one.ensures.ends;
     }
 
 pub put-requires : goal.put-requires
@@ -78,7 +78,7 @@ put-requires c =
     let two = c.put-end in
     record {
       within = fits-second (take (from + at) o.output) (drop (from + at) o.output) c.self.inside.output front bytes (41 ∷ [])
-          one.new.self two.new.self n (from + at) one.result two.result o.room low (omega arith)
+          one.new.self two.new.self n (from + at) one.result two.result o.gap low (omega arith)
           one.ensures.value one.ensures.ends two.ensures.value two.ensures.ends;
     }
 
@@ -94,7 +94,7 @@ with_bytes-moved-requires-clause-own_fits c =
     let o = IsOpen-same b (store_of c.self.inside) _ p at n from c.self.view_is c.in_ok-from.ensures.opened in
     let low = sym (length-take-le (from + at) o.output o.within) in
     let output = three-put (take (from + at) o.output) (drop (from + at) o.output) c.self.inside.output front bytes (41 ∷ [])
-    c.put-middle.new.self c.put-end.new.self n (from + at) c.put-middle.result c.put-end.result o.room low (omega arith)
+    c.put-middle.new.self c.put-end.new.self n (from + at) c.put-middle.result c.put-end.result o.gap low (omega arith)
     c.put-middle.ensures.value c.put-middle.ensures.ends c.put-end.ensures.value c.put-end.ensures.ends _ c.put.ensures.value in
     let all = front ++ (bytes ++ 41 ∷ []) in
     let long = length-three front bytes in
@@ -114,7 +114,7 @@ with_bytes-moved-requires-clause-layout_fits c =
     let o = IsOpen-same b (store_of c.self.inside) _ p at n from c.self.view_is c.in_ok-from.ensures.opened in
     let low = sym (length-take-le (from + at) o.output o.within) in
     let output = three-put (take (from + at) o.output) (drop (from + at) o.output) c.self.inside.output front bytes (41 ∷ [])
-    c.put-middle.new.self c.put-end.new.self n (from + at) c.put-middle.result c.put-end.result o.room low (omega arith)
+    c.put-middle.new.self c.put-end.new.self n (from + at) c.put-middle.result c.put-end.result o.gap low (omega arith)
     c.put-middle.ensures.value c.put-middle.ensures.ends c.put-end.ensures.value c.put-end.ensures.ends _ c.put.ensures.value in
     let all = front ++ (bytes ++ 41 ∷ []) in
     let long = length-three front bytes in
@@ -146,7 +146,7 @@ invariant_of-self c =
     let o = IsOpen-same b (store_of c.self.inside) _ p at n from c.self.view_is c.in_ok-from.ensures.opened in
     let low = sym (length-take-le (from + at) o.output o.within) in
     let output = three-put (take (from + at) o.output) (drop (from + at) o.output) c.self.inside.output front bytes (41 ∷ [])
-    c.put-middle.new.self c.put-end.new.self n (from + at) c.put-middle.result c.put-end.result o.room low (omega arith)
+    c.put-middle.new.self c.put-end.new.self n (from + at) c.put-middle.result c.put-end.result o.gap low (omega arith)
     c.put-middle.ensures.value c.put-middle.ensures.ends c.put-end.ensures.value c.put-end.ensures.ends _ c.put.ensures.value in
     let all = front ++ (bytes ++ 41 ∷ []) in
     let long = length-three front bytes in
@@ -164,7 +164,7 @@ returns-clause-edit c =
     let o = IsOpen-same b (store_of c.self.inside) _ p at n from c.self.view_is c.in_ok-from.ensures.opened in
     let low = sym (length-take-le (from + at) o.output o.within) in
     let output = three-put (take (from + at) o.output) (drop (from + at) o.output) c.self.inside.output front bytes (41 ∷ [])
-    c.put-middle.new.self c.put-end.new.self n (from + at) c.put-middle.result c.put-end.result o.room low (omega arith)
+    c.put-middle.new.self c.put-end.new.self n (from + at) c.put-middle.result c.put-end.result o.gap low (omega arith)
     c.put-middle.ensures.value c.put-middle.ensures.ends c.put-end.ensures.value c.put-end.ensures.ends _ c.put.ensures.value in
     let all = front ++ (bytes ++ 41 ∷ []) in
     let long = length-three front bytes in
@@ -183,7 +183,7 @@ returns-clause-shape c =
     let o = IsOpen-same b (store_of c.self.inside) _ p at n from c.self.view_is c.in_ok-from.ensures.opened in
     let low = sym (length-take-le (from + at) o.output o.within) in
     let output = three-put (take (from + at) o.output) (drop (from + at) o.output) c.self.inside.output front bytes (41 ∷ [])
-    c.put-middle.new.self c.put-end.new.self n (from + at) c.put-middle.result c.put-end.result o.room low (omega arith)
+    c.put-middle.new.self c.put-end.new.self n (from + at) c.put-middle.result c.put-end.result o.gap low (omega arith)
     c.put-middle.ensures.value c.put-middle.ensures.ends c.put-end.ensures.value c.put-end.ensures.ends _ c.put.ensures.value in
     let all = front ++ (bytes ++ 41 ∷ []) in
     let long = length-three front bytes in
@@ -218,7 +218,7 @@ returns-clause-edit_of c =
     let o = IsOpen-same b (store_of c.self.inside) _ p at n from c.self.view_is c.in_ok-from.ensures.opened in
     let low = sym (length-take-le (from + at) o.output o.within) in
     let output = three-put (take (from + at) o.output) (drop (from + at) o.output) c.self.inside.output front bytes (41 ∷ [])
-    c.put-middle.new.self c.put-end.new.self n (from + at) c.put-middle.result c.put-end.result o.room low (omega arith)
+    c.put-middle.new.self c.put-end.new.self n (from + at) c.put-middle.result c.put-end.result o.gap low (omega arith)
     c.put-middle.ensures.value c.put-middle.ensures.ends c.put-end.ensures.value c.put-end.ensures.ends _ c.put.ensures.value in
     let all = front ++ (bytes ++ 41 ∷ []) in
     let long = length-three front bytes in
@@ -230,9 +230,9 @@ returns-clause-edit_of c =
     let by = opened-longer b _ p at all from c.requires.living splice q stands bytes (returns-clause-shape c) in
     subst (IsEditOf b _ p q) by (IsEditOf-spliced b _ p q at from all splice stands)
 
-pub open_in-requires-clause-within : goal.open_in-requires-clause-within
+pub open_gap_in-requires-clause-within : goal.open_gap_in-requires-clause-within
 unfolding IsLiving shape main_bytes Stands frame_start frame outermost IsOlder IsAsOld inside outside saved scopes
-open_in-requires-clause-within c = grind (arith, elements)
+open_gap_in-requires-clause-within c = grind (arith, elements)
 
 pub with_bytes-moved-requires-clause-text : goal.with_bytes-moved-requires-clause-text
 unfolding IsLiving shape main_bytes Stands frame_start frame outermost IsOlder IsAsOld inside outside saved scopes
