@@ -1,4 +1,5 @@
-use Rattle.demangle_text.proofs.Laws.{laws, StaysInPlace-edit, StaysInPlace-trans, AppendsPiece-push, AppendsPiece-edit, AppendsPiece-named, IsEdit-keeps, IsEdit-trans}
+use Rattle.demangle_text.proofs.Laws.{laws, StaysInPlace-edit, StaysInPlace-trans}
+use Rattle.demangle_text.proofs.Laws.{AppendsPiece-push, AppendsPiece-edit, AppendsPiece-named, IsEdit-keeps, IsEdit-trans}
 use Rattle.std.proofs.Common.{rules, ◌≡◌, subst, arith}
 use Rattle.demangle_text.specs.Shape.{text}
 use Rattle.demangle_text.specs.State.{shape}

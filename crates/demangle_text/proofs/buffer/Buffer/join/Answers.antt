@@ -41,7 +41,8 @@ moved c =
     let b = c.args.self.now in
     let s = store_of c.self.inside in
     let apart = λ (h : IsAdjacent b c.args.first c.args.second).
-    let t = c.is_tail-then-is_tail.ensures.other (is-adjacent s b c.args.first c.args.second c.self.view_is h) in let f = c.if-is_tail-2.false in let k : ⊥ = false≢true (sym f ∙ t) in k in
+    let t = c.is_tail-then-is_tail.ensures.other (is-adjacent s b c.args.first c.args.second c.self.view_is h) in
+    let f = c.if-is_tail-2.false in let k : ⊥ = false≢true (sym f ∙ t) in k in
     let tail = tail-is s b c.args.second c.len.result c.self.view_is c.len.ensures.value (c.is_tail.ensures.tail c.if-is_tail.true) in
     let before : EndsBy c.args.second.from_byte c.args.first = search rules in
     IsJoint-moved b c.insert_piece.new.self c.args.first c.args.bytes.now c.args.second apart tail before c.requires.second_living.ordered c.in_ok-insert_piece.ensures.output
@@ -71,7 +72,8 @@ extended c =
     let apart = λ (h : IsAdjacent b one two).
     let k : ⊥ = elim c.if-is_tail.branch [
       | then-is_tail+else-is_tail-2+else-first+else-first-second w ↦
-          let t = w.is_tail-then-is_tail.ensures.other (is-adjacent s b one two c.self.view_is h) in let f = w.if-is_tail-2.false in let k : ⊥ = false≢true (sym f ∙ t) in k
+          let t = w.is_tail-then-is_tail.ensures.other (is-adjacent s b one two c.self.view_is h) in
+          let f = w.if-is_tail-2.false in let k : ⊥ = false≢true (sym f ∙ t) in k
       | else-is_tail w ↦
           let t = there (adjacent-tail b one two c.requires.first_living h) in let f = w.if-is_tail.false in let k : ⊥ = false≢true (sym f ∙ t) in k
     ] in k in
