@@ -1,4 +1,4 @@
-use Rattle.std.proofs.Common.{arith, rules, ◌≡◌, ◌-◌, None, length, take, drop, ap, ◌∙◌}
+use Rattle.std.proofs.Common.{arith, ◌≡◌, ◌-◌, None, length, take, drop, ap, ◌∙◌}
 use Rattle.std.proofs.lemmas.List.{take_rest}
 use Rattle.std.proofs.lemmas.Grind.{common_steps}
 use Rattle.symfilter_engine.specs.Replaced as spec
@@ -11,15 +11,15 @@ returns-in_default-bytes-clause-value c =
     let front = c.prefix_chars_len-chars_len.result in
     let none : None ≡ spec.symbol_at c.args.strip (take (length word - front) (drop front word)) =
     elim c.in_default-bytes.branch [
-      | in_default-bytes-via-then-bytes-lt2 w ↦ search rules
-      | in_default-bytes-via-else-bytes-lt2+then-bytes-lt3+in-95+in_default-1 w ↦ search rules
-      | in_default-bytes-via-else-bytes-lt2+then-bytes-lt3+in_default-1 w ↦ search rules
-      | in_default-bytes-via-else-bytes-lt2+else-bytes-lt3+then-bytes-lt4+in-95+in-95-bytes-4+in_default-1 w ↦ search rules
-      | in_default-bytes-via-else-bytes-lt2+else-bytes-lt3+then-bytes-lt4+in-95+in_default-1 w ↦ search rules
-      | in_default-bytes-via-else-bytes-lt2+else-bytes-lt3+then-bytes-lt4+in_default-1 w ↦ search rules
-      | in_default-bytes-via-in-95-2+else-strip w ↦ search rules
-      | in_default-bytes-via-else-bytes-lt2+else-bytes-lt3+else-bytes-lt4+in-95+in-95-bytes-7+in-95-bytes-8+in_default-1 w ↦ search rules
-      | in_default-bytes-via-else-bytes-lt2+else-bytes-lt3+else-bytes-lt4+in-95+in-95-bytes-7+in_default-1 w ↦ search rules
+      | in_default-bytes-via-then-bytes-lt2 w ↦ grind (arith, common_steps)
+      | in_default-bytes-via-else-bytes-lt2+then-bytes-lt3+in-95+in_default-1 w ↦ grind (arith, common_steps)
+      | in_default-bytes-via-else-bytes-lt2+then-bytes-lt3+in_default-1 w ↦ grind (arith, common_steps)
+      | in_default-bytes-via-else-bytes-lt2+else-bytes-lt3+then-bytes-lt4+in-95+in-95-bytes-4+in_default-1 w ↦ grind (arith, common_steps)
+      | in_default-bytes-via-else-bytes-lt2+else-bytes-lt3+then-bytes-lt4+in-95+in_default-1 w ↦ grind (arith, common_steps)
+      | in_default-bytes-via-else-bytes-lt2+else-bytes-lt3+then-bytes-lt4+in_default-1 w ↦ grind (arith, common_steps)
+      | in_default-bytes-via-in-95-2+else-strip w ↦ grind (arith, common_steps)
+      | in_default-bytes-via-else-bytes-lt2+else-bytes-lt3+else-bytes-lt4+in-95+in-95-bytes-7+in-95-bytes-8+in_default-1 w ↦ grind (arith, common_steps)
+      | in_default-bytes-via-else-bytes-lt2+else-bytes-lt3+else-bytes-lt4+in-95+in-95-bytes-7+in_default-1 w ↦ grind (arith, common_steps)
       | in_default-bytes-via-else-bytes-lt2+else-bytes-lt3+else-bytes-lt4+in-95+in_default-1 w ↦ grind (arith, common_steps)
       | in_default-bytes-via-else-bytes-lt2+else-bytes-lt3+else-bytes-lt4+in_default-1 w ↦ grind (arith, common_steps)
     ] in
