@@ -603,7 +603,12 @@ pub types::read_cv-returns-in-CvFunction-clause-reads : goal.types::read_cv-retu
 types::read_cv-returns-in-CvFunction-clause-reads t c = grind (arith, buffers)
 
 pub types::read_elaborated-print_worded-requires-clause-after : goal.types::read_elaborated-print_worded-requires-clause-after
-types::read_elaborated-print_worded-requires-clause-after t c = grind (arith, words)
+types::read_elaborated-print_worded-requires-clause-after t c =
+    let front = c.in_ok-word.ensures {u = tt} in
+    let named = c.framed_name.new.reader in
+    text_after-follows c.push.new.self named.buffer.value c.in_ok-word.word _ front.shape.living
+    (IsLast-push _ _ _ front.kept front.mark front.stands) (subst (λ (b : Buffer). main_bytes named.buffer.value ≡ main_bytes b ++ text (shape named.buffer.value named.found))
+    c.skip.ensures.buffer (c.in_ok-framed_name.ensures {u = tt}).output)
 
 pub types::read_expansion-returns-clause-saved : goal.types::read_expansion-returns-clause-saved
 types::read_expansion-returns-clause-saved t c = grind (arith, common_steps)
@@ -799,7 +804,10 @@ pub expressions::read_post-returns-clause-run : goal.expressions::read_post-retu
 expressions::read_post-returns-clause-run t c = grind (arith, buffers)
 
 pub specials::read_name_special-print_worded-requires-clause-after : goal.specials::read_name_special-print_worded-requires-clause-after
-specials::read_name_special-print_worded-requires-clause-after t c = grind (arith, words)
+specials::read_name_special-print_worded-requires-clause-after t c =
+    let front = c.in_ok-begun.ensures {u = tt} in
+    text_after-follows c.push.new.self c.framed_name.new.reader.buffer.value c.in_ok-begun.begun _ front.shape.living
+    (IsLast-push _ _ _ front.kept front.mark front.stands) (c.in_ok-framed_name.ensures {u = tt}).output
 
 pub specials::read_thunk-returns-in_err-depth-clause-reads : goal.specials::read_thunk-returns-in_err-depth-clause-reads
 specials::read_thunk-returns-in_err-depth-clause-reads t c = grind (arith, thunks)
@@ -811,7 +819,10 @@ pub specials::read_thunk-returns-in_err-read_encoding-clause-reads : goal.specia
 specials::read_thunk-returns-in_err-read_encoding-clause-reads t c = grind (arith, thunks)
 
 pub specials::read_type_special-print_worded-requires-clause-after : goal.specials::read_type_special-print_worded-requires-clause-after
-specials::read_type_special-print_worded-requires-clause-after t c = grind (arith, words)
+specials::read_type_special-print_worded-requires-clause-after t c =
+    let front = c.in_ok-begun.ensures {u = tt} in
+    text_after-follows c.push.new.self c.framed_type.new.reader.buffer.value c.in_ok-begun.begun _ front.shape.living
+    (IsLast-push _ _ _ front.kept front.mark front.stands) (c.in_ok-framed_type.ensures {u = tt}).output
 
 pub args::read_template_arg-returns-clause-reads : goal.args::read_template_arg-returns-clause-reads
 args::read_template_arg-returns-clause-reads t c = grind (arith, arguments)
