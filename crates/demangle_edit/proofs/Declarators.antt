@@ -13,7 +13,7 @@ use Rattle.demangle_text.specs.declared.pieces.Place.TheVariants.{Close, Suffix,
 use Rattle.demangle_text.specs.Shape.{Shape, Form, Plain, Declared, is_plain, text, shortened, appended, inserted, opened_group}
 use Rattle.demangle_text.specs.Calls.{kind_of, group_of, CanInsert, IsPlain, IsDeclared}
 use Rattle.demangle_edit.specs.Types.{pointed_in, cv_place, collapse_step}
-use Rattle.demangle_edit.specs.Calls.{is_shortened}
+use Rattle.demangle_edit.specs.Calls.{pointer_shortens}
 
 pub plain_kind : (f : Form) → kind_of f ≡ None → is_plain f ≡ true
 plain_kind (Plain t) e = refl
@@ -90,7 +90,7 @@ both true false h = cc
 both false y h = cc
 
 -- where `&` takes a byte away there is a reference
-pub cut_found : (kind : Pointer) (s : Shape) → is_shortened kind s ≡ true → None ≡ collapse_step false s → ⊥
+pub cut_found : (kind : Pointer) (s : Shape) → pointer_shortens kind s ≡ true → None ≡ collapse_step false s → ⊥
 cut_found Star s h none = cc
 cut_found Right s h none = cc
 cut_found Left s h none =

@@ -19,24 +19,24 @@ use Rattle.demangle_edit.specs.declared.glue_parts.Glue.{Glue}
 use Rattle.demangle_edit.specs.declared.glue_parts.Glue.TheVariants.{Text, Piece as Part}
 
 -- whether that reference takes a byte of the type away
-abbrev pub is_cut : Bool → Shape → Bool
-is_cut rvalue s = not rvalue && (is_plain s.form && ends_with nat_eq (text s) (codes "&&"))
+abbrev pub ref_shortens : Bool → Shape → Bool
+ref_shortens rvalue s = not rvalue && (is_plain s.form && ends_with nat_eq (text s) (codes "&&"))
 
 -- whether a pointer or a reference takes a byte of the type away: `&` takes one of `&&`
-abbrev pub is_shortened : Pointer → Shape → Bool
-is_shortened Star s = false
-is_shortened Left s = is_cut false s
-is_shortened Right s = false
+abbrev pub pointer_shortens : Pointer → Shape → Bool
+pointer_shortens Star s = false
+pointer_shortens Left s = ref_shortens false s
+pointer_shortens Right s = false
 
 -- whether a reference to the type is the type itself: a plain text that ends in `&` and loses no byte
-abbrev pub is_kept : Bool → Shape → Bool
-is_kept rvalue s = is_plain s.form && ends_with nat_eq (text s) (codes "&") && not (is_cut rvalue s)
+abbrev pub ref_is_same : Bool → Shape → Bool
+ref_is_same rvalue s = is_plain s.form && ends_with nat_eq (text s) (codes "&") && not (ref_shortens rvalue s)
 
 -- whether a pointer or a reference to the type is the type itself
-abbrev pub is_left : Pointer → Shape → Bool
-is_left Star s = false
-is_left Left s = is_kept false s
-is_left Right s = is_kept true s
+abbrev pub pointer_is_same : Pointer → Shape → Bool
+pointer_is_same Star s = false
+pointer_is_same Left s = ref_is_same false s
+pointer_is_same Right s = ref_is_same true s
 
 -- the array of the type, where there is one
 abbrev pub array_step : Option ℕ → Shape → Option Shape

@@ -7,7 +7,7 @@ ghost use Rattle.demangle_text.specs.State.{StaysInPlace, IsLeftOrStays, JoinsIn
 ghost use Rattle.demangle_edit.specs.Answers.{Answers, IfFound, OnNone};
 ghost use Rattle.demangle_edit.specs.Types.{pointed, collapse_step, pointer_shape, cv_place, cv_shape};
 ghost use Rattle.demangle_edit.specs.Built.{function_closed};
-ghost use Rattle.demangle_edit.specs.Calls.{is_cut, is_shortened, is_kept, is_left};
+ghost use Rattle.demangle_edit.specs.Calls.{ref_shortens, pointer_shortens, ref_is_same, pointer_is_same};
 ghost use Rattle.demangle_edit.specs.Calls.{function_step, opening_step, array_step, after_text, member_pointer_step};
 ghost use Rattle.demangle_edit.specs.Types.{expansion_shape, dimension_digits, array_shape, member_pointer_shape};
 
@@ -42,12 +42,12 @@ pub fn wrap_pointer(buf: &mut Buffer, inner: Piece, kind: Pointer) -> Result<Pie
     requires inner { IsLiving buf.old inner }
     ensures shape { IfOk result (λ p. Lives buf.new p (pointer_shape kind (shape buf.old inner))) }
     ensures edit { OnOk result (IsEdit buf.old buf.new) }
-    ensures in_place { is_shortened kind (shape buf.old inner) ≡ false
+    ensures in_place { pointer_shortens kind (shape buf.old inner) ≡ false
         → IfOk result (λ p. IsLeftOrStays buf.old buf.new inner p) }
-    ensures same { is_left kind (shape buf.old inner) ≡ true → (result ≡ Ok inner) × (buf.new ≡ buf.old) }
-    ensures cut_main { is_shortened kind (shape buf.old inner) ≡ true
+    ensures same { pointer_is_same kind (shape buf.old inner) ≡ true → (result ≡ Ok inner) × (buf.new ≡ buf.old) }
+    ensures cut_main { pointer_shortens kind (shape buf.old inner) ≡ true
         → OnOk result (main_bytes buf.new ≡ main_bytes buf.old) }
-    ensures cut_stands { is_shortened kind (shape buf.old inner) ≡ true
+    ensures cut_stands { pointer_shortens kind (shape buf.old inner) ≡ true
         → IfOk result (λ p. StandsShortened 1 inner p) }
 {
     match kind {
@@ -77,12 +77,13 @@ pub fn collapse_ref(
     ensures edit { OnOk result (IsEdit buf.old buf.new) }
     ensures none { OnNone result (KeepsAll buf.old buf.new) }
     ensures none_main { OnNone result (main_bytes buf.new ≡ main_bytes buf.old) }
-    ensures in_place { is_cut rvalue (shape buf.old inner) ≡ false
+    ensures in_place { ref_shortens rvalue (shape buf.old inner) ≡ false
         → IfFound result (λ p. IsLeftOrStays buf.old buf.new inner p) }
-    ensures same { is_kept rvalue (shape buf.old inner) ≡ true → (result ≡ Ok (Some inner)) × (buf.new ≡ buf.old) }
-    ensures cut_main { is_cut rvalue (shape buf.old inner) ≡ true
+    ensures same { ref_is_same rvalue (shape buf.old inner) ≡ true → (result ≡ Ok (Some inner)) × (buf.new ≡ buf.old) }
+    ensures cut_main { ref_shortens rvalue (shape buf.old inner) ≡ true
         → OnOk result (main_bytes buf.new ≡ main_bytes buf.old) }
-    ensures cut_stands { is_cut rvalue (shape buf.old inner) ≡ true → IfFound result (λ p. StandsShortened 1 inner p) }
+    ensures cut_stands { ref_shortens rvalue (shape buf.old inner) ≡ true
+        → IfFound result (λ p. StandsShortened 1 inner p) }
 {
     if buf.kind(inner).is_some() || !buf.bytes(inner).ends_with(b"&") {
         return Ok(None);

@@ -16,8 +16,8 @@ use std::marker::Model;
 pub struct Buffer {
     // The text that is being made.
     pub(crate) output: Text,
-    // The saved shapes and the arguments of all scopes, and the spill with those of their texts that a move would have
-    // torn.
+    // The substitution table, the arguments of all scopes, and the spill, which has copies of those of their texts
+    // that a move would have overwritten or cut.
     pub(crate) kept: KeptPieces,
     // The index at which the arguments of each scope begin.
     pub(crate) starts: Vec<usize>,

@@ -17,7 +17,7 @@ pub(crate) fn add_text(output: &mut Text, spill: &Text, piece: Piece) -> Result<
     if piece.spilled {
         output.add(spill.part(piece.from_byte, piece.to_byte))
     } else {
-        output.repeat(piece.from_byte, piece.to_byte)
+        output.add_part(piece.from_byte, piece.to_byte)
     }
 }
 

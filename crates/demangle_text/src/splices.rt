@@ -1,5 +1,5 @@
-//! Changes of the output from which the calls of a buffer are made. They bring a text to the end and change it there,
-//! join texts, and keep one text alone.
+//! The private steps of the methods of `Buffer`: move a range of the output down to the mark, open a gap in it, insert
+//! bytes or a piece, and append to a piece.
 ghost use Rattle.std.specs.Prelude.{◌≡◌, ◌+◌, ◌-◌, ◌^◌, ◌<◌, ◌≤◌, ◌++◌, length, take, drop, slice_range, IfOk, OnOk, OnErr, true};
 
 use crate::buffer::Buffer;
@@ -52,7 +52,7 @@ impl Buffer {
             end: to,
         };
         self.kept.spill_torn(self.output.as_slice(), block)?;
-        self.output.keep(at, from, to);
+        self.output.keep_only(at, from, to);
         self.kept.saved.shift(block, at);
         self.kept.args.shift(block, at);
         Ok(())

@@ -122,7 +122,7 @@ impl Text {
 
     /// Appends a copy of a part of the text.
     #[inline(always)]
-    pub fn repeat(&mut self, from: usize, to: usize) -> Result<(), AllocError>
+    pub fn add_part(&mut self, from: usize, to: usize) -> Result<(), AllocError>
         requires ordered { from ≤ to }
         requires within { to ≤ length self.old }
         ensures ok { OnOk result (self.new ≡ self.old ++ slice_range self.old from to) }
@@ -181,7 +181,7 @@ impl Text {
 
     /// Moves a part of the text down to a place. Removes what was between that place and the part, and what was after
     /// the part.
-    pub fn keep(&mut self, at: usize, from: usize, to: usize)
+    pub fn keep_only(&mut self, at: usize, from: usize, to: usize)
         requires before { at ≤ from }
         requires ordered { from ≤ to }
         requires within { to ≤ length self.old }

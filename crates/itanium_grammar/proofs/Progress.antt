@@ -222,11 +222,11 @@ mutual
   function_takes (function {p = p} {r = r} plain a b there) =
       after_takes (after_drop 1 p.rest) (takes_then (type_takes a) (after_then (params_after b) (after_then (reference_after r.rest) (after_drop 1 (past_reference r.rest)))))
 
-  params_after : {case : ParamsCase} {end : EncodingEnd} {of_function : Bool} {x : Context} {p q : Position} {ts : List Tree} {c : Cost} → ParamsAs case end of_function x p ts q c → IsAfter q.rest p.rest
+  params_after : {case : ParamsCase} {end : EncodingEnd} {in_function_type : Bool} {x : Context} {p q : Position} {ts : List Tree} {c : Cost} → ParamsAs case end in_function_type x p ts q c → IsAfter q.rest p.rest
   params_after (no_params {p = p}) = after_drop 1 p.rest
   params_after (some_params a) = types_after a
 
-  pub types_after : {case : TypeListCase} {end : EncodingEnd} {of_function : Bool} {x : Context} {p q : Position} {ts : List Tree} {c : Cost} → TypeListAs case end of_function x p ts q c → IsAfter q.rest p.rest
+  pub types_after : {case : TypeListCase} {end : EncodingEnd} {in_function_type : Bool} {x : Context} {p q : Position} {ts : List Tree} {c : Cost} → TypeListAs case end in_function_type x p ts q c → IsAfter q.rest p.rest
   types_after (end_of_types {p = p}) = after_none p.rest
   types_after (one_more_type a b) = after_then (type_takes a).after (types_after b)
 

@@ -394,15 +394,15 @@ mutual
         cost = ap₂ both ret.cost params.cost;
       }
 
-  one_params : {case : ParamsCase} {end : EncodingEnd} {of_function : Bool} {x : Context} {p q r : Position} {ts us : List Tree} {c d : Cost}
-      → ParamsAs case end of_function x p ts q c → ParamsAs case end of_function x p us r d → Same ts us q r c d
+  one_params : {case : ParamsCase} {end : EncodingEnd} {in_function_type : Bool} {x : Context} {p q r : Position} {ts us : List Tree} {c d : Cost}
+      → ParamsAs case end in_function_type x p ts q c → ParamsAs case end in_function_type x p us r d → Same ts us q r c d
   one_params no_params no_params = record { tree = refl; next = refl; cost = refl }
   one_params (some_params a) (some_params b) = one_types a b
 
-  one_types : {case : TypeListCase} {end : EncodingEnd} {of_function : Bool} {x : Context} {p q r : Position} {ts us : List Tree} {c d : Cost}
-      → TypeListAs case end of_function x p ts q c → TypeListAs case end of_function x p us r d → Same ts us q r c d
+  one_types : {case : TypeListCase} {end : EncodingEnd} {in_function_type : Bool} {x : Context} {p q r : Position} {ts us : List Tree} {c d : Cost}
+      → TypeListAs case end in_function_type x p ts q c → TypeListAs case end in_function_type x p us r d → Same ts us q r c d
   one_types end_of_types end_of_types = record { tree = refl; next = refl; cost = refl }
-  one_types (one_more_type {end = end} {of_function = f} {x = x} a b) (one_more_type {r = r} {ts = us} {d = d} e g) =
+  one_types (one_more_type {end = end} {in_function_type = f} {x = x} a b) (one_more_type {r = r} {ts = us} {d = d} e g) =
       let first = one_type a e in
       let others = one_types b (subst (λ o. TypeListAs (type_list_case end f o.rest) end f x o us r d) (sym first.next) g) in
       record { tree = ap₂ (λ t ts. t ∷ ts) first.tree others.tree; next = others.next; cost = ap₂ both first.cost others.cost }

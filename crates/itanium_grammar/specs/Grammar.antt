@@ -402,8 +402,8 @@ mutual
         (first_is_candidate (first_case (past_name_quals p.rest))) x t (past_initializer q) u r d
         → Nested x p (nested_of u (name_quals p.rest) x.words_shown) r (both c d)
 
-  -- one more segment of a <prefix> after what stands, or the E after it. The truth value says whether the E takes the
-  -- last saved tree back
+  -- after a <prefix> with the tree t: one more segment, or the E. If `candidate` is true, t was saved as a component
+  -- when it was read, and the E removes it again
   pub data SegmentsAs : SegmentCase → Bool → Context → Tree → Position → Tree → Position → Cost → Type 0 where
     -- E
     end_of_segments : {candidate : Bool} {x : Context} {p : Position} {t : Tree}
@@ -638,26 +638,26 @@ mutual
   pub data ParamsAs : ParamsCase → EncodingEnd → Bool → Context → Position → List Tree → Position → Cost
       → Type 0 where
     -- v, right before the end
-    no_params : {end : EncodingEnd} {of_function : Bool} {x : Context} {p : Position}
-        → ParamsAs NoParams end of_function x p [] (skip 1 p) nothing
+    no_params : {end : EncodingEnd} {in_function_type : Bool} {x : Context} {p : Position}
+        → ParamsAs NoParams end in_function_type x p [] (skip 1 p) nothing
     -- <type>*
-    some_params : {end : EncodingEnd} {of_function : Bool} {x : Context} {p q : Position} {ts : List Tree} {c : Cost}
-        → TypeListAs (type_list_case end of_function p.rest) end of_function x p ts q c
-        → ParamsAs SomeParams end of_function x p ts q c
+    some_params : {end : EncodingEnd} {in_function_type : Bool} {x : Context} {p q : Position} {ts : List Tree}
+        {c : Cost} → TypeListAs (type_list_case end in_function_type p.rest) end in_function_type x p ts q c
+        → ParamsAs SomeParams end in_function_type x p ts q c
 
   -- one more type of a list of parameters, or their end
   pub data TypeListAs : TypeListCase → EncodingEnd → Bool → Context → Position → List Tree → Position → Cost
       → Type 0 where
     -- the end, which isn't taken
-    end_of_types : {end : EncodingEnd} {of_function : Bool} {x : Context} {p : Position}
-        → TypeListAs EndOfTypes end of_function x p [] p nothing
+    end_of_types : {end : EncodingEnd} {in_function_type : Bool} {x : Context} {p : Position}
+        → TypeListAs EndOfTypes end in_function_type x p [] p nothing
     -- <type>
     one_more_type :
-        {end : EncodingEnd} {of_function : Bool} {x : Context} {p q r : Position} {t : Tree} {ts : List Tree}
+        {end : EncodingEnd} {in_function_type : Bool} {x : Context} {p q r : Position} {t : Tree} {ts : List Tree}
         {c d : Cost}
         → TypeOf x p t q c
-        → TypeListAs (type_list_case end of_function q.rest) end of_function x q ts r d
-        → TypeListAs NextType end of_function x p (t ∷ ts) r (both c d)
+        → TypeListAs (type_list_case end in_function_type q.rest) end in_function_type x q ts r d
+        → TypeListAs NextType end in_function_type x p (t ∷ ts) r (both c d)
 
   -- <template-args> after a type, or none
   pub data TypeAttachedAs : AttachedCase → Context → Tree → Position → Tree → Position → Cost → Type 0 where

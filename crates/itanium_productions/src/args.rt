@@ -61,6 +61,7 @@ pub(crate) fn read_template_args(
                 reader.separate(first)?;
                 read_template_arg(reader, depth, context)?;
                 reader.add_argument(opens, scopes)?;
+                // Tested after each argument, so that the list can't grow far beyond the limit before its `E`.
                 if reader.buffer.len(reader.buffer.up_to_end(list)) > widest {
                     return Err(Stop::Unreadable);
                 }

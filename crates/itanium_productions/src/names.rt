@@ -243,7 +243,9 @@ pub(crate) fn read_nested_name(reader: &mut Reader, depth: usize, context: Conte
 
 /// Reads `<prefix> E`. Before each further segment the prefix that was read so far is saved as a component, unless it
 /// is a single `St` or `<substitution>`. The whole isn't saved: in the ABI the last segment is outside of the
-/// `<prefix>`. Most segments are `<source-name>`s, so the loop tests that case first.
+/// `<prefix>`. The grammar says the same in another way: it saves after each segment, and removes the last component
+/// at the `E`. `candidate` says whether the prefix in `found` is to be saved if a segment follows. Most segments are
+/// `<source-name>`s, so the loop tests that case first.
 #[tactic(auto, using(itanium_reader::proofs::Rules::segments))]
 #[cycle(reader)]
 #[inline(always)]

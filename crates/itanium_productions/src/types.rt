@@ -162,7 +162,7 @@ pub(crate) fn read_pointer(
 {
     reader.skip(1);
     read_type(reader, depth, context)?;
-    reader.save_pointer(kind)?;
+    reader.make_pointer(kind)?;
     Ok(())
 }
 
@@ -221,7 +221,7 @@ pub(crate) fn read_pointer_to_member_type(
     read_type(reader, depth, context)?;
     let class = reader.found;
     framed_type(reader, depth, context)?;
-    reader.save_member(class)
+    reader.make_member_pointer(class)
 }
 
 /// Reads `<qualified-type> ::= <CV-qualifiers> <type>`. The qualifiers of a function type become part of that type.
@@ -285,9 +285,9 @@ pub(crate) fn read_function_type(
     }
 }
 
-/// Reads parameter types and appends each to `list`, with `, ` between them. Stops in front of `end`. In a function
-/// type (`of_function`) it also stops in front of an `R` or `O` that an `E` follows. A single `v` in front of `end`
-/// means that there are no parameters.
+/// Reads parameter types and appends each to `list`, with `, ` between them. Stops in front of `end`. If
+/// `in_function_type` is true, they are those of a `<function-type>`, and it also stops in front of an `R` or `O` that
+/// an `E` follows. A single `v` in front of `end` means that there are no parameters.
 #[tactic(auto, using(itanium_reader::proofs::Rules::typed_lists))]
 #[cycle(reader)]
 pub(crate) fn read_params(
@@ -295,13 +295,13 @@ pub(crate) fn read_params(
     depth: usize,
     context: Context,
     end: EncodingEnd,
-    of_function: bool,
+    in_function_type: bool,
     list: Piece,
 ) -> ReadResult
     requires count_fits { CountFits 2 (state reader.old) }
     requires living { IsLiving reader.old.buffer.value list }
-    ensures reads { Gives result reader.new (spec.typed_params_as (params_case end reader.old.rest.now) end of_function
-        (spec.parse_type depth context) (shape reader.old.buffer.value list) (state reader.old)) }
+    ensures reads { Gives result reader.new (spec.typed_params_as (params_case end reader.old.rest.now) end
+        in_function_type (spec.parse_type depth context) (shape reader.old.buffer.value list) (state reader.old)) }
     ensures run { OnOk result (IsRun reader.old.buffer.value reader.new.buffer.value) }
     ensures bounds { MayTakeNone 2 result (state reader.old) (state reader.new) }
     ensures saved { SavedBounds 0 result (state reader.old) (state reader.new) }
@@ -314,7 +314,7 @@ pub(crate) fn read_params(
     let mut list = list;
     let mut first = true;
     loop {
-        match type_list_case(end, of_function, reader.rest) {
+        match type_list_case(end, in_function_type, reader.rest) {
             TypeListCase::EndOfTypes => {
                 reader.found = list;
                 return Ok(());

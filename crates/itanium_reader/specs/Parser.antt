@@ -243,16 +243,16 @@ typed_as NextType type so_far s =
 -- its parser, by what comes next
 unfoldable pub typed_turn : EncodingEnd → Bool → Parses Shape → Bool × Shape
     → Parses (Turn (Bool × Shape) Shape)
-typed_turn end of_function type so_far s = typed_as (type_list_case end of_function s.rest) type so_far s
+typed_turn end in_function_type type so_far s = typed_as (type_list_case end in_function_type s.rest) type so_far s
 
 -- types up to this end, or of a function type to a <ref-qualifier> in front of its E, put onto a list
 abbrev pub parse_typed : EncodingEnd → Bool → Parses Shape → Shape → Parses Shape
-parse_typed end of_function type list s = parse_loop (typed_turn end of_function type) (true, list) s
+parse_typed end in_function_type type list s = parse_loop (typed_turn end in_function_type type) (true, list) s
 
 -- such parameters, put onto a list: v right before the end stands for none
 abbrev pub typed_params_as : ParamsCase → EncodingEnd → Bool → Parses Shape → Shape → Parses Shape
-typed_params_as NoParams end of_function type list s = Some (list, skip 1 s)
-typed_params_as SomeParams end of_function type list s = parse_typed end of_function type list s
+typed_params_as NoParams end in_function_type type list s = Some (list, skip 1 s)
+typed_params_as SomeParams end in_function_type type list s = parse_typed end in_function_type type list s
 
 -- what is after the parameters of a lambda
 abbrev pub lambda_end : Shape → Parses Shape

@@ -18,8 +18,8 @@ use itanium_syntax::scalar::source_name;
 use std::alloc::AllocError;
 
 impl<'a> Reader<'a> {
-    /// Reads a `<source-name>` and its ABI tags, and appends `::` and the name to the parent in `found`. If `unsaved`
-    /// is true, the parent is saved as a component first.
+    /// Reads a `<source-name>` and its ABI tags, and appends `::` and the name to the parent in `found`. If the parent
+    /// is a candidate for the substitution table that isn't saved yet, it is saved first.
     #[inline(always)]
     pub fn read_source_segment(&mut self, candidate: bool) -> ReadResult
         requires living { IsLiving self.old.buffer.value self.old.found }

@@ -39,7 +39,7 @@ pub fn text_limit() -> usize
 
 /// Reads mangled bytes. Each production has a function over a `Reader`, or a method. The function returns `Ok` if the
 /// production was read; then `found` is the piece of its printing. It returns `Stop::Unreadable` if the bytes aren't
-/// read as the production, and `Stop::Memory` if an allocation fails.
+/// read as the production within the limits on nesting and text, and `Stop::Memory` if an allocation fails.
 #[derive(Drop)]
 pub struct Reader<'a> {
     /// The bytes that aren't read yet.
@@ -155,7 +155,7 @@ impl<'a> Reader<'a> {
         Ok(())
     }
 
-    /// Appends `found` to the substitution table if `unsaved` is true.
+    /// Appends `found` to the substitution table if it is a candidate for it that isn't saved yet.
     #[inline(always)]
     pub fn save_if(&mut self, candidate: bool) -> Result<(), AllocError>
         requires living { IsLiving self.old.buffer.value self.old.found }

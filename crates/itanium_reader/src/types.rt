@@ -17,7 +17,7 @@ impl<'a> Reader<'a> {
     /// Replaces the type in `found` by a pointer or a reference to it, and saves that as a component. The method
     /// isn't inlined, to keep the stack frame of types small.
     #[inline(never)]
-    pub fn save_pointer(&mut self, kind: Pointer) -> Result<(), AllocError>
+    pub fn make_pointer(&mut self, kind: Pointer) -> Result<(), AllocError>
         requires living { IsLiving self.old.buffer.value self.old.found }
         ensures shape { OnOk result (Lives self.new.buffer.value self.new.found (pointer_shape kind
             (shape self.old.buffer.value self.old.found))) }
@@ -31,7 +31,7 @@ impl<'a> Reader<'a> {
 
     /// Replaces the type in `found` by a pointer to a member of `class` of that type, and saves the pointer as a
     /// component. Returns `Stop::Unreadable` if the member's type is an array.
-    pub fn save_member(&mut self, class: Piece) -> ReadResult
+    pub fn make_member_pointer(&mut self, class: Piece) -> ReadResult
         requires class { IsLiving self.old.buffer.value class }
         requires living { IsLiving self.old.buffer.value self.old.found }
         ensures reads { Gives result self.new (spec.saved_member

@@ -191,10 +191,10 @@ pub destructor_some : (bytes : List ℕ) → unqualified_case true bytes ≡ Des
 destructor_some [] e = cc
 destructor_some (b ∷ bytes) _ = omega arith
 
-pub types_end_some : (of_function : Bool) (bytes : List ℕ) → type_list_case AtE of_function bytes ≡ EndOfTypes → 0 < length bytes
+pub types_end_some : (in_function_type : Bool) (bytes : List ℕ) → type_list_case AtE in_function_type bytes ≡ EndOfTypes → 0 < length bytes
 types_end_some true [] e = cc
 types_end_some false [] e = cc
-types_end_some of_function (b ∷ bytes) _ = omega arith
+types_end_some in_function_type (b ∷ bytes) _ = omega arith
 
 -- these types have a letter of their own
 pub array_some : (bytes : List ℕ) → type_case bytes ≡ ArrayType → 0 < length bytes

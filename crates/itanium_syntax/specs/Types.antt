@@ -111,9 +111,9 @@ params_case end bytes = if begins (codes "v") bytes && ends_here end (drop 1 byt
 
 -- types go up to the end, those of a <function-type> also to a <ref-qualifier> in front of its E
 abbrev pub type_list_case : EncodingEnd → Bool → List ℕ → TypeListCase
-type_list_case end of_function bytes =
+type_list_case end in_function_type bytes =
     if ends_here end bytes then EndOfTypes else
-    if of_function && (begins (codes "RE") bytes || begins (codes "OE") bytes) then EndOfTypes else NextType
+    if in_function_type && (begins (codes "RE") bytes || begins (codes "OE") bytes) then EndOfTypes else NextType
 
 -- the word in front of an elaborated type's name, and a space
 abbrev pub elaborated_text : List ℕ → List ℕ

@@ -112,12 +112,12 @@ pub fn params_case(end: EncodingEnd, bytes: &[u8]) -> ParamsCase
 
 /// Returns whether one more parameter type is next, or the end of the parameters. In a `<function-type>` an `R` or `O`
 /// in front of the `E` is the end too.
-pub fn type_list_case(end: EncodingEnd, of_function: bool, bytes: &[u8]) -> TypeListCase
-    ensures case { result ≡ spec.type_list_case end of_function bytes.now }
+pub fn type_list_case(end: EncodingEnd, in_function_type: bool, bytes: &[u8]) -> TypeListCase
+    ensures case { result ≡ spec.type_list_case end in_function_type bytes.now }
 {
     match bytes {
         _ if end.ends_here(bytes) => TypeListCase::EndOfTypes,
-        [b'R' | b'O', b'E', ..] if of_function => TypeListCase::EndOfTypes,
+        [b'R' | b'O', b'E', ..] if in_function_type => TypeListCase::EndOfTypes,
         _ => TypeListCase::NextType,
     }
 }

@@ -16,14 +16,14 @@ use Rattle.std.specs.Prelude.{All, IsErrAnd}
 use Rattle.symfilter_engine.specs.Replaced.{IsWordByte}
 use Rattle.std.specs.Io.KnownBytes.{Appends, Consumes, IsAtEnd, Keeps}
 use Rattle.symfilter_engine.specs.Filtered.{line_feed, HasNoLineFeed, WritesFiltered, WritesBeginning, FiltersFront, FiltersWhole}
-use Rattle.symfilter_engine.specs.Progress.{AreKept, HasCopied, HasFiltered, HasReplaced, HasWritten, Leads, ReadsMore, ReplacesBeginning, ReplacesFront, WritesAllButKept, WritesFrontIn, WritesSomeIn, WritesSomeWhole, WritesWholeFront}
+use Rattle.symfilter_engine.specs.Progress.{AreKept, CopiesUpTo, FiltersUpTo, ReplacesUpTo, WritesChunkUpTo, ContinuesTo, ReadsMore, WritesReplacedBeginning, WritesReplacedFront, WritesAllButKept, WritesChunkFront, WritesSomeOfChunk, FiltersSome, WritesFilteredFront}
 use Rattle.symfilter_engine.proofs.ChunkBytes.{nothing_read}
 use Rattle.symfilter_engine.proofs.WordTurns.{no_word_kept, none_replaced, replaced_on, given_more, front_after, front_passed, front_replaced, words_replaced, words_front, whole_words, all_but_kept, replaced_begun, last_on, last_begun, replaced_kept}
 use Rattle.symfilter_engine.proofs.FilteredText.{none_filtered, filtered_begins, piece_filtered, piece_begins, next_unwritten, lines_before, WritesFiltered-append, WritesBeginning-append}
 
 -- the whole lines of these bytes were written, and what is left isn't one
 ended_filtered : (placement : Placement) (all lines rest : List ℕ) (n : ℕ) (t t' : Option (List ℕ))
-    → HasFiltered placement lines [] t t' → lines ≡ take n all → rest ≡ drop n all → HasFiltered placement all rest t t'
+    → FiltersUpTo placement lines [] t t' → lines ≡ take n all → rest ≡ drop n all → FiltersUpTo placement all rest t t'
 ended_filtered placement all lines rest n t t' so_far lines_are rest_is =
     record {
       lines = so_far.lines;
@@ -34,35 +34,35 @@ ended_filtered placement all lines rest n t t' so_far lines_are rest_is =
     }
 
 -- nothing was written yet
-none_written : (placement : Placement) (given : List ℕ) (at : Option (List ℕ)) → HasWritten placement false given given false at at
+none_written : (placement : Placement) (given : List ℕ) (at : Option (List ℕ)) → WritesChunkUpTo placement false given given false at at
 none_written (Lines printing) given at = none_filtered (Lines printing) given at
 none_written (Words options) given at = none_replaced options given at
 
 -- the next piece was written
-piece_written : (placement : Placement) (mid_word after : Bool) (given piece left left' : List ℕ) (t t' t'' : Option (List ℕ)) → HasWritten placement false given left mid_word t t'
-    → HasWritten placement mid_word (left ++ piece) left' after t' t'' → HasWritten placement false (given ++ piece) left' after t t''
+piece_written : (placement : Placement) (mid_word after : Bool) (given piece left left' : List ℕ) (t t' t'' : Option (List ℕ)) → WritesChunkUpTo placement false given left mid_word t t'
+    → WritesChunkUpTo placement mid_word (left ++ piece) left' after t' t'' → WritesChunkUpTo placement false (given ++ piece) left' after t t''
 piece_written (Lines printing) mid_word after given piece left left' t t' t'' so_far more = piece_filtered (Lines printing) given piece left left' t t' t'' so_far more
 piece_written (Words options) mid_word after given piece left left' t t' t'' so_far more =
     replaced_on options false mid_word after (given ++ piece) (left ++ piece) left' t t' t'' (given_more options false mid_word given left piece t t' so_far) more
 
 -- a beginning of it was
-piece_begun : (placement : Placement) (mid_word : Bool) (given piece left : List ℕ) (t t' t'' : Option (List ℕ)) → HasWritten placement false given left mid_word t t'
-    → WritesFrontIn placement mid_word (left ++ piece) t' t'' → WritesBeginning placement (given ++ piece) t t''
+piece_begun : (placement : Placement) (mid_word : Bool) (given piece left : List ℕ) (t t' t'' : Option (List ℕ)) → WritesChunkUpTo placement false given left mid_word t t'
+    → WritesChunkFront placement mid_word (left ++ piece) t' t'' → WritesBeginning placement (given ++ piece) t t''
 piece_begun (Lines printing) mid_word given piece left t t' t'' so_far begins =
     piece_begins (Lines printing) given piece left t t' t'' so_far
     (subst (λ l. WritesBeginning (Lines printing) l t' t'') (append-nil (left ++ piece)) (begins []))
 piece_begun (Words options) mid_word given piece left t t' t'' so_far begins =
-    subst (λ l. ReplacesBeginning options false l t t'') (append-nil (given ++ piece))
+    subst (λ l. WritesReplacedBeginning options false l t t'') (append-nil (given ++ piece))
     (front_after options false mid_word (given ++ piece) (left ++ piece) t t' t'' (given_more options false mid_word given left piece t t' so_far) begins [])
 
 -- nothing more was written
-written_kept : (placement : Placement) (mid_word after : Bool) (given left : List ℕ) (t t' t'' : Option (List ℕ)) → HasWritten placement mid_word given left after t t' → Keeps t' t''
-    → HasWritten placement mid_word given left after t t''
+written_kept : (placement : Placement) (mid_word after : Bool) (given left : List ℕ) (t t' t'' : Option (List ℕ)) → WritesChunkUpTo placement mid_word given left after t t' → Keeps t' t''
+    → WritesChunkUpTo placement mid_word given left after t t''
 written_kept (Lines printing) mid_word after given left t t' t'' so_far keeps = next_unwritten (Lines printing) given left t t' t'' so_far keeps
 written_kept (Words options) mid_word after given left t t' t'' so_far keeps = replaced_kept options mid_word after given left t t' t'' so_far keeps
 
 -- whole lines or words were written of what was read
-whole_written : (placement : Placement) (read left : List ℕ) (s s' t t' : Option (List ℕ)) → Consumes s s' read → HasWritten placement false read left false t t'
+whole_written : (placement : Placement) (read left : List ℕ) (s s' t t' : Option (List ℕ)) → Consumes s s' read → WritesChunkUpTo placement false read left false t t'
     → FiltersWhole placement s s' t t'
 whole_written (Lines printing) read left s s' t t' consumed so_far =
     record {
@@ -76,7 +76,7 @@ whole_written (Lines printing) read left s s' t t' consumed so_far =
 whole_written (Words options) read left s s' t t' consumed so_far = whole_words options read left s s' t t' consumed so_far
 
 -- and all of it but what is kept
-written_but : (placement : Placement) (mid_word : Bool) (read left : List ℕ) (s s' t t' : Option (List ℕ)) → Consumes s s' read → HasWritten placement false read left mid_word t t'
+written_but : (placement : Placement) (mid_word : Bool) (read left : List ℕ) (s s' t t' : Option (List ℕ)) → Consumes s s' read → WritesChunkUpTo placement false read left mid_word t t'
     → (mid_word ≡ true → left ≡ []) → AreKept placement left → WritesAllButKept placement s s' t t'
 written_but (Lines printing) mid_word read left s s' t t' consumed so_far none kept =
     record {
@@ -91,30 +91,30 @@ written_but (Lines printing) mid_word read left s s' t t' consumed so_far none k
 written_but (Words options) mid_word read left s s' t t' consumed so_far none kept = all_but_kept options mid_word read left s s' t t' consumed so_far none kept
 
 -- what is written stays a beginning
-written_begun : (placement : Placement) (mid_word : Bool) (read left : List ℕ) (t t' : Option (List ℕ)) → HasWritten placement false read left mid_word t t' → WritesBeginning placement read t t'
+written_begun : (placement : Placement) (mid_word : Bool) (read left : List ℕ) (t t' : Option (List ℕ)) → WritesChunkUpTo placement false read left mid_word t t' → WritesBeginning placement read t t'
 written_begun (Lines printing) mid_word read left t t' so_far = filtered_begins (Lines printing) read left t t' so_far
 written_begun (Words options) mid_word read left t t' so_far = replaced_begun options mid_word read left t t' so_far
 
 -- what was left was written too
-last_written : (placement : Placement) (mid_word : Bool) (read left : List ℕ) (t t' t'' : Option (List ℕ)) → HasWritten placement false read left mid_word t t' → (mid_word ≡ true → left ≡ [])
+last_written : (placement : Placement) (mid_word : Bool) (read left : List ℕ) (t t' t'' : Option (List ℕ)) → WritesChunkUpTo placement false read left mid_word t t' → (mid_word ≡ true → left ≡ [])
     → WritesFiltered placement left t' t'' → WritesFiltered placement read t t''
 last_written (Lines printing) mid_word read left t t' t'' so_far none writes = WritesFiltered-append (Lines printing) read left t t' t'' so_far writes
 last_written (Words options) mid_word read left t t' t'' so_far none writes = last_on options mid_word read left t t' t'' so_far none writes
 
 -- a beginning of it was
-last_begins : (placement : Placement) (mid_word : Bool) (read left : List ℕ) (t t' t'' : Option (List ℕ)) → HasWritten placement false read left mid_word t t' → (mid_word ≡ true → left ≡ [])
+last_begins : (placement : Placement) (mid_word : Bool) (read left : List ℕ) (t t' t'' : Option (List ℕ)) → WritesChunkUpTo placement false read left mid_word t t' → (mid_word ≡ true → left ≡ [])
     → WritesBeginning placement left t' t'' → WritesBeginning placement read t t''
 last_begins (Lines printing) mid_word read left t t' t'' so_far none begins = WritesBeginning-append (Lines printing) read left t t' t'' so_far begins
 last_begins (Words options) mid_word read left t t' t'' so_far none begins = last_begun options mid_word read left t t' t'' so_far none begins
 
 -- nothing was read yet
-pub none_copied : (placement : Placement) (left : List ℕ) (source sink : Option (List ℕ)) → left ≡ [] → HasCopied placement false left source source sink sink
+pub none_copied : (placement : Placement) (left : List ℕ) (source sink : Option (List ℕ)) → left ≡ [] → CopiesUpTo placement false left source source sink sink
 none_copied placement left source sink left_is =
     record {
       read = [];
       consumed = Consumes-nil source;
       none = λ _. left_is;
-      written = subst (λ l. HasWritten placement false [] l false sink sink) (sym left_is) (none_written placement [] sink);
+      written = subst (λ l. WritesChunkUpTo placement false [] l false sink sink) (sym left_is) (none_written placement [] sink);
     }
 
 -- and nothing is kept
@@ -130,53 +130,53 @@ still_kept placement kept end old new s s' are more within =
     (sym (ap (take kept) more.chunk ∙ take-append-le kept (take kept old) more.piece (omega (arith, length-take-le kept old within)) ∙ take-take kept kept old (omega arith))) are
 
 -- no byte was kept where a word goes on
-pub kept_none : (placement : Placement) (mid_word : Bool) (kept : ℕ) (old : List ℕ) (s s' t t' : Option (List ℕ)) → HasCopied placement mid_word (take kept old) s s' t t' → kept ≤ length old
+pub kept_none : (placement : Placement) (mid_word : Bool) (kept : ℕ) (old : List ℕ) (s s' t t' : Option (List ℕ)) → CopiesUpTo placement mid_word (take kept old) s s' t t' → kept ≤ length old
     → mid_word ≡ true → kept ≡ 0
 kept_none placement mid_word kept old s s' t t' so_far within is = omega (arith, length-take-le kept old within, ap length (so_far.none is))
 
 -- one turn more
 pub turn_copied : (placement : Placement) (mid_word after : Bool) (kept end : ℕ) (old new rest left : List ℕ) (s s' s'' t t' t'' : Option (List ℕ))
-    → HasCopied placement mid_word (take kept old) s s' t t' → ReadsMore kept end old new s' s'' → HasWritten placement mid_word (take end new) left after t' t'' → rest ≡ left
-    → (after ≡ true → left ≡ []) → HasCopied placement after rest s s'' t t''
+    → CopiesUpTo placement mid_word (take kept old) s s' t t' → ReadsMore kept end old new s' s'' → WritesChunkUpTo placement mid_word (take end new) left after t' t'' → rest ≡ left
+    → (after ≡ true → left ≡ []) → CopiesUpTo placement after rest s s'' t t''
 turn_copied placement mid_word after kept end old new rest left s s' s'' t t' t'' so_far more written rest_is none =
-    subst (λ l. HasCopied placement after l s s'' t t'') (sym rest_is)
+    subst (λ l. CopiesUpTo placement after l s s'' t t'') (sym rest_is)
     (record {
       read = so_far.read ++ more.piece;
       consumed = Consumes-trans s s' s'' so_far.read more.piece so_far.consumed more.consumed;
       none = none;
       written = piece_written placement mid_word after so_far.read more.piece (take kept old) left t t' t'' so_far.written
-          (subst (λ l. HasWritten placement mid_word l left after t' t'') more.chunk written);
+          (subst (λ l. WritesChunkUpTo placement mid_word l left after t' t'') more.chunk written);
     })
 
 -- a fault came in it
 pub turn_fault : (placement : Placement) (mid_word : Bool) (kept end : ℕ) (old new : List ℕ) (s s' s'' t t' t'' : Option (List ℕ))
-    → HasCopied placement mid_word (take kept old) s s' t t' → ReadsMore kept end old new s' s'' → WritesFrontIn placement mid_word (take end new) t' t''
+    → CopiesUpTo placement mid_word (take kept old) s s' t t' → ReadsMore kept end old new s' s'' → WritesChunkFront placement mid_word (take end new) t' t''
     → FiltersFront placement s s'' t t''
 turn_fault placement mid_word kept end old new s s' s'' t t' t'' so_far more begins =
     record {
       read = so_far.read ++ more.piece;
       consumed = Consumes-trans s s' s'' so_far.read more.piece so_far.consumed more.consumed;
       begins = piece_begun placement mid_word so_far.read more.piece (take kept old) t t' t'' so_far.written
-          (subst (λ l. WritesFrontIn placement mid_word l t' t'') more.chunk begins);
+          (subst (λ l. WritesChunkFront placement mid_word l t' t'') more.chunk begins);
     }
 
 -- memory was refused in it
 pub turn_refused : (placement : Placement) (mid_word : Bool) (kept end : ℕ) (old new : List ℕ) (s s' s'' t t' t'' : Option (List ℕ))
-    → HasCopied placement mid_word (take kept old) s s' t t' → ReadsMore kept end old new s' s'' → WritesSomeIn placement mid_word (take end new) t' t''
+    → CopiesUpTo placement mid_word (take kept old) s s' t t' → ReadsMore kept end old new s' s'' → WritesSomeOfChunk placement mid_word (take end new) t' t''
     → FiltersWhole placement s s'' t t''
 turn_refused placement mid_word kept end old new s s' s'' t t' t'' so_far more (left, written) =
     whole_written placement (so_far.read ++ more.piece) left s s'' t t'' (Consumes-trans s s' s'' so_far.read more.piece so_far.consumed more.consumed)
     (piece_written placement mid_word false so_far.read more.piece (take kept old) left t t' t'' so_far.written
-    (subst (λ l. HasWritten placement mid_word l left false t' t'') more.chunk written))
+    (subst (λ l. WritesChunkUpTo placement mid_word l left false t' t'') more.chunk written))
 
 -- nothing more was read
 pub end_copied : (placement : Placement) (mid_word : Bool) (kept end : ℕ) (old new : List ℕ) (s s' s'' t t' : Option (List ℕ))
-    → HasCopied placement mid_word (take kept old) s s' t t' → ReadsMore kept end old new s' s'' → kept ≤ length old → end ≡ kept
-    → HasCopied placement mid_word (take kept new) s s'' t t'
+    → CopiesUpTo placement mid_word (take kept old) s s' t t' → ReadsMore kept end old new s' s'' → kept ≤ length old → end ≡ kept
+    → CopiesUpTo placement mid_word (take kept new) s s'' t t'
 end_copied placement mid_word kept end old new s s' s'' t t' so_far more within same =
     let none = nothing_read kept end old new s' s'' more within same in
     let held : take kept new ≡ take kept old = ap (λ n. take n new) (sym same) ∙ more.chunk ∙ ap (λ l. take kept old ++ l) none ∙ append-nil (take kept old) in
-    subst (λ l. HasCopied placement mid_word l s s'' t t') (sym held)
+    subst (λ l. CopiesUpTo placement mid_word l s s'' t t') (sym held)
     (record {
       read = so_far.read;
       consumed = subst (Consumes s s'') (ap (λ l. so_far.read ++ l) none ∙ append-nil so_far.read)
@@ -186,7 +186,7 @@ end_copied placement mid_word kept end old new s s' s'' t t' so_far more within 
     })
 
 -- the source failed, and gave nothing
-pub read_fault : (placement : Placement) (mid_word : Bool) (left : List ℕ) (s s' s'' t t' : Option (List ℕ)) → HasCopied placement mid_word left s s' t t' → Keeps s' s''
+pub read_fault : (placement : Placement) (mid_word : Bool) (left : List ℕ) (s s' s'' t t' : Option (List ℕ)) → CopiesUpTo placement mid_word left s s' t t' → Keeps s' s''
     → FiltersFront placement s s'' t t'
 read_fault placement mid_word left s s' s'' t t' so_far keeps =
     record {
@@ -196,18 +196,18 @@ read_fault placement mid_word left s s' s'' t t' so_far keeps =
     }
 
 -- all but what is kept was written then
-pub read_put : (placement : Placement) (mid_word : Bool) (left : List ℕ) (s s' s'' t t' : Option (List ℕ)) → HasCopied placement mid_word left s s' t t' → AreKept placement left → Keeps s' s''
+pub read_put : (placement : Placement) (mid_word : Bool) (left : List ℕ) (s s' s'' t t' : Option (List ℕ)) → CopiesUpTo placement mid_word left s s' t t' → AreKept placement left → Keeps s' s''
     → WritesAllButKept placement s s'' t t'
 read_put placement mid_word left s s' s'' t t' so_far kept keeps =
     written_but placement mid_word so_far.read left s s'' t t' (Consumes-kept s s' s'' so_far.read so_far.consumed keeps) so_far.written so_far.none kept
 
 -- whole lines or words, if any byte is kept
-whole_copied : (placement : Placement) (mid_word : Bool) (left : List ℕ) (s s' t t' : Option (List ℕ)) → HasCopied placement mid_word left s s' t t' → 0 < length left → FiltersWhole placement s s' t t'
+whole_copied : (placement : Placement) (mid_word : Bool) (left : List ℕ) (s s' t t' : Option (List ℕ)) → CopiesUpTo placement mid_word left s s' t t' → 0 < length left → FiltersWhole placement s s' t t'
 whole_copied placement true left s s' t t' so_far some = absurd (omega (arith, some, ap length (so_far.none refl)))
 whole_copied placement false left s s' t t' so_far some = whole_written placement so_far.read left s s' t t' so_far.consumed so_far.written
 
 -- an allocation for more capacity failed
-pub read_refused : (placement : Placement) (mid_word : Bool) (kept : ℕ) (old : List ℕ) (s s' s'' t t' : Option (List ℕ)) → HasCopied placement mid_word (take kept old) s s' t t'
+pub read_refused : (placement : Placement) (mid_word : Bool) (kept : ℕ) (old : List ℕ) (s s' s'' t t' : Option (List ℕ)) → CopiesUpTo placement mid_word (take kept old) s s' t t'
     → Keeps s' s'' → kept ≡ length old → 0 < length old → FiltersWhole placement s s'' t t'
 read_refused placement mid_word kept old s s' s'' t t' so_far keeps full some =
     whole_copied placement mid_word (take kept old) s s'' t t'
@@ -229,19 +229,19 @@ all_read placement (Some given) (Some rest) t t' read consumes ends writes =
     subst (λ l. WritesFiltered placement l t t') (sym (consumes ∙ ap (λ l. read ++ l) ends ∙ append-nil read)) writes
 
 -- the last line or word was written too
-pub last_copied : (placement : Placement) (mid_word : Bool) (left : List ℕ) (s s' t t' t'' : Option (List ℕ)) → HasCopied placement mid_word left s s' t t' → IsAtEnd s'
+pub last_copied : (placement : Placement) (mid_word : Bool) (left : List ℕ) (s s' t t' t'' : Option (List ℕ)) → CopiesUpTo placement mid_word left s s' t t' → IsAtEnd s'
     → WritesFiltered placement left t' t'' → IfSome s (λ given. WritesFiltered placement given t t'')
 last_copied placement mid_word left s s' t t' t'' so_far ends writes =
     all_read placement s s' t t'' so_far.read so_far.consumed ends (last_written placement mid_word so_far.read left t t' t'' so_far.written so_far.none writes)
 
 -- a fault came while it was written
-pub last_fault : (placement : Placement) (mid_word : Bool) (left : List ℕ) (s s' t t' t'' : Option (List ℕ)) → HasCopied placement mid_word left s s' t t' → WritesBeginning placement left t' t''
+pub last_fault : (placement : Placement) (mid_word : Bool) (left : List ℕ) (s s' t t' t'' : Option (List ℕ)) → CopiesUpTo placement mid_word left s s' t t' → WritesBeginning placement left t' t''
     → FiltersFront placement s s' t t''
 last_fault placement mid_word left s s' t t' t'' so_far begins =
     record { read = so_far.read; consumed = so_far.consumed; begins = last_begins placement mid_word so_far.read left t t' t'' so_far.written so_far.none begins }
 
 -- memory was refused for it
-pub last_refused : (placement : Placement) (mid_word : Bool) (left : List ℕ) (s s' t t' t'' : Option (List ℕ)) → HasCopied placement mid_word left s s' t t' → 0 < length left → Keeps t' t''
+pub last_refused : (placement : Placement) (mid_word : Bool) (left : List ℕ) (s s' t t' t'' : Option (List ℕ)) → CopiesUpTo placement mid_word left s s' t t' → 0 < length left → Keeps t' t''
     → FiltersWhole placement s s' t t''
 last_refused placement mid_word left s s' t t' t'' so_far some keeps =
     whole_copied placement mid_word left s s' t t''
@@ -293,13 +293,13 @@ none_whole placement source sink = whole_written placement [] [] source source s
 
 -- a chunk of lines was written up to its last line feed
 pub lines_written : (placement : Placement) (printing : Printing) (mid_word : Bool) (bytes : List ℕ) (n : ℕ) (t t' : Option (List ℕ)) → placement ≡ Lines printing
-    → HasFiltered placement (take n bytes) [] t t' → HasWritten placement mid_word bytes (drop n bytes) false t t'
+    → FiltersUpTo placement (take n bytes) [] t t' → WritesChunkUpTo placement mid_word bytes (drop n bytes) false t t'
 lines_written (Lines p) printing mid_word bytes n t t' is so_far = ended_filtered (Lines p) bytes (take n bytes) (drop n bytes) n t t' so_far refl refl
 lines_written (Words options) printing mid_word bytes n t t' is so_far = absurd (cc)
 
 -- a beginning of its text was
 pub lines_front : (placement : Placement) (printing : Printing) (mid_word : Bool) (bytes : List ℕ) (n : ℕ) (t t' : Option (List ℕ)) → placement ≡ Lines printing
-    → WritesWholeFront placement (take n bytes) t t' → WritesFrontIn placement mid_word bytes t t'
+    → WritesFilteredFront placement (take n bytes) t t' → WritesChunkFront placement mid_word bytes t t'
 lines_front (Lines p) printing mid_word bytes n t t' is begins = λ rest.
     subst (λ l. WritesBeginning (Lines p) l t t') (sym (append_assoc (take n bytes) (drop n bytes) rest) ∙ ap (λ l. l ++ rest) (take-append-drop n bytes))
     (begins (drop n bytes ++ rest))
@@ -307,20 +307,20 @@ lines_front (Words options) printing mid_word bytes n t t' is begins = absurd (c
 
 -- memory was refused for one of its lines
 pub lines_some : (placement : Placement) (printing : Printing) (mid_word : Bool) (bytes : List ℕ) (n : ℕ) (t t' : Option (List ℕ)) → placement ≡ Lines printing
-    → WritesSomeWhole placement (take n bytes) t t' → WritesSomeIn placement mid_word bytes t t'
+    → FiltersSome placement (take n bytes) t t' → WritesSomeOfChunk placement mid_word bytes t t'
 lines_some (Lines p) printing mid_word bytes n t t' is (left, filtered) = (
   left ++ drop n bytes,
-  subst (λ l. HasFiltered (Lines p) l (left ++ drop n bytes) t t') (take-append-drop n bytes)
+  subst (λ l. FiltersUpTo (Lines p) l (left ++ drop n bytes) t t') (take-append-drop n bytes)
       (lines_before (Lines p) (take n bytes) left (drop n bytes) t t' filtered),
 )
 lines_some (Words options) printing mid_word bytes n t t' is some = absurd (cc)
 
 -- the first word of a chunk was written as it is, with the byte after it, and no word goes on
-past_first : (options : Replacement) (mid_word after : Bool) (bytes rest : List ℕ) (n : ℕ) (t t' : Option (List ℕ)) → Leads options mid_word (take n bytes) (take n bytes) after → after ≡ false
-    → rest ≡ drop n bytes → Appends t t' (take n bytes) → HasReplaced options mid_word bytes rest false t t'
+past_first : (options : Replacement) (mid_word after : Bool) (bytes rest : List ℕ) (n : ℕ) (t t' : Option (List ℕ)) → ContinuesTo options mid_word (take n bytes) (take n bytes) after → after ≡ false
+    → rest ≡ drop n bytes → Appends t t' (take n bytes) → ReplacesUpTo options mid_word bytes rest false t t'
 past_first options mid_word after bytes rest n t t' leads outside rest_is writes =
-    subst (λ l. HasReplaced options mid_word bytes l false t t') (sym rest_is)
-    (subst (λ a. HasReplaced options mid_word bytes (drop n bytes) a t t') outside (front_passed options mid_word after bytes n t t' leads writes))
+    subst (λ l. ReplacesUpTo options mid_word bytes l false t t') (sym rest_is)
+    (subst (λ a. ReplacesUpTo options mid_word bytes (drop n bytes) a t t') outside (front_passed options mid_word after bytes n t t' leads writes))
 
 -- the word that was kept stands in front after it: no byte was kept where a word goes on
 pub words_before : (placement : Placement) (options : Replacement) (mid_word : Bool) (bytes : List ℕ) (seen n : ℕ) → placement ≡ Words options → AreKept placement (take seen bytes)
@@ -331,23 +331,23 @@ words_before placement options false bytes seen n is kept none outside =
     subst (λ k. All IsWordByte (take seen (drop k bytes))) (sym (outside refl)) ((subst (λ s. AreKept s (take seen bytes)) is kept).word)
 
 -- whole words after it too
-pub words_passed : (options : Replacement) (mid_word after : Bool) (bytes rest : List ℕ) (n whole : ℕ) (t t' t'' : Option (List ℕ)) → Leads options mid_word (take n bytes) (take n bytes) after
-    → after ≡ false → rest ≡ drop n bytes → Appends t t' (take n bytes) → HasFiltered (Words options) (take whole rest) [] t' t''
-    → HasReplaced options mid_word bytes (drop whole rest) false t t''
+pub words_passed : (options : Replacement) (mid_word after : Bool) (bytes rest : List ℕ) (n whole : ℕ) (t t' t'' : Option (List ℕ)) → ContinuesTo options mid_word (take n bytes) (take n bytes) after
+    → after ≡ false → rest ≡ drop n bytes → Appends t t' (take n bytes) → FiltersUpTo (Words options) (take whole rest) [] t' t''
+    → ReplacesUpTo options mid_word bytes (drop whole rest) false t t''
 words_passed options mid_word after bytes rest n whole t t' t'' leads outside rest_is writes filtered =
     replaced_on options mid_word false false bytes rest (drop whole rest) t t' t'' (past_first options mid_word after bytes rest n t t' leads outside rest_is writes)
     (front_replaced options false false rest (take whole rest) [] whole t' t'' (words_replaced options (take whole rest) [] t' t'' filtered) refl)
 
 -- a fault came while they were written
-pub words_fault : (options : Replacement) (mid_word after : Bool) (bytes rest : List ℕ) (n whole : ℕ) (t t' t'' : Option (List ℕ)) → Leads options mid_word (take n bytes) (take n bytes) after
-    → after ≡ false → rest ≡ drop n bytes → Appends t t' (take n bytes) → WritesWholeFront (Words options) (take whole rest) t' t'' → ReplacesFront options mid_word bytes t t''
+pub words_fault : (options : Replacement) (mid_word after : Bool) (bytes rest : List ℕ) (n whole : ℕ) (t t' t'' : Option (List ℕ)) → ContinuesTo options mid_word (take n bytes) (take n bytes) after
+    → after ≡ false → rest ≡ drop n bytes → Appends t t' (take n bytes) → WritesFilteredFront (Words options) (take whole rest) t' t'' → WritesReplacedFront options mid_word bytes t t''
 words_fault options mid_word after bytes rest n whole t t' t'' leads outside rest_is writes begins =
     front_after options mid_word false bytes rest t t' t'' (past_first options mid_word after bytes rest n t t' leads outside rest_is writes)
     (words_front options rest (take whole rest) whole t' t'' begins refl)
 
 -- memory was refused for one of them
-pub words_refused : (options : Replacement) (mid_word after : Bool) (bytes rest : List ℕ) (n whole : ℕ) (t t' t'' : Option (List ℕ)) → Leads options mid_word (take n bytes) (take n bytes) after
-    → after ≡ false → rest ≡ drop n bytes → Appends t t' (take n bytes) → WritesSomeWhole (Words options) (take whole rest) t' t'' → WritesSomeIn (Words options) mid_word bytes t t''
+pub words_refused : (options : Replacement) (mid_word after : Bool) (bytes rest : List ℕ) (n whole : ℕ) (t t' t'' : Option (List ℕ)) → ContinuesTo options mid_word (take n bytes) (take n bytes) after
+    → after ≡ false → rest ≡ drop n bytes → Appends t t' (take n bytes) → FiltersSome (Words options) (take whole rest) t' t'' → WritesSomeOfChunk (Words options) mid_word bytes t t''
 words_refused options mid_word after bytes rest n whole t t' t'' leads outside rest_is writes (left, filtered) = (
   left ++ drop whole rest,
   replaced_on options mid_word false false bytes rest (left ++ drop whole rest) t t' t'' (past_first options mid_word after bytes rest n t t' leads outside rest_is writes)

@@ -18,7 +18,7 @@ use Rattle.symfilter_engine.specs.Filtered.{line_feed, HasNoLineFeed, AreLinesAn
 use Rattle.symfilter_engine.specs.Filtered.{one_more, IsAnswered, ended, unended, AreWholeFiltered, IsFiltered, IsFront}
 use Rattle.symfilter_engine.specs.Filtered.{IsBeginning, IsLineAnswer, answered, unanswered, not_utf8, WritesFiltered}
 use Rattle.symfilter_engine.specs.Filtered.{WritesBeginning}
-use Rattle.symfilter_engine.specs.Progress.{AppendsReplaced, WritesFront, WritesWhole, WritesWholeFront, HasFiltered}
+use Rattle.symfilter_engine.specs.Progress.{AppendsReplaced, WritesFront, WritesWholeFiltered, WritesFilteredFront, FiltersUpTo}
 use Rattle.symfilter_engine.proofs.ReplacedText.{IsReplaced-append, whole_parted, whole-append, replaced_of}
 use Rattle.symfilter_engine.specs.declared.symbols.Replacement.{Replacement}
 use Rattle.symfilter_engine.specs.declared.symbols.Printing.{Printing}
@@ -162,12 +162,12 @@ replaced_begins placement options line old output bytes before after is none (te
     (writes.front, (text, replaced, (rest, sym (bytes_are ∙ output_is ∙ ap (λ l. l ++ text) none) ∙ writes.bytes_are)), writes.written)
 
 -- nothing was given yet
-pub none_filtered : (placement : Placement) (given : List ℕ) (at : Option (List ℕ)) → HasFiltered placement given given at at
+pub none_filtered : (placement : Placement) (given : List ℕ) (at : Option (List ℕ)) → FiltersUpTo placement given given at at
 none_filtered placement given at = record { lines = []; text = []; given_is = refl; filtered = no_lines placement; written = Appends-nil at }
 
 -- lines of what was left were written too
 pub lines_filtered : (placement : Placement) (given rest : List ℕ) (n : ℕ) (before mid after : Option (List ℕ))
-    → HasFiltered placement given rest before mid → WritesWhole placement (take n rest) mid after → HasFiltered placement given (drop n rest) before after
+    → FiltersUpTo placement given rest before mid → WritesWholeFiltered placement (take n rest) mid after → FiltersUpTo placement given (drop n rest) before after
 lines_filtered placement given rest n before mid after so_far (text, filtered, writes) =
     record {
       lines = so_far.lines ++ take n rest;
@@ -179,7 +179,7 @@ lines_filtered placement given rest n before mid after so_far (text, filtered, w
 
 -- nothing of the next line was written
 pub next_unwritten : (placement : Placement) (given left : List ℕ) (before mid after : Option (List ℕ))
-    → HasFiltered placement given left before mid → Keeps mid after → HasFiltered placement given left before after
+    → FiltersUpTo placement given left before mid → Keeps mid after → FiltersUpTo placement given left before after
 next_unwritten placement given left before mid after so_far keeps =
     record {
       lines = so_far.lines;
@@ -191,7 +191,7 @@ next_unwritten placement given left before mid after so_far keeps =
 
 -- whatever follows what was given
 pub lines_before : (placement : Placement) (given left rest : List ℕ) (before after : Option (List ℕ))
-    → HasFiltered placement given left before after → HasFiltered placement (given ++ rest) (left ++ rest) before after
+    → FiltersUpTo placement given left before after → FiltersUpTo placement (given ++ rest) (left ++ rest) before after
 lines_before placement given left rest before after so_far =
     record {
       lines = so_far.lines;
@@ -202,7 +202,7 @@ lines_before placement given left rest before after so_far =
     }
 
 -- what is written stays a beginning
-pub filtered_begins : (placement : Placement) (given left : List ℕ) (before after : Option (List ℕ)) → HasFiltered placement given left before after
+pub filtered_begins : (placement : Placement) (given left : List ℕ) (before after : Option (List ℕ)) → FiltersUpTo placement given left before after
     → WritesBeginning placement given before after
 filtered_begins placement given left before after so_far = (
   so_far.text,
@@ -211,12 +211,12 @@ filtered_begins placement given left before after so_far = (
 )
 
 -- nothing of lines was written
-pub lines_unwritten : (placement : Placement) (lines : List ℕ) (at : Option (List ℕ)) → WritesWholeFront placement lines at at
+pub lines_unwritten : (placement : Placement) (lines : List ℕ) (at : Option (List ℕ)) → WritesFilteredFront placement lines at at
 lines_unwritten placement lines at rest = last_unwritten placement (lines ++ rest) at
 
 -- a front of the text of the first lines was written
 pub lines_begin : (placement : Placement) (lines text : List ℕ) (n : ℕ) (before after : Option (List ℕ)) → AreWholeFiltered placement (take n lines) text → WritesFront text before after
-    → WritesWholeFront placement lines before after
+    → WritesFilteredFront placement lines before after
 lines_begin placement lines text n before after filtered (left, writes) rest = (
   writes.front,
   of_lines placement (take n lines) text (lines ++ rest) (drop n lines ++ rest) writes.front
@@ -227,8 +227,8 @@ lines_begin placement lines text n before after filtered (left, writes) rest = (
 
 -- the lines of the next piece
 pub piece_filtered : (placement : Placement) (given piece left left' : List ℕ) (before mid after : Option (List ℕ))
-    → HasFiltered placement given left before mid → HasFiltered placement (left ++ piece) left' mid after
-    → HasFiltered placement (given ++ piece) left' before after
+    → FiltersUpTo placement given left before mid → FiltersUpTo placement (left ++ piece) left' mid after
+    → FiltersUpTo placement (given ++ piece) left' before after
 piece_filtered placement given piece left left' before mid after so_far more =
     record {
       lines = so_far.lines ++ more.lines;
@@ -239,7 +239,7 @@ piece_filtered placement given piece left left' before mid after so_far more =
     }
 
 -- lines, and a last one
-pub WritesFiltered-append : (placement : Placement) (given left : List ℕ) (before mid after : Option (List ℕ)) → HasFiltered placement given left before mid
+pub WritesFiltered-append : (placement : Placement) (given left : List ℕ) (before mid after : Option (List ℕ)) → FiltersUpTo placement given left before mid
     → WritesFiltered placement left mid after → WritesFiltered placement given before after
 WritesFiltered-append placement given left before mid after so_far (text, filtered, writes) = (
   so_far.text ++ text,
@@ -256,7 +256,7 @@ IsBeginning-append placement lines text given written first begins =
 
 -- a beginning of the next piece
 pub piece_begins : (placement : Placement) (given piece left : List ℕ) (before mid after : Option (List ℕ))
-    → HasFiltered placement given left before mid → WritesBeginning placement (left ++ piece) mid after
+    → FiltersUpTo placement given left before mid → WritesBeginning placement (left ++ piece) mid after
     → WritesBeginning placement (given ++ piece) before after
 piece_begins placement given piece left before mid after so_far (written, begins, writes) = (
   so_far.text ++ written,
@@ -266,7 +266,7 @@ piece_begins placement given piece left before mid after so_far (written, begins
 )
 
 -- a beginning of a last line
-pub WritesBeginning-append : (placement : Placement) (given left : List ℕ) (before mid after : Option (List ℕ)) → HasFiltered placement given left before mid
+pub WritesBeginning-append : (placement : Placement) (given left : List ℕ) (before mid after : Option (List ℕ)) → FiltersUpTo placement given left before mid
     → WritesBeginning placement left mid after → WritesBeginning placement given before after
 WritesBeginning-append placement given left before mid after so_far (written, begins, writes) = (
   so_far.text ++ written,
@@ -276,9 +276,9 @@ WritesBeginning-append placement given left before mid after so_far (written, be
 )
 
 -- a beginning of more lines
-pub WritesWholeFront-append : (placement : Placement) (given left : List ℕ) (before mid after : Option (List ℕ)) → HasFiltered placement given left before mid
-    → WritesWholeFront placement left mid after → WritesWholeFront placement given before after
-WritesWholeFront-append placement given left before mid after so_far begins rest =
+pub WritesFilteredFront-append : (placement : Placement) (given left : List ℕ) (before mid after : Option (List ℕ)) → FiltersUpTo placement given left before mid
+    → WritesFilteredFront placement left mid after → WritesFilteredFront placement given before after
+WritesFilteredFront-append placement given left before mid after so_far begins rest =
     WritesBeginning-append placement (given ++ rest) (left ++ rest) before mid after
     (lines_before placement given left rest before mid so_far)
     (begins rest)

@@ -13,7 +13,7 @@ use Rattle.symfilter_engine.specs.declared.symbols.Placement.{Placement}
 use Rattle.symfilter_engine.specs.declared.symbols.Placement.TheVariants.{Lines, Words}
 use Rattle.symfilter_engine.specs.Filtered.{line_feed, EndsInLineFeed, AreWhole, AreLinesAnswered, no_line, one_more, AreWholeFiltered, IsLineAnswer}
 use Rattle.symfilter_engine.specs.Replaced.{ends_word}
-use Rattle.symfilter_engine.specs.Progress.{HasNone, IsFirst, EndsAt, HasNoPrefix, AppendsReplaced, AppendsWhole}
+use Rattle.symfilter_engine.specs.Progress.{HasNone, IsFirst, EndsAt, HasNoPrefix, AppendsReplaced, AppendsFiltered}
 use Rattle.symfilter_engine.proofs.FilteredText.{AreLinesAnswered-append, AreWholeFiltered-append}
 use Rattle.symfilter_engine.proofs.ReplacedText.{unprefixed, whole-drop}
 use Rattle.symfilter_engine.proofs.LineAnswers.{other_line}
@@ -117,17 +117,17 @@ pub unprefixed_words : (placement : Placement) (options : Replacement) (text : L
 unprefixed_words placement options text is whole none = subst (λ s. AreWholeFiltered s text text) (sym is) (whole, unprefixed options text none)
 
 -- whole words were appended replaced
-pub block_appended : (options : Replacement) (text before after : List ℕ) → ends_word text ≡ false → AppendsReplaced options text before after → AppendsWhole (Words options) text before after
+pub block_appended : (options : Replacement) (text before after : List ℕ) → ends_word text ≡ false → AppendsReplaced options text before after → AppendsFiltered (Words options) text before after
 block_appended options text before after whole (replaced, is_replaced, after_is) = (replaced, (whole, is_replaced), after_is)
 
 -- one line was appended
 pub line_appended : (printing : Printing) (lines answer before after : List ℕ) (end : ℕ) → EndsAt lines end → IsLineAnswer printing (take end lines) answer → after ≡ before ++ (answer ++ line_feed ∷ [])
-    → AppendsWhole (Lines printing) (take (end + 1) lines) before after
+    → AppendsFiltered (Lines printing) (take (end + 1) lines) before after
 line_appended printing lines answer before after end ends is_answer after_is = (answer ++ line_feed ∷ [], first_line printing lines answer end ends is_answer, after_is)
 
 -- more lines were appended
 pub lines_appended : (placement : Placement) (lines rest before after : List ℕ) (n m : ℕ) → AreWholeFiltered placement (take n lines) before → rest ≡ drop n lines
-    → AppendsWhole placement (take m rest) before after → AreWholeFiltered placement (take (n + m) lines) after
+    → AppendsFiltered placement (take m rest) before after → AreWholeFiltered placement (take (n + m) lines) after
 lines_appended placement lines rest before after n m first rest_is (text, filtered, after_is) =
     subst (λ l. AreWholeFiltered placement l after) (sym (take-add n m lines))
     (subst (AreWholeFiltered placement (take n lines ++ take m (drop n lines))) (sym after_is)
@@ -137,7 +137,7 @@ lines_appended placement lines rest before after n m first rest_is (text, filter
 -- lines of the rest were appended, and this is left of it
 pub rest_appended : (placement : Placement) (lines rest left before after : List ℕ) (m : ℕ)
     → length rest ≤ length lines → rest ≡ drop (length lines - length rest) lines → AreWholeFiltered placement (take (length lines - length rest) lines) before
-    → m ≤ length rest → AppendsWhole placement (take m rest) before after → left ≡ drop m rest
+    → m ≤ length rest → AppendsFiltered placement (take m rest) before after → left ≡ drop m rest
     → (length left ≤ length lines) × (left ≡ drop (length lines - length left) lines) × AreWholeFiltered placement (take (length lines - length left) lines) after
 rest_appended placement lines rest left before after m inside rest_is first bound appended left_is =
     let n : ℕ = length lines - length rest in

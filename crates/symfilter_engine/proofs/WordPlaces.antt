@@ -347,5 +347,5 @@ word_down bytes place inside is all =
     (All-cons IsWordByte (get_or bytes place 0) (drop (suc place) bytes) is all)
 
 -- a word at the front
-pub first_word : (bytes : List ℕ) (end : ℕ) → end ≤ length bytes → AreWordBytes bytes 0 end → All IsWordByte (take end bytes)
-first_word bytes end inside word = subst (λ n. All IsWordByte (take n bytes)) (omega arith) (word_slice bytes 0 end (omega arith) inside word)
+pub rest_of_word : (bytes : List ℕ) (end : ℕ) → end ≤ length bytes → AreWordBytes bytes 0 end → All IsWordByte (take end bytes)
+rest_of_word bytes end inside word = subst (λ n. All IsWordByte (take n bytes)) (omega arith) (word_slice bytes 0 end (omega arith) inside word)

@@ -52,7 +52,7 @@ abbrev pub IsFiltered : Placement → List ℕ → List ℕ → Type 0
 IsFiltered (Lines printing) bytes text = IsAnswered printing bytes text
 IsFiltered (Words options) bytes text = IsReplaced options bytes text
 
--- whole lines; where symbols stand in words, whole words, after the last of which a byte that is in no word stands
+-- In lines: bytes that are empty or end in a line feed. In words: bytes that are empty or end in a byte of no word.
 abbrev pub AreWhole : Placement → List ℕ → Type 0
 AreWhole (Lines printing) bytes = EndsInLineFeed bytes
 AreWhole (Words options) bytes = ends_word bytes ≡ false

@@ -68,12 +68,12 @@ abbrev pub WritesFront : List ℕ → Option (List ℕ) → Option (List ℕ) �
 WritesFront bytes before after = (rest : List ℕ) × WritesUpTo bytes rest before after
 
 -- the filtered text of the lines was appended
-abbrev pub AppendsWhole : Placement → List ℕ → List ℕ → List ℕ → Type 0
-AppendsWhole placement lines before after =
+abbrev pub AppendsFiltered : Placement → List ℕ → List ℕ → List ℕ → Type 0
+AppendsFiltered placement lines before after =
     (text : List ℕ) × AreWholeFiltered placement lines text × (after ≡ before ++ text)
 
 -- whole lines of the bytes given were written filtered, and these bytes are left
-pub record HasFiltered (placement : Placement) (given left : List ℕ) (before after : Option (List ℕ)) : Type 0 where
+pub record FiltersUpTo (placement : Placement) (given left : List ℕ) (before after : Option (List ℕ)) : Type 0 where
   pub lines : List ℕ
   pub text : List ℕ
   pub given_is : given ≡ lines ++ left
@@ -81,17 +81,18 @@ pub record HasFiltered (placement : Placement) (given left : List ℕ) (before a
   pub written : Appends before after text
 
 -- whole lines of the bytes given were written filtered, and nothing of the next line
-abbrev pub WritesSomeWhole : Placement → List ℕ → Option (List ℕ) → Option (List ℕ) → Type 0
-WritesSomeWhole placement given before after = (left : List ℕ) × HasFiltered placement given left before after
+abbrev pub FiltersSome : Placement → List ℕ → Option (List ℕ) → Option (List ℕ) → Type 0
+FiltersSome placement given before after = (left : List ℕ) × FiltersUpTo placement given left before after
 
 -- the filtered text of these lines was written
-abbrev pub WritesWhole : Placement → List ℕ → Option (List ℕ) → Option (List ℕ) → Type 0
-WritesWhole placement lines before after =
+abbrev pub WritesWholeFiltered : Placement → List ℕ → Option (List ℕ) → Option (List ℕ) → Type 0
+WritesWholeFiltered placement lines before after =
     (text : List ℕ) × AreWholeFiltered placement lines text × Appends before after text
 
 -- whatever follows these lines, a beginning of the filtered text of all was written
-abbrev pub WritesWholeFront : Placement → List ℕ → Option (List ℕ) → Option (List ℕ) → Type 0
-WritesWholeFront placement lines before after = (rest : List ℕ) → WritesBeginning placement (lines ++ rest) before after
+abbrev pub WritesFilteredFront : Placement → List ℕ → Option (List ℕ) → Option (List ℕ) → Type 0
+WritesFilteredFront placement lines before after =
+    (rest : List ℕ) → WritesBeginning placement (lines ++ rest) before after
 
 -- a chunk holds what was read between the bytes kept and this place, and the source is at its end if that is nothing
 pub record ReadsMore (kept end : ℕ) (old new : List ℕ) (before after : Option (List ℕ)) : Type 0 where
@@ -103,7 +104,7 @@ pub record ReadsMore (kept end : ℕ) (old new : List ℕ) (before after : Optio
   pub ended : end ≡ kept → IsAtEnd after
 
 -- `text` is the replaced text of `bytes`, which begin inside a word without a symbol. `word` is the rest of that word.
-pub record GoesOn (options : Replacement) (bytes text : List ℕ) : Type 0 where
+pub record StartsMidWord (options : Replacement) (bytes text : List ℕ) : Type 0 where
   pub word : List ℕ
   pub more : List ℕ
   pub more_text : List ℕ
@@ -114,41 +115,41 @@ pub record GoesOn (options : Replacement) (bytes text : List ℕ) : Type 0 where
   pub replaced : IsReplaced options more more_text
 
 -- `text` is the replaced text of `bytes`. The truth value says whether they begin inside a word without a symbol.
-abbrev pub IsReplacedIn : Replacement → Bool → List ℕ → List ℕ → Type 0
-IsReplacedIn options true bytes text = GoesOn options bytes text
-IsReplacedIn options false bytes text = IsReplaced options bytes text
+abbrev pub IsReplacedFrom : Replacement → Bool → List ℕ → List ℕ → Type 0
+IsReplacedFrom options true bytes text = StartsMidWord options bytes text
+IsReplacedFrom options false bytes text = IsReplaced options bytes text
 
 -- `text` is the replaced text of `bytes`. `mid_word`: the bytes begin inside a word without a symbol. `after`: such a
 -- word continues after them.
-pub record Leads (options : Replacement) (mid_word : Bool) (bytes text : List ℕ) (after : Bool) : Type 0 where
+pub record ContinuesTo (options : Replacement) (mid_word : Bool) (bytes text : List ℕ) (after : Bool) : Type 0 where
   pub goes :
       (rest more : List ℕ)
-      → IsReplacedIn options after rest more
-      → IsReplacedIn options mid_word (bytes ++ rest) (text ++ more)
+      → IsReplacedFrom options after rest more
+      → IsReplacedFrom options mid_word (bytes ++ rest) (text ++ more)
   pub ended : after ≡ false → ends_word bytes ≡ false
   pub none : after ≡ false → bytes ≡ [] → mid_word ≡ false
 
 -- The given bytes are `done ++ left`, and the replaced text of `done` was written. `mid_word` and `after` are those of
--- `Leads`, for `done`.
-pub record HasReplaced (options : Replacement) (mid_word : Bool) (given left : List ℕ) (after : Bool)
+-- `ContinuesTo`, for `done`.
+pub record ReplacesUpTo (options : Replacement) (mid_word : Bool) (given left : List ℕ) (after : Bool)
     (before_written after_written : Option (List ℕ)) : Type 0 where
   pub done : List ℕ
   pub text : List ℕ
   pub given_is : given ≡ done ++ left
-  pub leads : Leads options mid_word done text after
+  pub leads : ContinuesTo options mid_word done text after
   pub written : Appends before_written after_written text
 
--- A beginning of the replaced text of the given bytes was written. `mid_word` is that of `Leads`.
-abbrev pub ReplacesBeginning : Replacement → Bool → List ℕ → Option (List ℕ) → Option (List ℕ) → Type 0
-ReplacesBeginning options mid_word given before after =
+-- A beginning of the replaced text of the given bytes was written. `mid_word` is that of `ContinuesTo`.
+abbrev pub WritesReplacedBeginning : Replacement → Bool → List ℕ → Option (List ℕ) → Option (List ℕ) → Type 0
+WritesReplacedBeginning options mid_word given before after =
     (written : List ℕ)
-    × ((text : List ℕ) × IsReplacedIn options mid_word given text × IsFront written text)
+    × ((text : List ℕ) × IsReplacedFrom options mid_word given text × IsFront written text)
     × Appends before after written
 
 -- For all bytes `rest` it holds that a beginning of the replaced text of `given ++ rest` was written.
-abbrev pub ReplacesFront : Replacement → Bool → List ℕ → Option (List ℕ) → Option (List ℕ) → Type 0
-ReplacesFront options mid_word given before after =
-    (rest : List ℕ) → ReplacesBeginning options mid_word (given ++ rest) before after
+abbrev pub WritesReplacedFront : Replacement → Bool → List ℕ → Option (List ℕ) → Option (List ℕ) → Type 0
+WritesReplacedFront options mid_word given before after =
+    (rest : List ℕ) → WritesReplacedBeginning options mid_word (given ++ rest) before after
 
 -- Bytes that are kept for the next turn. In lines they have no line feed. In words they begin a word that may hold a
 -- symbol, or there are none.
@@ -157,31 +158,31 @@ AreKept (Lines printing) bytes = HasNoLineFeed bytes
 AreKept (Words options) bytes = IsKept options.strip bytes
 
 -- The given bytes end in `left`, and the filtered text of those in front of `left` was written. In lines these are
--- whole lines, and `mid_word` and `after` say nothing. In words `mid_word` and `after` are those of `HasReplaced`.
-abbrev pub HasWritten : Placement → Bool → List ℕ → List ℕ → Bool → Option (List ℕ) → Option (List ℕ) → Type 0
-HasWritten (Lines printing) mid_word given left after before_written after_written =
-    HasFiltered (Lines printing) given left before_written after_written
-HasWritten (Words options) mid_word given left after before_written after_written =
-    HasReplaced options mid_word given left after before_written after_written
+-- whole lines, and `mid_word` and `after` say nothing. In words `mid_word` and `after` are those of `ReplacesUpTo`.
+abbrev pub WritesChunkUpTo : Placement → Bool → List ℕ → List ℕ → Bool → Option (List ℕ) → Option (List ℕ) → Type 0
+WritesChunkUpTo (Lines printing) mid_word given left after before_written after_written =
+    FiltersUpTo (Lines printing) given left before_written after_written
+WritesChunkUpTo (Words options) mid_word given left after before_written after_written =
+    ReplacesUpTo options mid_word given left after before_written after_written
 
 -- The given bytes begin with whole lines or words, and the filtered text of these was written, and nothing else.
-abbrev pub WritesSomeIn : Placement → Bool → List ℕ → Option (List ℕ) → Option (List ℕ) → Type 0
-WritesSomeIn placement mid_word given before after =
-    (left : List ℕ) × HasWritten placement mid_word given left false before after
+abbrev pub WritesSomeOfChunk : Placement → Bool → List ℕ → Option (List ℕ) → Option (List ℕ) → Type 0
+WritesSomeOfChunk placement mid_word given before after =
+    (left : List ℕ) × WritesChunkUpTo placement mid_word given left false before after
 
 -- For all bytes `rest` it holds that a beginning of the filtered text of `given ++ rest` was written.
-abbrev pub WritesFrontIn : Placement → Bool → List ℕ → Option (List ℕ) → Option (List ℕ) → Type 0
-WritesFrontIn (Lines printing) mid_word given before after = WritesWholeFront (Lines printing) given before after
-WritesFrontIn (Words options) mid_word given before after = ReplacesFront options mid_word given before after
+abbrev pub WritesChunkFront : Placement → Bool → List ℕ → Option (List ℕ) → Option (List ℕ) → Type 0
+WritesChunkFront (Lines printing) mid_word given before after = WritesFilteredFront (Lines printing) given before after
+WritesChunkFront (Words options) mid_word given before after = WritesReplacedFront options mid_word given before after
 
 -- The bytes `read` were read. They end in `left`, and the filtered text of those in front of `left` was written.
 -- `mid_word`: a word without a symbol continues after the written bytes. Then `left` is empty.
-pub record HasCopied (placement : Placement) (mid_word : Bool) (left : List ℕ)
+pub record CopiesUpTo (placement : Placement) (mid_word : Bool) (left : List ℕ)
     (before after written_before written_after : Option (List ℕ)) : Type 0 where
   pub read : List ℕ
   pub consumed : Consumes before after read
   pub none : mid_word ≡ true → left ≡ []
-  pub written : HasWritten placement false read left mid_word written_before written_after
+  pub written : WritesChunkUpTo placement false read left mid_word written_before written_after
 
 -- The filtered text of all bytes that were read was written, except for the last ones, which may be kept (`AreKept`).
 abbrev pub WritesAllButKept : Placement → Option (List ℕ) → Option (List ℕ) → Option (List ℕ) → Option (List ℕ) → Type 0

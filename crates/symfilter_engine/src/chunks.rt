@@ -4,7 +4,7 @@ ghost use Rattle.std.specs.Io.KnownBytes.{Keeps};
 ghost use Rattle.symfilter_engine.specs.declared.symbols.Replacement.{Replacement};
 ghost use Rattle.symfilter_engine.specs.Fault.{IsRunOutcome, IsReadOutcome, IsWriteOutcome};
 ghost use Rattle.symfilter_engine.specs.Filtered.{FiltersFront, FiltersWhole, WritesFiltered};
-ghost use Rattle.symfilter_engine.specs.Progress.{AreKept, HasWritten, Leads, ReadsMore, WritesAllButKept, WritesFrontIn, WritesSomeIn};
+ghost use Rattle.symfilter_engine.specs.Progress.{AreKept, WritesChunkUpTo, ContinuesTo, ReadsMore, WritesAllButKept, WritesChunkFront, WritesSomeOfChunk};
 
 use super::fault::FilterFault;
 use super::output::write_all;
@@ -12,7 +12,7 @@ use super::streams::{Failed, Sink, Source};
 use super::symbols::Placement;
 use super::word_bounds::{whole_words_len, word_end};
 use super::words::may_hold_symbol;
-use super::writing::{ended_len, write_last, write_whole};
+use super::writing::{whole_lines_len, write_last, write_whole};
 use growing_text::Text;
 use itanium_demangle::Demangler;
 use std::alloc::Global;
@@ -120,20 +120,20 @@ fn write_chunk<W: Sink>(
     ensures bound { IfOk result (λ written. written.0 ≤ length bytes.now) }
     ensures kept { IfOk result (λ written. AreKept placement (drop written.0 bytes.now)) }
     ensures none { IfOk result (λ written. written.1 ≡ true → drop written.0 bytes.now ≡ []) }
-    ensures ok { IfOk result (λ written. HasWritten placement mid_word bytes.now
+    ensures ok { IfOk result (λ written. WritesChunkUpTo placement mid_word bytes.now
         (drop written.0 bytes.now) written.1 (W.taken sink.old) (W.taken sink.new)) }
-    ensures err { OnErr result (WritesFrontIn placement mid_word bytes.now (W.taken sink.old) (W.taken sink.new)) }
+    ensures err { OnErr result (WritesChunkFront placement mid_word bytes.now (W.taken sink.old) (W.taken sink.new)) }
     ensures memory { IsErrOf result FilterFault.Memory →
-        WritesSomeIn placement mid_word bytes.now (W.taken sink.old) (W.taken sink.new) }
+        WritesSomeOfChunk placement mid_word bytes.now (W.taken sink.old) (W.taken sink.new) }
 {
     match placement {
         Placement::Lines(_) => {
-            let ended = ended_len(bytes, kept);
+            let ended = whole_lines_len(bytes, kept);
             write_whole(alloc, demangler, placement, &bytes[..ended], output, sink)?;
             Ok((ended, false))
         }
         Placement::Words(options) => {
-            let (first, goes_on) = first_word(mid_word, bytes);
+            let (first, goes_on) = rest_of_word(mid_word, bytes);
             write_all(sink, &bytes[..first])?;
             if goes_on {
                 return Ok((first, goes_on));
@@ -153,12 +153,12 @@ fn write_chunk<W: Sink>(
 
 /// Returns how many bytes at the front are written as they are: if `mid_word` is true, those of the first word and the
 /// byte after it, otherwise none. Also returns whether the word may go on after the bytes.
-fn first_word(mid_word: bool, bytes: &[u8]) -> (usize, bool)
+fn rest_of_word(mid_word: bool, bytes: &[u8]) -> (usize, bool)
     ensures bound { result.0 ≤ length bytes.now }
     ensures outside { mid_word ≡ false → result.0 ≡ 0 }
     ensures goes_on { result.1 ≡ true → result.0 ≡ length bytes.now }
     ensures leads { (options : Replacement) →
-        Leads options mid_word (take result.0 bytes.now) (take result.0 bytes.now) result.1 }
+        ContinuesTo options mid_word (take result.0 bytes.now) (take result.0 bytes.now) result.1 }
 {
     if !mid_word {
         return (0, false);

@@ -28,7 +28,7 @@ pub(crate) fn first_prefix(bytes: &[u8]) -> Option<usize>
 }
 
 /// Returns the length in bytes of the first whole words, up to a word that has a `_Z`.
-pub(crate) fn unprefixed_len(text: &[u8]) -> usize
+pub(crate) fn ordinary_words_len(text: &[u8]) -> usize
     ensures bound { result ≤ length text.now }
     ensures whole { ends_word (take result text.now) ≡ false }
     ensures unprefixed { HasNoPrefix (take result text.now) }

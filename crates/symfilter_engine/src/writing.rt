@@ -10,12 +10,12 @@ ghost use Rattle.symfilter_engine.specs.Replaced.{ends_word};
 ghost use Rattle.symfilter_engine.specs.declared.symbols.Printing.{Printing};
 ghost use Rattle.symfilter_engine.specs.declared.symbols.Placement.TheVariants.{Lines, Words};
 ghost use Rattle.symfilter_engine.specs.Filtered.{HasNoLineFeed, EndsInLineFeed, AreWhole, IsLineAnswer, AreLinesAnswered, AreWholeFiltered, WritesFiltered, WritesBeginning};
-ghost use Rattle.symfilter_engine.specs.Progress.{AppendsWhole, HasFiltered, WritesWhole, WritesWholeFront, WritesSomeWhole};
+ghost use Rattle.symfilter_engine.specs.Progress.{AppendsFiltered, FiltersUpTo, WritesWholeFiltered, WritesFilteredFront, FiltersSome};
 
 use super::byte_search::first_place;
 use super::fault::FilterFault;
 use super::output::write_all;
-use super::prefixes::unprefixed_len;
+use super::prefixes::ordinary_words_len;
 use super::streams::Sink;
 use super::symbols::{Placement, Printing, Replacement, prepare_for};
 use super::word_bounds::{whole_words_len, word_end};
@@ -44,7 +44,7 @@ const LINE_FEED: u8 = b'\n';
 
 /// Returns the length in bytes of the whole lines, up to the last line feed and with it. The first `kept` bytes have
 /// no line feed.
-pub(crate) fn ended_len(bytes: &[u8], kept: usize) -> usize
+pub(crate) fn whole_lines_len(bytes: &[u8], kept: usize) -> usize
     requires inside { kept ≤ length bytes.now }
     requires before { HasNoLineFeed (take kept bytes.now) }
     ensures bound { result ≤ length bytes.now }
@@ -66,13 +66,13 @@ fn ordinary_len(placement: Placement, whole: &[u8]) -> usize
     ensures ordinary { AreWholeFiltered placement (take result whole.now) (take result whole.now) }
 {
     match placement {
-        Placement::Lines(_) => unmangled_len(whole),
-        Placement::Words(_) => unprefixed_len(whole),
+        Placement::Lines(_) => ordinary_lines_len(whole),
+        Placement::Words(_) => ordinary_words_len(whole),
     }
 }
 
 /// Returns the length in bytes of the first whole lines, up to one that begins with an underscore.
-fn unmangled_len(lines: &[u8]) -> usize
+fn ordinary_lines_len(lines: &[u8]) -> usize
     ensures bound { result ≤ length lines.now }
     ensures ordinary { (printing : Printing) →
         AreLinesAnswered printing (take result lines.now) (take result lines.now) }
@@ -128,7 +128,7 @@ fn append_line(
     requires known { IsTrue known_utf8 → IsUtf8 lines.now }
     ensures some { IfOk result (λ len. 0 < len) }
     ensures bound { IfOk result (λ len. len ≤ length lines.now) }
-    ensures ok { IfOk result (λ len. AppendsWhole (Lines printing) (take len lines.now) output.old output.new) }
+    ensures ok { IfOk result (λ len. AppendsFiltered (Lines printing) (take len lines.now) output.old output.new) }
     ensures err { OnErr result (output.new ≡ output.old) }
 {
     let Some(end) = first_place(lines, LINE_FEED) else {
@@ -170,7 +170,7 @@ fn append_block(
     requires whole { ends_word text.now ≡ false }
     ensures some { IfOk result (λ len. 0 < len) }
     ensures bound { IfOk result (λ len. len ≤ length text.now) }
-    ensures ok { IfOk result (λ len. AppendsWhole (Words options) (take len text.now) output.old output.new) }
+    ensures ok { IfOk result (λ len. AppendsFiltered (Words options) (take len text.now) output.old output.new) }
     ensures err { OnErr result (output.new ≡ output.old) }
 {
     let len = block_len(text, BLOCK_LEN);
@@ -198,7 +198,7 @@ fn append_next(
     requires known { (printing : Printing) → placement ≡ Lines printing → IsTrue known_utf8 → IsUtf8 whole.now }
     ensures some { IfOk result (λ len. 0 < len) }
     ensures bound { IfOk result (λ len. len ≤ length whole.now) }
-    ensures ok { IfOk result (λ len. AppendsWhole placement (take len whole.now) output.old output.new) }
+    ensures ok { IfOk result (λ len. AppendsFiltered placement (take len whole.now) output.old output.new) }
     ensures err { OnErr result (output.new ≡ output.old) }
 {
     let ordinary = ordinary_len(placement, whole);
@@ -263,8 +263,9 @@ fn write_next<W: Sink>(
     ensures in_time { W.called_late sink.new ≡ W.called_late sink.old }
     ensures some { IfOk result (λ len. 0 < len) }
     ensures bound { IfOk result (λ len. len ≤ length whole.now) }
-    ensures ok { IfOk result (λ len. WritesWhole placement (take len whole.now) (W.taken sink.old) (W.taken sink.new)) }
-    ensures err { OnErr result (WritesWholeFront placement whole.now (W.taken sink.old) (W.taken sink.new)) }
+    ensures ok { IfOk result (λ len. WritesWholeFiltered placement (take len whole.now)
+        (W.taken sink.old) (W.taken sink.new)) }
+    ensures err { OnErr result (WritesFilteredFront placement whole.now (W.taken sink.old) (W.taken sink.new)) }
     ensures memory { IsErrOf result FilterFault.Memory → Keeps (W.taken sink.old) (W.taken sink.new) }
 {
     let ordinary = ordinary_len(placement, whole);
@@ -292,10 +293,10 @@ pub(crate) fn write_whole<W: Sink>(
     requires whole { AreWhole placement whole.now }
     ensures outcome { IsWriteOutcome result (W.failed sink.new) }
     ensures in_time { W.called_late sink.new ≡ W.called_late sink.old }
-    ensures ok { OnOk result (HasFiltered placement whole.now [] (W.taken sink.old) (W.taken sink.new)) }
-    ensures err { OnErr result (WritesWholeFront placement whole.now (W.taken sink.old) (W.taken sink.new)) }
+    ensures ok { OnOk result (FiltersUpTo placement whole.now [] (W.taken sink.old) (W.taken sink.new)) }
+    ensures err { OnErr result (WritesFilteredFront placement whole.now (W.taken sink.old) (W.taken sink.new)) }
     ensures memory { IsErrOf result FilterFault.Memory →
-        WritesSomeWhole placement whole.now (W.taken sink.old) (W.taken sink.new) }
+        FiltersSome placement whole.now (W.taken sink.old) (W.taken sink.new) }
 {
     let known_utf8 = matches!(placement, Placement::Lines(_)) && is_utf8(whole);
     let mut rest = whole;

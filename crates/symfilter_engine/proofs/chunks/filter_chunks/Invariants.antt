@@ -1,5 +1,5 @@
 use Rattle.std.proofs.Common.{◌≡◌, ◌<◌, ◌≤◌, false, length, take}
-use Rattle.symfilter_engine.specs.Progress.{AreKept, HasCopied}
+use Rattle.symfilter_engine.specs.Progress.{AreKept, CopiesUpTo}
 use Rattle.symfilter_engine.proofs.chunks.filter_chunks.Given as goal
 
 abbrev pub invariant-chunks : goal.invariant-chunks
@@ -12,7 +12,7 @@ invariant-chunks g l =
       some : 0 < length l.chunk.items;
       within : l.kept ≤ length l.chunk.items;
       kept : AreKept l.placement (take l.kept l.chunk.items);
-      so_far : HasCopied l.placement l.mid_word (take l.kept l.chunk.items) (g.R.Source.remaining l.fn.source) (g.R.Source.remaining l.source) (g.W.Sink.taken l.fn.sink) (g.W.Sink.taken l.sink);
+      so_far : CopiesUpTo l.placement l.mid_word (take l.kept l.chunk.items) (g.R.Source.remaining l.fn.source) (g.R.Source.remaining l.source) (g.W.Sink.taken l.fn.sink) (g.W.Sink.taken l.sink);
     }
 
 abbrev pub decreases-chunks : goal.decreases-chunks

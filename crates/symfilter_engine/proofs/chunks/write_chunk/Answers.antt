@@ -5,7 +5,7 @@ use Rattle.std.specs.Prelude.{All}
 use Rattle.std.specs.Io.KnownBytes.{Appends}
 use Rattle.std.proofs.Common.{arith}
 use Rattle.std.proofs.lemmas.Grind.{common_steps}
-use Rattle.symfilter_engine.specs.Progress.{HasReplaced, HasWritten, WritesFront, WritesFrontIn, WritesSomeIn}
+use Rattle.symfilter_engine.specs.Progress.{ReplacesUpTo, WritesChunkUpTo, WritesFront, WritesChunkFront, WritesSomeOfChunk}
 use Rattle.symfilter_engine.specs.Replaced.{IsWordByte, may_hold_symbol}
 use Rattle.symfilter_engine.proofs.FilteredText.{at_fault}
 use Rattle.symfilter_engine.proofs.Copied.{lines_front, lines_some, none_kept, words_before, words_passed, words_fault, words_refused}
@@ -14,63 +14,63 @@ use Rattle.symfilter_engine.proofs.chunks.write_chunk.Goals as goal
 
 pub returns-in_err-write_whole-in-Lines-clause-err : goal.returns-in_err-write_whole-in-Lines-clause-err
 returns-in_err-write_whole-in-Lines-clause-err g c =
-    at_fault _ (lines_front c.args.placement _ c.args.mid_word c.args.bytes.now c.ended_len-ended.result _ _ c.in-Lines.is c.in_err-write_whole-in-Lines.ensures.err)
+    at_fault _ (lines_front c.args.placement _ c.args.mid_word c.args.bytes.now c.whole_lines_len-ended.result _ _ c.in-Lines.is c.in_err-write_whole-in-Lines.ensures.err)
 
 pub returns-in_err-write_whole-in-Lines-clause-memory : goal.returns-in_err-write_whole-in-Lines-clause-memory
 returns-in_err-write_whole-in-Lines-clause-memory g c = λ refused.
-    lines_some c.args.placement _ c.args.mid_word c.args.bytes.now c.ended_len-ended.result _ _ c.in-Lines.is (c.in_err-write_whole-in-Lines.ensures.memory (search rules))
+    lines_some c.args.placement _ c.args.mid_word c.args.bytes.now c.whole_lines_len-ended.result _ _ c.in-Lines.is (c.in_err-write_whole-in-Lines.ensures.memory (search rules))
 
 pub returns-in_err-write_all-in-Words-clause-err : goal.returns-in_err-write_all-in-Words-clause-err
 returns-in_err-write_all-in-Words-clause-err g c =
-    let first = c.first_word-first in
-    at_fault _ (subst (λ s. WritesFrontIn s c.args.mid_word c.args.bytes.now (g.W.Sink.taken c.args.sink.now) (g.W.Sink.taken c.write_all.new.sink)) (sym c.in-Words.is)
+    let first = c.rest_of_word-first in
+    at_fault _ (subst (λ s. WritesChunkFront s c.args.mid_word c.args.bytes.now (g.W.Sink.taken c.args.sink.now) (g.W.Sink.taken c.write_all.new.sink)) (sym c.in-Words.is)
     (stay_front c.in-Words.options c.args.mid_word first.result.1 c.args.bytes.now _ first.result.0 _ _ (first.ensures.leads c.in-Words.options) refl c.in_err-write_all-in-Words.ensures.err))
 
 pub returns-then-goes_on-clause-ok : goal.returns-then-goes_on-clause-ok
 returns-then-goes_on-clause-ok g c =
-    let first = c.first_word-first in
-    subst (λ s. HasWritten s c.args.mid_word c.args.bytes.now (drop first.result.0 c.args.bytes.now) first.result.1 (g.W.Sink.taken c.args.sink.now) (g.W.Sink.taken c.write_all.new.sink)) (sym c.in-Words.is)
+    let first = c.rest_of_word-first in
+    subst (λ s. WritesChunkUpTo s c.args.mid_word c.args.bytes.now (drop first.result.0 c.args.bytes.now) first.result.1 (g.W.Sink.taken c.args.sink.now) (g.W.Sink.taken c.write_all.new.sink)) (sym c.in-Words.is)
     (front_passed c.in-Words.options c.args.mid_word first.result.1 c.args.bytes.now first.result.0 _ _ (first.ensures.leads c.in-Words.options) c.in_ok-write_all-in-Words.ensures.ok)
 
 pub whole_words_len-whole-requires-clause-before : goal.whole_words_len-whole-requires-clause-before
 whole_words_len-whole-requires-clause-before g c =
-    let first = c.first_word-first in
+    let first = c.rest_of_word-first in
     subst (λ l. All IsWordByte (take c.args.kept l)) (sym (take_rest c.args.bytes.now first.result.0))
     (words_before c.args.placement c.in-Words.options c.args.mid_word c.args.bytes.now c.args.kept first.result.0 c.in-Words.is c.requires.kept c.requires.none first.ensures.outside)
 
 pub returns-in_err-write_whole-in-Words-clause-err : goal.returns-in_err-write_whole-in-Words-clause-err
 returns-in_err-write_whole-in-Words-clause-err g c =
-    let first = c.first_word-first in
+    let first = c.rest_of_word-first in
     let bytes = c.args.bytes.now in
     let rest : List ℕ = take (length bytes - first.result.0) (drop first.result.0 bytes) in
-    at_fault _ (subst (λ s. WritesFrontIn s c.args.mid_word bytes (g.W.Sink.taken c.args.sink.now) (g.W.Sink.taken c.write_whole-in-Words.new.sink)) (sym c.in-Words.is)
+    at_fault _ (subst (λ s. WritesChunkFront s c.args.mid_word bytes (g.W.Sink.taken c.args.sink.now) (g.W.Sink.taken c.write_whole-in-Words.new.sink)) (sym c.in-Words.is)
     (words_fault c.in-Words.options c.args.mid_word first.result.1 bytes rest first.result.0 c.whole_words_len-whole.result _ _ _ (first.ensures.leads c.in-Words.options) c.if-goes_on.false
     (take_rest bytes first.result.0) c.in_ok-write_all-in-Words.ensures.ok c.in_err-write_whole-in-Words.ensures.err))
 
 pub returns-in_err-write_whole-in-Words-clause-memory : goal.returns-in_err-write_whole-in-Words-clause-memory
 returns-in_err-write_whole-in-Words-clause-memory g c = λ refused.
-    let first = c.first_word-first in
+    let first = c.rest_of_word-first in
     let bytes = c.args.bytes.now in
     let rest : List ℕ = take (length bytes - first.result.0) (drop first.result.0 bytes) in
-    subst (λ s. WritesSomeIn s c.args.mid_word bytes (g.W.Sink.taken c.args.sink.now) (g.W.Sink.taken c.write_whole-in-Words.new.sink)) (sym c.in-Words.is)
+    subst (λ s. WritesSomeOfChunk s c.args.mid_word bytes (g.W.Sink.taken c.args.sink.now) (g.W.Sink.taken c.write_whole-in-Words.new.sink)) (sym c.in-Words.is)
     (words_refused c.in-Words.options c.args.mid_word first.result.1 bytes rest first.result.0 c.whole_words_len-whole.result _ _ _ (first.ensures.leads c.in-Words.options) c.if-goes_on.false
     (take_rest bytes first.result.0) c.in_ok-write_all-in-Words.ensures.ok (c.in_err-write_whole-in-Words.ensures.memory (search rules)))
 
 pub returns-then-may_hold_symbol-clause-ok : goal.returns-then-may_hold_symbol-clause-ok
 returns-then-may_hold_symbol-clause-ok g c =
-    let first = c.first_word-first in
+    let first = c.rest_of_word-first in
     let bytes = c.args.bytes.now in
     let n = first.result.0 in
     let whole = c.whole_words_len-whole.result in
     let rest : List ℕ = take (length bytes - n) (drop n bytes) in
-    subst (λ s. HasWritten s c.args.mid_word bytes (drop (n + whole) bytes) false (g.W.Sink.taken c.args.sink.now) (g.W.Sink.taken c.write_whole-in-Words.new.sink)) (sym c.in-Words.is)
-    (subst (λ l. HasReplaced c.in-Words.options c.args.mid_word bytes l false (g.W.Sink.taken c.args.sink.now) (g.W.Sink.taken c.write_whole-in-Words.new.sink)) (ap (drop whole) (take_rest bytes n) ∙ drop-drop whole n bytes)
+    subst (λ s. WritesChunkUpTo s c.args.mid_word bytes (drop (n + whole) bytes) false (g.W.Sink.taken c.args.sink.now) (g.W.Sink.taken c.write_whole-in-Words.new.sink)) (sym c.in-Words.is)
+    (subst (λ l. ReplacesUpTo c.in-Words.options c.args.mid_word bytes l false (g.W.Sink.taken c.args.sink.now) (g.W.Sink.taken c.write_whole-in-Words.new.sink)) (ap (drop whole) (take_rest bytes n) ∙ drop-drop whole n bytes)
     (words_passed c.in-Words.options c.args.mid_word first.result.1 bytes rest n whole _ _ _ (first.ensures.leads c.in-Words.options) c.if-goes_on.false
     (take_rest bytes n) c.in_ok-write_all-in-Words.ensures.ok c.in_ok-write_whole-in-Words.ensures.ok))
 
 pub returns-in_err-write_all-in-Words-2-clause-err : goal.returns-in_err-write_all-in-Words-2-clause-err
 returns-in_err-write_all-in-Words-2-clause-err g c =
-    let first = c.first_word-first in
+    let first = c.rest_of_word-first in
     let bytes = c.args.bytes.now in
     let n = first.result.0 in
     let whole = c.whole_words_len-whole.result in
@@ -78,7 +78,7 @@ returns-in_err-write_all-in-Words-2-clause-err g c =
     let same : take (length rest - whole) (drop whole rest) ≡ drop whole rest = take_rest rest whole in
     let plain : may_hold_symbol c.in-Words.options.strip (drop whole rest) ≡ false =
     ap (may_hold_symbol c.in-Words.options.strip) (sym same) ∙ sym c.may_hold_symbol.ensures.value ∙ c.if-may_hold_symbol.false in
-    at_fault _ (subst (λ s. WritesFrontIn s c.args.mid_word bytes (g.W.Sink.taken c.args.sink.now) (g.W.Sink.taken c.write_all-in-Words.new.sink)) (sym c.in-Words.is)
+    at_fault _ (subst (λ s. WritesChunkFront s c.args.mid_word bytes (g.W.Sink.taken c.args.sink.now) (g.W.Sink.taken c.write_all-in-Words.new.sink)) (sym c.in-Words.is)
     (front_after c.in-Words.options c.args.mid_word false bytes (drop whole rest) _ _ _
     (words_passed c.in-Words.options c.args.mid_word first.result.1 bytes rest n whole _ _ _ (first.ensures.leads c.in-Words.options) c.if-goes_on.false
     (take_rest bytes n) c.in_ok-write_all-in-Words.ensures.ok c.in_ok-write_whole-in-Words.ensures.ok)
@@ -90,7 +90,7 @@ returns-in_ok-write_all-in-Words-2-clause-kept g c = none_kept c.args.placement 
 
 pub returns-in_ok-write_all-in-Words-2-clause-ok : goal.returns-in_ok-write_all-in-Words-2-clause-ok
 returns-in_ok-write_all-in-Words-2-clause-ok g c =
-    let first = c.first_word-first in
+    let first = c.rest_of_word-first in
     let bytes = c.args.bytes.now in
     let n = first.result.0 in
     let whole = c.whole_words_len-whole.result in
@@ -98,8 +98,8 @@ returns-in_ok-write_all-in-Words-2-clause-ok g c =
     let same : take (length rest - whole) (drop whole rest) ≡ drop whole rest = take_rest rest whole in
     let plain : may_hold_symbol c.in-Words.options.strip (drop whole rest) ≡ false =
     ap (may_hold_symbol c.in-Words.options.strip) (sym same) ∙ sym c.may_hold_symbol.ensures.value ∙ c.if-may_hold_symbol.false in
-    subst (λ s. HasWritten s c.args.mid_word bytes (drop (length bytes) bytes) true (g.W.Sink.taken c.args.sink.now) (g.W.Sink.taken c.write_all-in-Words.new.sink)) (sym c.in-Words.is)
-    (subst (λ l. HasReplaced c.in-Words.options c.args.mid_word bytes l true (g.W.Sink.taken c.args.sink.now) (g.W.Sink.taken c.write_all-in-Words.new.sink)) (sym (drop-length bytes))
+    subst (λ s. WritesChunkUpTo s c.args.mid_word bytes (drop (length bytes) bytes) true (g.W.Sink.taken c.args.sink.now) (g.W.Sink.taken c.write_all-in-Words.new.sink)) (sym c.in-Words.is)
+    (subst (λ l. ReplacesUpTo c.in-Words.options c.args.mid_word bytes l true (g.W.Sink.taken c.args.sink.now) (g.W.Sink.taken c.write_all-in-Words.new.sink)) (sym (drop-length bytes))
     (replaced_on c.in-Words.options c.args.mid_word false true bytes (drop whole rest) [] _ _ _
     (words_passed c.in-Words.options c.args.mid_word first.result.1 bytes rest n whole _ _ _ (first.ensures.leads c.in-Words.options) c.if-goes_on.false
     (take_rest bytes n) c.in_ok-write_all-in-Words.ensures.ok c.in_ok-write_whole-in-Words.ensures.ok)

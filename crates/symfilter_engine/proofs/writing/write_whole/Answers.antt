@@ -4,8 +4,8 @@ use Rattle.std.proofs.Common.{rules, refl, sym, subst, ◌∙◌}
 use Rattle.std.specs.Prelude.{IsUtf8}
 use Rattle.std.proofs.lemmas.List.{take_rest}
 use Rattle.symfilter_engine.specs.Filtered.{AreWhole}
-use Rattle.symfilter_engine.specs.Progress.{HasFiltered}
-use Rattle.symfilter_engine.proofs.FilteredText.{at_fault, none_filtered, lines_filtered, next_unwritten, WritesWholeFront-append}
+use Rattle.symfilter_engine.specs.Progress.{FiltersUpTo}
+use Rattle.symfilter_engine.proofs.FilteredText.{at_fault, none_filtered, lines_filtered, next_unwritten, WritesFilteredFront-append}
 use Rattle.symfilter_engine.proofs.LineEnds.{whole_after, utf8_after}
 use Rattle.symfilter_engine.proofs.writing.write_whole.Goals as goal
 
@@ -20,7 +20,7 @@ loop-rest-init g c =
     }
 
 pub returns-in_err-len-clause-err : goal.returns-in_err-len-clause-err
-returns-in_err-len-clause-err g c = at_fault _ (WritesWholeFront-append c.args.placement _ _ _ _ _ c.loop-rest.invariant.so_far c.in_err-len.ensures.err)
+returns-in_err-len-clause-err g c = at_fault _ (WritesFilteredFront-append c.args.placement _ _ _ _ _ c.loop-rest.invariant.so_far c.in_err-len.ensures.err)
 
 pub returns-in_err-len-clause-memory : goal.returns-in_err-len-clause-memory
 returns-in_err-len-clause-memory g c = λ refused.
@@ -36,7 +36,7 @@ loop-rest-preserved g c =
       in_time = c.in_ok-len.ensures.in_time ∙ c.loop-rest.invariant.in_time;
       whole = subst (AreWhole c.args.placement) left (whole_after c.args.placement rest len c.loop-rest.invariant.whole);
       known = λ printing is known. subst IsUtf8 left (utf8_after c.args.placement rest c.in_ok-len.ensures.ok.0 len printing is c.in_ok-len.ensures.ok.1 (c.loop-rest.invariant.known printing is known));
-      so_far = subst (λ l. HasFiltered c.args.placement c.args.whole.now l (g.W.Sink.taken c.args.sink.now) (g.W.Sink.taken c.write_next.new.sink)) left
+      so_far = subst (λ l. FiltersUpTo c.args.placement c.args.whole.now l (g.W.Sink.taken c.args.sink.now) (g.W.Sink.taken c.write_next.new.sink)) left
           (lines_filtered c.args.placement _ rest len _ _ _ c.loop-rest.invariant.so_far c.in_ok-len.ensures.ok);
     }
 

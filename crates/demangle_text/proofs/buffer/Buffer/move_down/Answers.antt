@@ -52,10 +52,10 @@ block c =
           IsBlock-here s c.args.spilled c.args.at c.args.from c.args.to c.self.invariant mark w.if-spilled.false c.requires.ordered within)
     ]
 
-moves : (c : goal.After-shift-2) → Moves (store_of c.if-spilled.self-inside).output_text c.keep.new.self c.args.at c.if-spilled.from c.if-spilled.to c.args.at
+moves : (c : goal.After-shift-2) → Moves (store_of c.if-spilled.self-inside).output_text c.keep_only.new.self c.args.at c.if-spilled.from c.if-spilled.to c.args.at
 moves c =
     let b = block c in
-    Moves-kept (store_of c.if-spilled.self-inside).output_text c.keep.new.self c.args.at c.if-spilled.from c.if-spilled.to b.low b.ordered b.within c.keep.ensures.value
+    Moves-kept (store_of c.if-spilled.self-inside).output_text c.keep_only.new.self c.args.at c.if-spilled.from c.if-spilled.to b.low b.ordered b.within c.keep_only.ensures.value
 
 pub invariant_of-self-2 : goal.invariant_of-self-2
 invariant_of-self-2 c =
@@ -76,7 +76,7 @@ returns-clause-edit c =
     (moves c) b.inner))
 
 pub returns-clause-output : goal.returns-clause-output
-returns-clause-output c = rw (← c.self.view_is) (c.keep.ensures.value ∙ (block c).has)
+returns-clause-output c = rw (← c.self.view_is) (c.keep_only.ensures.value ∙ (block c).has)
 
 pub returns-then-from-at-2-clause-output : goal.returns-then-from-at-2-clause-output
 unfolding IsLiving shape main_bytes Stands frame_start frame outermost IsOlder IsAsOld inside outside saved scopes
@@ -86,9 +86,9 @@ pub invariant_of-self-in_err-spill_torn : goal.invariant_of-self-in_err-spill_to
 unfolding IsLiving shape main_bytes Stands frame_start frame outermost IsOlder IsAsOld inside outside saved scopes
 invariant_of-self-in_err-spill_torn c = grind (arith, common_steps)
 
-pub keep-requires-clause-ordered : goal.keep-requires-clause-ordered
+pub keep_only-requires-clause-ordered : goal.keep_only-requires-clause-ordered
 unfolding IsLiving shape main_bytes Stands frame_start frame outermost IsOlder IsAsOld inside outside saved scopes
-keep-requires-clause-ordered c = grind (arith, common_steps)
+keep_only-requires-clause-ordered c = grind (arith, common_steps)
 
 pub shift-requires-clause-block : goal.shift-requires-clause-block
 unfolding IsLiving shape main_bytes Stands frame_start frame outermost IsOlder IsAsOld inside outside saved scopes
@@ -107,8 +107,8 @@ returns-in_err-add_text c = grind arith
 pub returns-in_err-spill_torn : goal.returns-in_err-spill_torn
 returns-in_err-spill_torn c = grind arith
 
-pub keep-requires-clause-before : goal.keep-requires-clause-before
-keep-requires-clause-before c = grind arith
+pub keep_only-requires-clause-before : goal.keep_only-requires-clause-before
+keep_only-requires-clause-before c = grind arith
 
 pub shift-requires-clause-ordered : goal.shift-requires-clause-ordered
 shift-requires-clause-ordered c = grind arith

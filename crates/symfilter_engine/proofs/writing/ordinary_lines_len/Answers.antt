@@ -1,7 +1,7 @@
 use Rattle.std.proofs.Common.{arith}
 use Rattle.symfilter_engine.specs.Filtered.{no_line}
 use Rattle.symfilter_engine.proofs.LineEnds.{more_ordinary}
-use Rattle.symfilter_engine.proofs.writing.unmangled_len.Goals as goal
+use Rattle.symfilter_engine.proofs.writing.ordinary_lines_len.Goals as goal
 use Rattle.symfilter_engine.specs.declared.symbols.Printing.{Printing}
 use Rattle.symfilter_engine.specs.declared.symbols.Printing.TheVariants.{Names}
 

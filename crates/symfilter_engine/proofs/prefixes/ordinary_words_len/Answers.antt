@@ -2,7 +2,7 @@ use Rattle.std.proofs.Common.{◌≡◌, ◌≤◌, false, subst, arith}
 use Rattle.std.proofs.lemmas.List.{take-take, length-take}
 use Rattle.symfilter_engine.specs.Replaced.{ends_word}
 use Rattle.symfilter_engine.proofs.WordPlaces.{no_prefix-front, no_prefix-shorter}
-use Rattle.symfilter_engine.proofs.prefixes.unprefixed_len.Goals as goal
+use Rattle.symfilter_engine.proofs.prefixes.ordinary_words_len.Goals as goal
 
 pub returns-in-Some-clause-whole : goal.returns-in-Some-clause-whole
 returns-in-Some-clause-whole c =

@@ -3,7 +3,7 @@ use Rattle.std.proofs.lemmas.List.{take-append-drop}
 use Rattle.std.proofs.lemmas.List.Elements.{All-append, All-same}
 use Rattle.symfilter_engine.specs.Filtered.{HasNoLineFeed}
 use Rattle.symfilter_engine.proofs.LineEnds.{is_other}
-use Rattle.symfilter_engine.proofs.writing.ended_len.Goals as goal
+use Rattle.symfilter_engine.proofs.writing.whole_lines_len.Goals as goal
 
 pub returns-clause-unended : goal.returns-clause-unended
 returns-clause-unended c =

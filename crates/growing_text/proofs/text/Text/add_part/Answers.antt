@@ -4,7 +4,7 @@ use Rattle.std.proofs.lemmas.List.{append-nil, length-take-le}
 use Rattle.std.proofs.lemmas.List.Edits.{length-between}
 use Rattle.growing_text.proofs.Parts.{part-append}
 use Rattle.growing_text.proofs.Gaps.{length-HasGap, HasGap-made, HasGap-put, HasGap-filled}
-use Rattle.growing_text.proofs.text.Text.repeat.Goals as goal
+use Rattle.growing_text.proofs.text.Text.add_part.Goals as goal
 
 pub put_part-requires : goal.put_part-requires
 put_part-requires c =

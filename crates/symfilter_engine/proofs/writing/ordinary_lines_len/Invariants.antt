@@ -1,6 +1,6 @@
 use Rattle.std.proofs.Common.{◌-◌, ◌≤◌, length, take}
 use Rattle.symfilter_engine.specs.Filtered.{AreLinesAnswered}
-use Rattle.symfilter_engine.proofs.writing.unmangled_len.Given as goal
+use Rattle.symfilter_engine.proofs.writing.ordinary_lines_len.Given as goal
 use Rattle.symfilter_engine.specs.declared.symbols.Printing.{Printing}
 
 abbrev pub invariant-loop-len : goal.invariant-loop-len

@@ -1,7 +1,7 @@
 use Rattle.std.proofs.Common.{◌≡◌, ◌+◌, ◌-◌, ◌≤◌, length, take, arith, ap, ◌∙◌}
 use Rattle.std.proofs.lemmas.List.{length-take-le}
 use Rattle.growing_text.proofs.Fronts.{front-kept}
-use Rattle.growing_text.proofs.text.Text.keep.Goals as goal
+use Rattle.growing_text.proofs.text.Text.keep_only.Goals as goal
 
 pub returns : goal.returns
 returns c =
