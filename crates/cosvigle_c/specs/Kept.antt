@@ -13,14 +13,14 @@ text_of (Some kept) = kept.text.items
 text_of None = []
 
 -- what the demangler keeps of its last symbol, where there is a demangler
-abbrev pub run_of : Option Kept → Option LastResult
-run_of (Some kept) = Some kept.demangler
-run_of None = None
+abbrev pub result_of : Option Kept → Option LastResult
+result_of (Some kept) = Some kept.demangler
+result_of None = None
 
 -- what the demangler keeps of a symbol that it was asked for
 abbrev pub HasRead : Printing → List ℕ → LastResult → Type 0
-HasRead Names symbol run = IsAnswer symbol run.text × IsPrepared symbol run
-HasRead Signatures symbol run = IsPreparedSignature symbol run
+HasRead Names symbol last = IsAnswer symbol last.text × IsPrepared symbol last
+HasRead Signatures symbol last = IsPreparedSignature symbol last
 
 -- there is a demangler, which keeps what a symbol leaves: its answer, counts and components
 abbrev pub KeepsSymbol : Printing → List ℕ → Option Kept → Type 0

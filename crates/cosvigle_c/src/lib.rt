@@ -13,7 +13,7 @@ ghost use Rattle.std.specs.Prelude.{◌≡◌, ◌≢◌, ◌↔◌, [], pos, So
 ghost use Rattle.std.specs.Str.{IsUtf8};
 ghost use Rattle.itanium_grammar.specs.Answer.{IsAnswer};
 ghost use Rattle.itanium_demangle.specs.LastResult.{no_result};
-ghost use Rattle.cosvigle_c.specs.Kept.{run_of, text_of, KeepsSymbol};
+ghost use Rattle.cosvigle_c.specs.Kept.{result_of, text_of, KeepsSymbol};
 ghost use Rattle.symfilter_engine.specs.declared.symbols.Printing.TheVariants.{Names, Signatures};
 ghost use Rattle.cosvigle_c.specs.Calls.{IsNameOrSignature, WritesAnswer, LacksCapacity};
 
@@ -170,7 +170,7 @@ pub extern "C" fn cosvigle_demangle(
 #[unsafe(no_mangle)]
 pub extern "C" fn cosvigle_new(alloc: Global, handle: &mut Handle) -> i32
     ensures status { result ≢ pos 0 → result ≡ pos 2 }
-    ensures made { result ≡ pos 0 → run_of handle.new.kept ≡ Some no_result }
+    ensures made { result ≡ pos 0 → result_of handle.new.kept ≡ Some no_result }
     ensures none { result ≡ pos 2 → handle.new.kept ≡ None }
     ensures no_text { text_of handle.new.kept ≡ [] }
 {

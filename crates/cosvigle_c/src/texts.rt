@@ -5,7 +5,7 @@ ghost use Rattle.symfilter_engine.specs.declared.symbols.Printing.TheVariants.{N
 ghost use Rattle.symfilter_engine.specs.Filtered.{IsAnswered};
 ghost use Rattle.symfilter_engine.specs.Replaced.{IsReplaced};
 ghost use Rattle.cosvigle_c.specs.Capacity.{Fills, IsShort};
-ghost use Rattle.cosvigle_c.specs.Kept.{run_of, text_of};
+ghost use Rattle.cosvigle_c.specs.Kept.{result_of, text_of};
 ghost use Rattle.cosvigle_c.specs.Calls.{by_names, WritesLines, LacksLines, KeepsLines, WritesWords, KeepsWords};
 
 use crate::handle::Handle;
@@ -102,10 +102,10 @@ pub extern "C" fn cosvigle_filter(
 /// Takes the demangler out of a handle, and drops the text that the handle keeps. If the handle has no demangler,
 /// makes a new one. Returns an error if an allocation fails.
 fn take_kept(alloc: Global, handle: &mut Handle) -> Result<Box<Kept>, AllocError>
-    ensures kept { IfOk result (λ kept. run_of handle.old.kept ≢ None →
-        Some kept.value.demangler ≡ run_of handle.old.kept) }
+    ensures kept { IfOk result (λ kept. result_of handle.old.kept ≢ None →
+        Some kept.value.demangler ≡ result_of handle.old.kept) }
     ensures no_text { IfOk result (λ kept. kept.value.text.items ≡ []) }
-    ensures failed { OnErr result (run_of handle.old.kept ≡ None) }
+    ensures failed { OnErr result (result_of handle.old.kept ≡ None) }
     ensures none { handle.new.kept ≡ None }
 {
     match mem::replace(handle, Handle::none(alloc)).into_box() {
@@ -156,7 +156,7 @@ pub extern "C" fn cosvigle_filter_with(
     ensures stays { result ≢ pos 0 → into.new ≡ into.old }
     ensures nothing { result ≡ pos 2 → needed.new ≡ 0 }
     ensures no_text { result ≢ pos 3 → text_of handle.new.kept ≡ [] }
-    ensures keeps { run_of handle.old.kept ≢ None → run_of handle.new.kept ≡ run_of handle.old.kept }
+    ensures keeps { result_of handle.old.kept ≢ None → result_of handle.new.kept ≡ result_of handle.old.kept }
 {
     *needed = 0;
     let Ok(mut kept) = take_kept(alloc, handle) else {
@@ -195,7 +195,7 @@ pub extern "C" fn cosvigle_replace(
     ensures stays { result ≢ pos 0 → into.new ≡ into.old }
     ensures nothing { result ≡ pos 2 → needed.new ≡ 0 }
     ensures no_text { result ≢ pos 3 → text_of handle.new.kept ≡ [] }
-    ensures keeps { run_of handle.old.kept ≢ None → run_of handle.new.kept ≡ run_of handle.old.kept }
+    ensures keeps { result_of handle.old.kept ≢ None → result_of handle.new.kept ≡ result_of handle.old.kept }
 {
     *needed = 0;
     let Ok(mut kept) = take_kept(alloc, handle) else {
@@ -230,7 +230,7 @@ pub extern "C" fn cosvigle_take(
     ensures nothing { result ≡ pos 1 → needed.new ≡ 0 }
     ensures taken { result ≡ pos 0 → text_of handle.new.kept ≡ [] }
     ensures kept { result ≢ pos 0 → handle.new.kept ≡ handle.old.kept }
-    ensures keeps { run_of handle.new.kept ≡ run_of handle.old.kept }
+    ensures keeps { result_of handle.new.kept ≡ result_of handle.old.kept }
 {
     *needed = 0;
     let Some(mut kept) = mem::replace(handle, Handle::none(alloc)).into_box() else {

@@ -84,7 +84,7 @@ may_be_element (Declared Function before None after) = false
 abbrev pub member_gap : List ℕ → List ℕ
 member_gap t = if ends_with nat_eq t (codes "(") || ends_with nat_eq t (codes " ") then [] else codes " "
 
--- no type is a member pointer to an array, or to a pointer or a reference to one, whose shape is an array's too
+-- member pointers to arrays aren't read, nor those to pointers and references to arrays: all have an array's shape
 abbrev pub may_be_member : Form → Bool
 may_be_member (Plain t) = true
 may_be_member (Declared Function before group after) = true

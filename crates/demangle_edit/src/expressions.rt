@@ -2,7 +2,7 @@
 ghost use Rattle.std.specs.Prelude.{◌≡◌, codes, [], false, IfOk, OnOk};
 ghost use Rattle.demangle_text.specs.Shape.{text, plain_shape, appended, whole_shape};
 ghost use Rattle.demangle_text.specs.State.{IsLiving, shape, Lives, IsEdit, KeepsAll, main_bytes};
-ghost use Rattle.demangle_text.specs.State.{StaysInPlace, IsLeftOrStays, JoinsInPlace, AppendsPiece};
+ghost use Rattle.demangle_text.specs.State.{StaysInPlace, IsUnchangedOrStays, JoinsInPlace, AppendsPiece};
 ghost use Rattle.demangle_edit.specs.Answers.{Answers, IfFound, OnNone};
 ghost use Rattle.demangle_edit.specs.Expressions as spec;
 ghost use Rattle.demangle_edit.specs.Calls as calls;
@@ -165,7 +165,7 @@ pub fn subexpr(buf: &mut Buffer, piece: Piece, paren: bool) -> Result<Piece, All
     requires piece { IsLiving buf.old piece }
     ensures shape { IfOk result (λ p. Lives buf.new p (spec.operand_shape paren (shape buf.old piece))) }
     ensures edit { OnOk result (IsEdit buf.old buf.new) }
-    ensures in_place { IfOk result (λ p. IsLeftOrStays buf.old buf.new piece p) }
+    ensures in_place { IfOk result (λ p. IsUnchangedOrStays buf.old buf.new piece p) }
     ensures same { paren ≡ false → (result ≡ Ok piece) × (buf.new ≡ buf.old) }
 {
     if !paren {

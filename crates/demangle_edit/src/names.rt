@@ -2,7 +2,7 @@
 ghost use Rattle.std.specs.Prelude.{◌≡◌, All, map, false, IfOk, OnOk, OnErr};
 ghost use Rattle.demangle_quals.specs.Quals.{has_quals};
 ghost use Rattle.demangle_text.specs.Shape.{plain_shape};
-ghost use Rattle.demangle_text.specs.State.{IsLiving, shape, Lives, IsEdit, StaysInPlace, IsLeftOrStays, JoinsInPlace, AppendsPiece};
+ghost use Rattle.demangle_text.specs.State.{IsLiving, shape, Lives, IsEdit, StaysInPlace, IsUnchangedOrStays, JoinsInPlace, AppendsPiece};
 ghost use Rattle.demangle_edit.specs.Names.{qualified, qualified_ctor, angle_gap, attached, tagged};
 ghost use Rattle.demangle_edit.specs.Names.{encoding_shape, with_name_qualifiers, default_arg_shape};
 ghost use Rattle.demangle_edit.specs.Built.{parent_opened, default_arg_opened, enclosed};
@@ -202,7 +202,7 @@ pub fn apply_name_qualifiers(
     requires name { IsLiving buf.old name }
     ensures shape { IfOk result (λ p. Lives buf.new p (with_name_qualifiers (shape buf.old name) quals shown)) }
     ensures edit { OnOk result (IsEdit buf.old buf.new) }
-    ensures in_place { IfOk result (λ p. IsLeftOrStays buf.old buf.new name p) }
+    ensures in_place { IfOk result (λ p. IsUnchangedOrStays buf.old buf.new name p) }
     ensures same { has_quals quals ≡ false → (result ≡ Ok name) × (buf.new ≡ buf.old) }
 {
     if !quals.is_set() {

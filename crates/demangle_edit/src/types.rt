@@ -3,7 +3,7 @@ ghost use Rattle.std.specs.Prelude.{◌≡◌, ◌≢◌, ◌+◌, ◌++◌, All
 ghost use Rattle.demangle_text.specs.Shape.{text, plain_shape, inserted};
 ghost use Rattle.demangle_text.specs.Calls.{CanInsert, IsPlain, IsDeclared, kind_of, group_of, front_text};
 ghost use Rattle.demangle_text.specs.State.{IsLiving, shape, Lives, IsEdit, KeepsAll, main_bytes};
-ghost use Rattle.demangle_text.specs.State.{StaysInPlace, IsLeftOrStays, JoinsInPlace, AppendsPiece, StandsShortened};
+ghost use Rattle.demangle_text.specs.State.{StaysInPlace, IsUnchangedOrStays, JoinsInPlace, AppendsPiece, StandsShortened};
 ghost use Rattle.demangle_edit.specs.Answers.{Answers, IfFound, OnNone};
 ghost use Rattle.demangle_edit.specs.Types.{pointed, collapse_step, pointer_shape, cv_place, cv_shape};
 ghost use Rattle.demangle_edit.specs.Built.{function_closed};
@@ -43,7 +43,7 @@ pub fn wrap_pointer(buf: &mut Buffer, inner: Piece, kind: Pointer) -> Result<Pie
     ensures shape { IfOk result (λ p. Lives buf.new p (pointer_shape kind (shape buf.old inner))) }
     ensures edit { OnOk result (IsEdit buf.old buf.new) }
     ensures in_place { pointer_shortens kind (shape buf.old inner) ≡ false
-        → IfOk result (λ p. IsLeftOrStays buf.old buf.new inner p) }
+        → IfOk result (λ p. IsUnchangedOrStays buf.old buf.new inner p) }
     ensures same { pointer_is_same kind (shape buf.old inner) ≡ true → (result ≡ Ok inner) × (buf.new ≡ buf.old) }
     ensures cut_main { pointer_shortens kind (shape buf.old inner) ≡ true
         → OnOk result (main_bytes buf.new ≡ main_bytes buf.old) }
@@ -78,7 +78,7 @@ pub fn collapse_ref(
     ensures none { OnNone result (KeepsAll buf.old buf.new) }
     ensures none_main { OnNone result (main_bytes buf.new ≡ main_bytes buf.old) }
     ensures in_place { ref_shortens rvalue (shape buf.old inner) ≡ false
-        → IfFound result (λ p. IsLeftOrStays buf.old buf.new inner p) }
+        → IfFound result (λ p. IsUnchangedOrStays buf.old buf.new inner p) }
     ensures same { ref_is_same rvalue (shape buf.old inner) ≡ true → (result ≡ Ok (Some inner)) × (buf.new ≡ buf.old) }
     ensures cut_main { ref_shortens rvalue (shape buf.old inner) ≡ true
         → OnOk result (main_bytes buf.new ≡ main_bytes buf.old) }

@@ -210,11 +210,11 @@ pub record StaysInPlace (old new : Store) (piece answer : Piece) : Type 0 where
       → Stands answer at (length (main_bytes new)) × (take at (main_bytes new) ≡ take at (main_bytes old))
 
 -- an edit that may change nothing
-pub data IsLeftOrStays (old new : Store) (piece answer : Piece) : Type 0 where
+pub data IsUnchangedOrStays (old new : Store) (piece answer : Piece) : Type 0 where
   -- the answer is the piece, and no byte of the output changes
-  left : main_bytes new ≡ main_bytes old → answer ≡ piece → IsLeftOrStays old new piece answer
+  unchanged : main_bytes new ≡ main_bytes old → answer ≡ piece → IsUnchangedOrStays old new piece answer
   -- the piece was edited
-  edited : StaysInPlace old new piece answer → IsLeftOrStays old new piece answer
+  edited : StaysInPlace old new piece answer → IsUnchangedOrStays old new piece answer
 
 -- The answer ends the output, and begins at the innermost mark or later. No byte before it changes.
 -- If the first piece begins at the innermost mark or later, and either ends the output, or ends where the second begins

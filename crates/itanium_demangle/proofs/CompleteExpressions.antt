@@ -8,8 +8,8 @@ use Rattle.itanium_grammar.specs.Tree.{Tree, Operand, shape_of, shape_of_operand
 use Rattle.itanium_grammar.specs.Grammar.{Position, Cost, ArgumentAs, ExpressionAs, OperandOf, PrimaryAs, external_name}
 use Rattle.itanium_grammar.specs.Grammar.{value_literal, expression, operand_of, pre_expression, address_expression}
 use Rattle.itanium_grammar.specs.Grammar.{unary_expression, post_expression, binary_expression, greater_expression}
-use Rattle.itanium_grammar.specs.Grammar.{conditional_expression, parameter_expression, literal_expression}
-use Rattle.itanium_grammar.specs.Grammar.{expression_argument, pack_argument, literal_argument, type_argument}
+use Rattle.itanium_grammar.specs.Grammar.{conditional_expression, template_param_expression, primary_expression}
+use Rattle.itanium_grammar.specs.Grammar.{expression_argument, pack_argument, primary_argument, type_argument}
 use Rattle.itanium_grammar.specs.Cases.{AtE, PrimaryCase, ExpressionCase, ArgumentCase}
 use Rattle.itanium_reader.specs.Parser.{parse_type, parse_name, parse_special, parse_pack, parse_encoding, literal_as}
 use Rattle.itanium_reader.specs.Parser.{parse_primary, operand_by, expression_as, parse_expression, argument_as}
@@ -62,8 +62,8 @@ module _ (d : ℕ) (kinds : TypesComplete d) (bares : BareNamesComplete d) (thun
         operand_complete g (omega arith) (e + c.count + f.count) (max (max m c.peak) f.peak),
       )
       (same_read (sym (shape-conditional_of o n k)) refl refl (omega arith) (omega arith)))
-  expression_as_met (parameter_expression a) deep e m = met (template_param_complete a e m ∙ same_read refl refl refl (omega arith) (omega arith))
-  expression_as_met (literal_expression a) deep e m = primary_met d kinds bares thunks a deep e m
+  expression_as_met (template_param_expression a) deep e m = met (template_param_complete a e m ∙ same_read refl refl refl (omega arith) (omega arith))
+  expression_as_met (primary_expression a) deep e m = primary_met d kinds bares thunks a deep e m
 
   pub expressions_complete : ExpressionsComplete (suc d)
   unfolding parse_expression parse_primary parse_encoding parse_special parse_name
@@ -75,7 +75,7 @@ module _ (d : ℕ) (packs : PacksComplete d) (kinds : TypesComplete d) (bares : 
       → Met text_len (argument_as case (parse_pack d x) (parse_type d x) (parse_expression d x) (parse_primary d x) (state_at p e m)) (reached shape_of t q c e m)
   argument_as_met (expression_argument a end) deep e m = met (rw (values _ _ _ _ _ a deep e m, end) refl)
   argument_as_met (pack_argument a) deep e m = met (packs _ _ _ _ _ a deep e m)
-  argument_as_met (literal_argument a) deep e m = primary_met d kinds bares thunks a deep e m
+  argument_as_met (primary_argument a) deep e m = primary_met d kinds bares thunks a deep e m
   argument_as_met (type_argument a) deep e m = met (kinds _ _ _ _ _ a deep e m)
 
   pub each_argument_met : ArgumentsComplete d

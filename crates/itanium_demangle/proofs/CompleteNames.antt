@@ -28,7 +28,7 @@ use Rattle.itanium_grammar.specs.Grammar.{abbreviation_substitution, component_s
 use Rattle.itanium_grammar.specs.Grammar.{auto_parameter, scope_parameter, template_param, no_tag, next_tag, OrdinaryAs}
 use Rattle.itanium_grammar.specs.Grammar.{ordinary_source, ordinary_unnamed_type, ordinary_lambda, ordinary_conversion}
 use Rattle.itanium_grammar.specs.Grammar.{ordinary_literal_operator, ordinary_operator, constructor_unqualified}
-use Rattle.itanium_grammar.specs.Grammar.{destructor_unqualified, ordinary_unqualified, unqualified, parameter_first}
+use Rattle.itanium_grammar.specs.Grammar.{destructor_unqualified, ordinary_unqualified, unqualified, template_param_first}
 use Rattle.itanium_grammar.specs.Grammar.{std_first, substitution_first, name_first, name, nested_name, local_name}
 use Rattle.itanium_grammar.specs.Grammar.{local, string_literal_entity, default_argument_entity, name_entity}
 use Rattle.itanium_grammar.specs.Grammar.{full_encoding, no_return_type, some_return_type, no_encoding_params, some_encoding_params}
@@ -136,7 +136,7 @@ module _ (d : ℕ) (lists : ArgsComplete d) (kinds : TypesComplete d) where
 
   pub first_met : {case : FirstCase} {x : Context} {p q : Position} {t : Tree} {c : Cost} → FirstAs case x p t q c → Small d c → (e m : ℕ)
       → Met text_len (first_as case (parse_unqualified (parse_type d x) (parse_type d (inside_lambda x))) x (state_at p e m)) (reached shape_of t q c e m)
-  first_met (parameter_first {q = q} {t = t} a) deep e m =
+  first_met (template_param_first {q = q} {t = t} a) deep e m =
       met (rw (template_param_complete a e m) (same_read refl (one_more q.saved t) refl (omega arith) (omega (arith, length-map q.saved shape_of))))
   first_met std_first deep e m = met (same_read (sym (shape-plain_text (codes "std"))) refl refl (omega arith) (omega arith))
   first_met (substitution_first {p = p} a) deep e m = met (substitution_complete p a e m ∙ same_read refl refl refl (omega arith) (omega arith))

@@ -13,8 +13,8 @@ use Rattle.itanium_grammar.specs.Tree.{shape_of, shape_of_operand}
 use Rattle.itanium_grammar.specs.Grammar.{Position, skip, ArgumentAs, Expression, ExpressionAs, OperandOf, PrimaryAs}
 use Rattle.itanium_grammar.specs.Grammar.{external_name, value_literal, expression, operand_of, pre_expression}
 use Rattle.itanium_grammar.specs.Grammar.{address_expression, unary_expression, post_expression, binary_expression}
-use Rattle.itanium_grammar.specs.Grammar.{greater_expression, conditional_expression, parameter_expression}
-use Rattle.itanium_grammar.specs.Grammar.{literal_expression, expression_argument, pack_argument, literal_argument}
+use Rattle.itanium_grammar.specs.Grammar.{greater_expression, conditional_expression, template_param_expression}
+use Rattle.itanium_grammar.specs.Grammar.{primary_expression, expression_argument, pack_argument, primary_argument}
 use Rattle.itanium_grammar.specs.Grammar.{type_argument}
 use Rattle.itanium_grammar.specs.Cases.{AtE, PrimaryCase, ExternalName, ValueLiteral, UnreadablePrimary, ExpressionCase}
 use Rattle.itanium_grammar.specs.Cases.{PreExpression, AddressExpression, UnaryExpression, PostExpression}
@@ -122,9 +122,9 @@ module _ (d : ℕ) (complete : TypesComplete d) (bares_are : BareNamesComplete d
       let l = (operand_sound x o.next (e + i.cost.count + o.cost.count) (max (max m i.cost.peak) o.cost.peak) v third).within in
       record { tree = _; next = _; cost = _; reading = conditional_expression i.reading o.reading l.reading; deep = omega (arith, i.deep, o.deep, l.deep) })))
   expression_as_sound TemplateParamExpression x p e m y is =
-      let i = template_param_sound x p e m y is in record { tree = _; next = _; cost = _; reading = parameter_expression i.reading; deep = omega arith }
+      let i = template_param_sound x p e m y is in record { tree = _; next = _; cost = _; reading = template_param_expression i.reading; deep = omega arith }
   expression_as_sound PrimaryExpression x p e m y is =
-      let i = primary_sound d complete bares_are thunks_are kinds bares thunks x p e m y is in record { tree = _; next = _; cost = _; reading = literal_expression i.reading; deep = i.deep }
+      let i = primary_sound d complete bares_are thunks_are kinds bares thunks x p e m y is in record { tree = _; next = _; cost = _; reading = primary_expression i.reading; deep = i.deep }
   expression_as_sound UnreadableExpression x p e m y is = cc
 
   pub expressions_sound : ExpressionsSound (suc d)
@@ -150,7 +150,7 @@ module _ (d : ℕ) (packs_are : PacksComplete d) (complete : TypesComplete d) (b
   argument_as_sound PackArgument x p e m y is =
       let i = (packs x p e m y is).within in record { tree = _; next = _; cost = _; reading = pack_argument i.reading; deep = i.deep }
   argument_as_sound PrimaryArgument x p e m y is =
-      let i = primary_sound d complete bares_are thunks_are kinds bares thunks x p e m y is in record { tree = _; next = _; cost = _; reading = literal_argument i.reading; deep = i.deep }
+      let i = primary_sound d complete bares_are thunks_are kinds bares thunks x p e m y is in record { tree = _; next = _; cost = _; reading = primary_argument i.reading; deep = i.deep }
   argument_as_sound ConstraintArgument x p e m y is = cc
   argument_as_sound TypeArgument x p e m y is =
       let i = (kinds x p e m y is).within in record { tree = _; next = _; cost = _; reading = type_argument i.reading; deep = i.deep }

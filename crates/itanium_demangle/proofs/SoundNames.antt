@@ -26,7 +26,7 @@ use Rattle.itanium_grammar.specs.Grammar.{abbreviation_substitution, component_s
 use Rattle.itanium_grammar.specs.Grammar.{auto_parameter, scope_parameter, template_param, no_tag, next_tag, ordinary_source}
 use Rattle.itanium_grammar.specs.Grammar.{ordinary_unnamed_type, ordinary_lambda, ordinary_conversion, ordinary_literal_operator}
 use Rattle.itanium_grammar.specs.Grammar.{ordinary_operator, constructor_unqualified, destructor_unqualified}
-use Rattle.itanium_grammar.specs.Grammar.{ordinary_unqualified, unqualified, parameter_first, std_first, substitution_first}
+use Rattle.itanium_grammar.specs.Grammar.{ordinary_unqualified, unqualified, template_param_first, std_first, substitution_first}
 use Rattle.itanium_grammar.specs.Grammar.{name_first, name, nested_name, local_name, local, string_literal_entity}
 use Rattle.itanium_grammar.specs.Grammar.{default_argument_entity, name_entity, full_encoding, no_return_type}
 use Rattle.itanium_grammar.specs.Grammar.{some_return_type, no_encoding_params, some_encoding_params, unscoped_name, std_name}
@@ -242,7 +242,7 @@ module _ (d : ℕ) (complete : TypesComplete d) (lists_are : ArgsComplete d) (ki
       → Within (FirstAs case x p) d
   first_sound TemplateParamFirst x p e m y is =
       option_and_then_some _ (parse_template_param x (state_at p e m)) y is (λ z found _.
-      let i = template_param_sound x p e m z found in record { tree = _; next = _; cost = _; reading = parameter_first i.reading; deep = omega arith })
+      let i = template_param_sound x p e m z found in record { tree = _; next = _; cost = _; reading = template_param_first i.reading; deep = omega arith })
   first_sound SubstitutionFirst x p e m y is =
       let i = substitution_sound p e m y is in record { tree = _; next = _; cost = _; reading = substitution_first i.reading; deep = omega arith }
   first_sound StdFirst x p e m y is = record { tree = _; next = _; cost = _; reading = std_first; deep = omega arith }

@@ -27,8 +27,8 @@ component_shapes true (Some buffer) = saved buffer.value
 component_shapes answered buffer = []
 
 -- what the fields mean
-abbrev pub last_run : Inside → LastResult
-last_run d = record {
+abbrev pub last_result : Inside → LastResult
+last_result d = record {
   text = answer_text d.answered d.buffer;
   signature = d.signature;
   entered = d.entered;
@@ -60,21 +60,21 @@ IsPrinted printing after None = ¬ (IsUtf8 printing)
 
 -- after a symbol the counts, the components, their shapes and the length of the text are those of its readings as a
 -- name, and without a prefix nothing is left
-pub record IsPrepared (symbol : List ℕ) (run : LastResult) : Type 0 where
-  pub kind : run.signature ≡ false
-  pub counts : HasCounts symbol run.entered run.most_saved
-  pub components : HasComponents symbol run.text run.components
-  pub saved : HasSaved symbol run.text run.saved
-  pub bounds : HasBounds symbol run.entered run.most_saved
-  pub longest : HasLength symbol run.text
-  pub no_prefix : after_prefix symbol ≡ None → run ≡ no_result
+pub record IsPrepared (symbol : List ℕ) (last : LastResult) : Type 0 where
+  pub not_signature : last.signature ≡ false
+  pub counts : HasCounts symbol last.entered last.most_saved
+  pub components : HasComponents symbol last.text last.components
+  pub saved : HasSaved symbol last.text last.saved
+  pub bounds : HasBounds symbol last.entered last.most_saved
+  pub longest : HasLength symbol last.text
+  pub no_prefix : after_prefix symbol ≡ None → last ≡ no_result
 
--- the same where its signature was asked for: of its signature, or of its name where it has none
-pub record IsPreparedSignature (symbol : List ℕ) (run : LastResult) : Type 0 where
-  pub answer : IsSignatureOrName run.signature symbol run.text
-  pub counts : HasCountsOf run.signature symbol run.entered run.most_saved
-  pub components : HasComponentsOf run.signature symbol run.text run.components
-  pub saved : HasSavedOf run.signature symbol run.text run.saved
-  pub bounds : HasBounds symbol run.entered run.most_saved
-  pub longest : HasLengthOf run.signature symbol run.text
-  pub no_prefix : after_prefix symbol ≡ None → run ≡ no_result
+-- the same where its signature was asked for, and what the text is: that, or its name where it has no signature
+pub record IsPreparedSignature (symbol : List ℕ) (last : LastResult) : Type 0 where
+  pub answer : IsSignatureOrName last.signature symbol last.text
+  pub counts : HasCountsOf last.signature symbol last.entered last.most_saved
+  pub components : HasComponentsOf last.signature symbol last.text last.components
+  pub saved : HasSavedOf last.signature symbol last.text last.saved
+  pub bounds : HasBounds symbol last.entered last.most_saved
+  pub longest : HasLengthOf last.signature symbol last.text
+  pub no_prefix : after_prefix symbol ≡ None → last ≡ no_result

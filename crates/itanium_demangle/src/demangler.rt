@@ -5,8 +5,8 @@ ghost use Rattle.std.specs.String.{string_bytes};
 ghost use Rattle.std.specs.Str.{IsUtf8};
 ghost use Rattle.demangle_text.specs.State.{IsLiving, shape, saved, scopes, main_bytes, frame, inside, outside, outermost, frame_start};
 ghost use Rattle.demangle_text.specs.Shape.{text};
-ghost use Rattle.itanium_grammar.specs.Answer.{IsAnswer, HasOneReading, HasCounts, HasComponents, HasSaved, HasBounds, HasLength};
-ghost use Rattle.itanium_grammar.specs.Answer.{IsAnswerOf, IsSignatureOrName, HasOneReadingOf, HasCountsOf, HasComponentsOf};
+ghost use Rattle.itanium_grammar.specs.Answer.{IsAnswer, HasAtMostOneReading, HasCounts, HasComponents, HasSaved, HasBounds, HasLength};
+ghost use Rattle.itanium_grammar.specs.Answer.{IsAnswerOf, IsSignatureOrName, HasAtMostOneReadingOf, HasCountsOf, HasComponentsOf};
 ghost use Rattle.itanium_grammar.specs.Answer.{HasSavedOf, HasLengthOf};
 ghost use Rattle.itanium_grammar.specs.Answer as spec;
 ghost use Rattle.itanium_reader.specs.Outcome.{state};
@@ -40,12 +40,12 @@ pub struct Demangler {
 }
 
 impl Model for Demangler {
-    ghost use Rattle.itanium_demangle.specs.Demangler.{last_run, KeepsAnswer};
+    ghost use Rattle.itanium_demangle.specs.Demangler.{last_result, KeepsAnswer};
     ghost use Rattle.itanium_demangle.specs.LastResult.{LastResult};
 
     ghost Value = { LastResult };
 
-    ghost view = { last_run };
+    ghost view = { last_result };
 
     ghost invariant = { KeepsAnswer };
 }
@@ -137,14 +137,14 @@ impl Demangler {
     fn read(&mut self, alloc: Global, symbol: &str, signature: bool) -> Result<bool, AllocError>
         ensures answer { IfOk result (λ _. IsAnswerOf signature symbol.now self.new.text) }
         ensures found { IfOk result (λ found. found ≡ is_some self.new.text) }
-        ensures kind { self.new.signature ≡ false }
+        ensures not_signature { self.new.signature ≡ false }
         ensures counts { IfOk result (λ _. HasCountsOf signature symbol.now self.new.entered self.new.most_saved) }
         ensures components { IfOk result (λ _. HasComponentsOf signature symbol.now self.new.text
             self.new.components) }
         ensures saved { IfOk result (λ _. HasSavedOf signature symbol.now self.new.text self.new.saved) }
         ensures bounds { IfOk result (λ _. HasBounds symbol.now self.new.entered self.new.most_saved) }
         ensures longest { IfOk result (λ _. HasLengthOf signature symbol.now self.new.text) }
-        ensures one { HasOneReadingOf signature symbol.now }
+        ensures one { HasAtMostOneReadingOf signature symbol.now }
         ensures no_prefix { spec.after_prefix symbol.now ≡ None → (result ≡ Ok false) × (self.new ≡ no_result) }
         ensures err { OnErr result (self.new ≡ no_result) }
     {
@@ -208,10 +208,10 @@ impl Demangler {
         ensures saved { IfOk result (λ _. HasSaved symbol.now self.new.text self.new.saved) }
         ensures bounds { IfOk result (λ _. HasBounds symbol.now self.new.entered self.new.most_saved) }
         ensures longest { IfOk result (λ _. HasLength symbol.now self.new.text) }
-        ensures one { HasOneReading symbol.now }
+        ensures one { HasAtMostOneReading symbol.now }
         ensures no_prefix { spec.after_prefix symbol.now ≡ None → (result ≡ Ok false) × (self.new ≡ no_result) }
         ensures err { OnErr result (self.new ≡ no_result) }
-        ensures kind { self.new.signature ≡ false }
+        ensures not_signature { self.new.signature ≡ false }
     {
         self.read(alloc, symbol, false)
     }
@@ -243,7 +243,7 @@ impl Demangler {
         ensures saved { IfOk result (λ _. HasSavedOf self.new.signature symbol.now self.new.text self.new.saved) }
         ensures bounds { IfOk result (λ _. HasBounds symbol.now self.new.entered self.new.most_saved) }
         ensures longest { IfOk result (λ _. HasLengthOf self.new.signature symbol.now self.new.text) }
-        ensures one { HasOneReadingOf true symbol.now }
+        ensures one { HasAtMostOneReadingOf true symbol.now }
         ensures no_prefix { spec.after_prefix symbol.now ≡ None → (result ≡ Ok false) × (self.new ≡ no_result) }
         ensures err { OnErr result (self.new ≡ no_result) }
     {

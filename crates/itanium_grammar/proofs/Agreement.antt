@@ -8,7 +8,7 @@ use Rattle.itanium_syntax.specs.Bytes.{begins}
 use Rattle.itanium_syntax.proofs.Fronts.{Takes}
 use Rattle.itanium_grammar.specs.Tree.{Tree, printing}
 use Rattle.itanium_grammar.specs.Grammar.{Position, Cost, Signature, signature}
-use Rattle.itanium_grammar.specs.Answer.{after_prefix, start, suffix, Mangled, IsWithin, IsReading, HasAnswer, IsAnswerOf, HasOneReadingOf}
+use Rattle.itanium_grammar.specs.Answer.{after_prefix, start, suffix, Mangled, IsWithin, IsReading, HasAnswer, IsAnswerOf, HasAtMostOneReadingOf}
 use Rattle.itanium_grammar.specs.Laws.{LawsOfReadings, LawsOfAnswers}
 use Rattle.itanium_grammar.proofs.Unambiguous.{Same, same_counted, one_encoding_as}
 use Rattle.itanium_grammar.proofs.Progress.{encoding_as_takes}
@@ -20,7 +20,7 @@ one_inside : (full : Bool) (inside : List ℕ) {q r : Position} {t u : Tree} {c 
 one_inside true inside a b = one_signature a b
 one_inside false inside a b = one_encoding_as a b
 
-pub one_reading : (full : Bool) (symbol : List ℕ) → HasOneReadingOf full symbol
+pub one_reading : (full : Bool) (symbol : List ℕ) → HasAtMostOneReadingOf full symbol
 one_reading full symbol = record {
   agree = λ t u q r c d a b within other.
       let here : b.inside ≡ a.inside = cc in

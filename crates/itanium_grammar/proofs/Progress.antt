@@ -21,10 +21,10 @@ use Rattle.itanium_grammar.specs.Tree.{Tree, Operand}
 use Rattle.itanium_grammar.specs.Grammar.{Position, Cost, SpecialAs, Thunk, special_encoding, type_special}
 use Rattle.itanium_grammar.specs.Grammar.{name_special, temporary_special, construction_special, thunk_special, thunk}
 use Rattle.itanium_grammar.specs.Grammar.{Expression, ExpressionAs, OperandOf, PrimaryAs}
-use Rattle.itanium_grammar.specs.Grammar.{expression_argument, literal_argument, external_name, value_literal}
+use Rattle.itanium_grammar.specs.Grammar.{expression_argument, primary_argument, external_name, value_literal}
 use Rattle.itanium_grammar.specs.Grammar.{expression, operand_of, pre_expression, address_expression, unary_expression}
 use Rattle.itanium_grammar.specs.Grammar.{post_expression, binary_expression, greater_expression}
-use Rattle.itanium_grammar.specs.Grammar.{conditional_expression, parameter_expression, literal_expression}
+use Rattle.itanium_grammar.specs.Grammar.{conditional_expression, template_param_expression, primary_expression}
 use Rattle.itanium_grammar.specs.Grammar.{SubstitutionAs, Substitution, TemplateParam, TaggedAs, UnqualifiedAs, Unqualified}
 use Rattle.itanium_grammar.specs.Grammar.{FirstAs, Name, NameAs, Local, EntityAs, EncodingAs, ReturnAs}
 use Rattle.itanium_grammar.specs.Grammar.{EncodingParamsAs, UnscopedAs, AttachedAs, Nested, SegmentsAs, Args}
@@ -33,7 +33,7 @@ use Rattle.itanium_grammar.specs.Grammar.{TypeAttachedAs, abbreviation_substitut
 use Rattle.itanium_grammar.specs.Grammar.{component_substitution, template_param, no_tag, next_tag}
 use Rattle.itanium_grammar.specs.Grammar.{ordinary_source, ordinary_unnamed_type, ordinary_lambda, ordinary_conversion}
 use Rattle.itanium_grammar.specs.Grammar.{ordinary_literal_operator, ordinary_operator, OrdinaryAs, ordinary_unqualified}
-use Rattle.itanium_grammar.specs.Grammar.{constructor_unqualified, destructor_unqualified, unqualified, parameter_first}
+use Rattle.itanium_grammar.specs.Grammar.{constructor_unqualified, destructor_unqualified, unqualified, template_param_first}
 use Rattle.itanium_grammar.specs.Grammar.{std_first, substitution_first, name_first, name, nested_name, local_name}
 use Rattle.itanium_grammar.specs.Grammar.{local, string_literal_entity, default_argument_entity, name_entity}
 use Rattle.itanium_grammar.specs.Grammar.{full_encoding, no_return_type, some_return_type, no_encoding_params, some_encoding_params}
@@ -135,7 +135,7 @@ mutual
   unqualified_takes (unqualified {p = p} a) = after_takes (internal_after p.rest) (unqualified_as_takes refl a)
 
   pub first_takes : {case : FirstCase} {x : Context} {p q : Position} {t : Tree} {c : Cost} → first_case p.rest ≡ case → FirstAs case x p t q c → Takes q.rest p.rest
-  first_takes form (parameter_first a) = template_param_takes a
+  first_takes form (template_param_first a) = template_param_takes a
   first_takes form (std_first {p = p}) = record { after = after_drop 2 p.rest; shorter = std_shorter p.rest form }
   first_takes form (substitution_first {p = p} a) = substitution_takes p a
   first_takes form (name_first a) = unqualified_takes a
@@ -163,7 +163,7 @@ mutual
   pub argument_takes : {case : ArgumentCase} {x : Context} {p q : Position} {t : Tree} {c : Cost} → ArgumentAs case x p t q c → Takes q.rest p.rest
   argument_takes (expression_argument {p = p} {q = q} a end) = takes_then (after_takes (after_drop 1 p.rest) (expression_takes a)) (after_drop 1 q.rest)
   argument_takes (pack_argument a) = pack_takes a
-  argument_takes (literal_argument a) = literal_takes a
+  argument_takes (primary_argument a) = literal_takes a
   argument_takes (type_argument a) = type_takes a
 
   pub literal_takes : {case : PrimaryCase} {x : Context} {p q : Position} {t : Tree} {c : Cost} → PrimaryAs case x p t q c → Takes q.rest p.rest
@@ -186,8 +186,8 @@ mutual
   expression_as_takes (greater_expression {p = p} a b) = after_takes (after_drop 2 p.rest) (takes_takes (expression_takes a) (expression_takes b))
   expression_as_takes (conditional_expression {p = p} a b d) =
       after_takes (after_drop 2 p.rest) (takes_takes (operand_takes a) (takes_takes (operand_takes b) (operand_takes d)))
-  expression_as_takes (parameter_expression a) = template_param_takes a
-  expression_as_takes (literal_expression a) = literal_takes a
+  expression_as_takes (template_param_expression a) = template_param_takes a
+  expression_as_takes (primary_expression a) = literal_takes a
 
   pub pack_takes : {x : Context} {p q : Position} {t : Tree} {c : Cost} → Pack x p t q c → Takes q.rest p.rest
   pack_takes (pack {p = p} a) = after_takes (after_drop 1 p.rest) (packed_takes refl a)

@@ -24,13 +24,13 @@ use Rattle.itanium_grammar.specs.Grammar.{some_return_type, no_encoding_params, 
 use Rattle.itanium_grammar.specs.Grammar.{plain_name, none_attached, args_attached, ordinary_source, ordinary_unnamed_type}
 use Rattle.itanium_grammar.specs.Grammar.{ordinary_lambda, ordinary_conversion, ordinary_literal_operator, ordinary_operator}
 use Rattle.itanium_grammar.specs.Grammar.{constructor_unqualified, destructor_unqualified, ordinary_unqualified}
-use Rattle.itanium_grammar.specs.Grammar.{unqualified, parameter_first, std_first, substitution_first, name_first}
+use Rattle.itanium_grammar.specs.Grammar.{unqualified, template_param_first, std_first, substitution_first, name_first}
 use Rattle.itanium_grammar.specs.Grammar.{nested, end_of_segments, args_segment, name_segment, args, end_of_arguments}
 use Rattle.itanium_grammar.specs.Grammar.{one_more_argument, pack, end_of_pack, one_more_packed, expression_argument}
-use Rattle.itanium_grammar.specs.Grammar.{pack_argument, literal_argument, type_argument, external_name}
+use Rattle.itanium_grammar.specs.Grammar.{pack_argument, primary_argument, type_argument, external_name}
 use Rattle.itanium_grammar.specs.Grammar.{value_literal, expression, operand_of, pre_expression, address_expression}
 use Rattle.itanium_grammar.specs.Grammar.{unary_expression, post_expression, binary_expression, greater_expression}
-use Rattle.itanium_grammar.specs.Grammar.{conditional_expression, parameter_expression, literal_expression, type}
+use Rattle.itanium_grammar.specs.Grammar.{conditional_expression, template_param_expression, primary_expression, type}
 use Rattle.itanium_grammar.specs.Grammar.{builtin_type, expansion_type, vendor_type, array_type, function_type}
 use Rattle.itanium_grammar.specs.Grammar.{pointer_to_member_type, pointer_type, cv_type, elaborated_type, template_param_type}
 use Rattle.itanium_grammar.specs.Grammar.{substitution_type, name_type, cv_function, cv_other, function, no_params}
@@ -136,7 +136,7 @@ mutual
   unqualified_keeps (unqualified a) = unqualified_as_keeps a
 
   first_keeps : {case : FirstCase} {x : Context} {p : Position} {t : Tree} {q : Position} {c : Cost} → FirstAs case x p t q c → Keeps p.scopes q.scopes
-  first_keeps (parameter_first a) = template_param_keeps a
+  first_keeps (template_param_first a) = template_param_keeps a
   first_keeps std_first = keeps_all _
   first_keeps (substitution_first a) = substitution_keeps a
   first_keeps (name_first a) = unqualified_keeps a
@@ -166,7 +166,7 @@ mutual
   pub argument_keeps : {case : ArgumentCase} {x : Context} {p : Position} {t : Tree} {q : Position} {c : Cost} → ArgumentAs case x p t q c → Keeps p.scopes q.scopes
   argument_keeps (expression_argument a b) = expression_keeps a
   argument_keeps (pack_argument a) = pack_keeps a
-  argument_keeps (literal_argument a) = literal_keeps a
+  argument_keeps (primary_argument a) = literal_keeps a
   argument_keeps (type_argument a) = type_keeps a
 
   literal_keeps : {case : PrimaryCase} {x : Context} {p : Position} {t : Tree} {q : Position} {c : Cost} → PrimaryAs case x p t q c → Keeps p.scopes q.scopes
@@ -187,8 +187,8 @@ mutual
   expression_as_keeps (binary_expression a b) = keeps_then (operand_keeps a) (operand_keeps b)
   expression_as_keeps (greater_expression a b) = keeps_then (expression_keeps a) (expression_keeps b)
   expression_as_keeps (conditional_expression a b d) = keeps_then (operand_keeps a) (keeps_then (operand_keeps b) (operand_keeps d))
-  expression_as_keeps (parameter_expression a) = template_param_keeps a
-  expression_as_keeps (literal_expression a) = literal_keeps a
+  expression_as_keeps (template_param_expression a) = template_param_keeps a
+  expression_as_keeps (primary_expression a) = literal_keeps a
 
   type_keeps : {x : Context} {p : Position} {t : Tree} {q : Position} {c : Cost} → TypeOf x p t q c → Keeps p.scopes q.scopes
   type_keeps (type a) = type_as_keeps a

@@ -28,10 +28,10 @@ use Rattle.itanium_grammar.specs.Tree.{in_parent, printing, list_printing}
 use Rattle.itanium_grammar.specs.Grammar.{Position, Cost, SpecialAs, Thunk, special_encoding, type_special}
 use Rattle.itanium_grammar.specs.Grammar.{name_special, temporary_special, construction_special, thunk_special, thunk}
 use Rattle.itanium_grammar.specs.Grammar.{Expression, ExpressionAs, OperandOf, PrimaryAs}
-use Rattle.itanium_grammar.specs.Grammar.{expression_argument, literal_argument, external_name, value_literal}
+use Rattle.itanium_grammar.specs.Grammar.{expression_argument, primary_argument, external_name, value_literal}
 use Rattle.itanium_grammar.specs.Grammar.{expression, operand_of, pre_expression, address_expression, unary_expression}
 use Rattle.itanium_grammar.specs.Grammar.{post_expression, binary_expression, greater_expression}
-use Rattle.itanium_grammar.specs.Grammar.{conditional_expression, parameter_expression, literal_expression, with_rest}
+use Rattle.itanium_grammar.specs.Grammar.{conditional_expression, template_param_expression, primary_expression, with_rest}
 use Rattle.itanium_grammar.specs.Grammar.{skip, counted, saving, save, past_initializer, both}
 use Rattle.itanium_grammar.specs.Grammar.{SubstitutionAs, ArgumentNamed, TemplateParam, TaggedAs, UnqualifiedAs}
 use Rattle.itanium_grammar.specs.Grammar.{Unqualified, FirstAs, Name, NameAs, Local, EntityAs, EncodingAs}
@@ -42,7 +42,7 @@ use Rattle.itanium_grammar.specs.Grammar.{component_substitution, auto_parameter
 use Rattle.itanium_grammar.specs.Grammar.{template_param, no_tag, next_tag, ordinary_source, ordinary_unnamed_type, ordinary_lambda}
 use Rattle.itanium_grammar.specs.Grammar.{ordinary_conversion, ordinary_literal_operator, ordinary_operator, OrdinaryAs}
 use Rattle.itanium_grammar.specs.Grammar.{ordinary_unqualified, nothing, constructor_unqualified, destructor_unqualified}
-use Rattle.itanium_grammar.specs.Grammar.{unqualified, parameter_first, std_first, substitution_first, name_first, name}
+use Rattle.itanium_grammar.specs.Grammar.{unqualified, template_param_first, std_first, substitution_first, name_first, name}
 use Rattle.itanium_grammar.specs.Grammar.{nested_name, local_name, local, string_literal_entity}
 use Rattle.itanium_grammar.specs.Grammar.{default_argument_entity, name_entity, full_encoding, no_return_type}
 use Rattle.itanium_grammar.specs.Grammar.{some_return_type, no_encoding_params, some_encoding_params, unscoped_name, std_name}
@@ -238,7 +238,7 @@ mutual
 
   one_first : {case : FirstCase} {x : Context} {p q r : Position} {t u : Tree} {c d : Cost} → FirstAs case x p t q c → FirstAs case x p u r d
       → Same t u q r c d
-  one_first (parameter_first a) (parameter_first b) =
+  one_first (template_param_first a) (template_param_first b) =
       let same = one_template_param a b in record { tree = same.0; next = ap₂ save same.0 same.1; cost = ap saving same.1 }
   one_first std_first std_first = record { tree = refl; next = refl; cost = refl }
   one_first (substitution_first a) (substitution_first b) = let same = one_substitution_as a b in record { tree = same.0; next = same.1; cost = refl }
@@ -284,7 +284,7 @@ mutual
       → ArgumentAs case x p t q c → ArgumentAs case x p u r d → Same t u q r c d
   one_argument (expression_argument a end) (expression_argument b other) = same_skipped (one_expression a b)
   one_argument (pack_argument a) (pack_argument b) = one_pack a b
-  one_argument (literal_argument a) (literal_argument b) = one_literal a b
+  one_argument (primary_argument a) (primary_argument b) = one_literal a b
   one_argument (type_argument a) (type_argument b) = one_type a b
 
   pub one_literal : {case : PrimaryCase} {x : Context} {p q r : Position} {t u : Tree} {c d : Cost}
@@ -324,8 +324,8 @@ mutual
         next = same.next;
         cost = ap₂ both first.cost (ap₂ both mid.cost same.cost);
       }
-  one_expression_as (parameter_expression a) (parameter_expression b) = let same = one_template_param a b in record { tree = same.0; next = same.1; cost = refl }
-  one_expression_as (literal_expression a) (literal_expression b) = one_literal a b
+  one_expression_as (template_param_expression a) (template_param_expression b) = let same = one_template_param a b in record { tree = same.0; next = same.1; cost = refl }
+  one_expression_as (primary_expression a) (primary_expression b) = one_literal a b
 
   pub one_pack : {x : Context} {p q r : Position} {t u : Tree} {c d : Cost} → Pack x p t q c → Pack x p u r d → Same t u q r c d
   one_pack (pack a) (pack b) =

@@ -8,7 +8,7 @@ use Rattle.std.proofs.lemmas.Option.{some_pair_parts, cond_some}
 use Rattle.itanium_syntax.specs.declared.context.Context.{Context}
 use Rattle.itanium_syntax.specs.declared.numerals.Radix.{Radix}
 use Rattle.itanium_syntax.specs.Bytes.{begins}
-use Rattle.itanium_syntax.specs.Scalars.{numeral, following, ended, index_of}
+use Rattle.itanium_syntax.specs.Scalars.{numeral, plus_one, before_underscore, index_of}
 use Rattle.itanium_syntax.specs.Specials.{begins_t_and, special_text, special_close}
 use Rattle.itanium_grammar.specs.Answer.{max_text, longest_printing, after_prefix, start, suffix, Mangled, HasAnswer, IsAnswerOf, HasLengthOf}
 use Rattle.itanium_syntax.specs.Encodings.{encoding_case}
@@ -80,14 +80,14 @@ close_len bytes = go (begins_t_and (codes "VT") bytes)
     go false = omega arith
 
 -- a number that is read fits 64 bits
-following_small : (o : Option (ℕ × List ℕ)) (found : ℕ × List ℕ) → following o ≡ Some found → found.0 < 2 ^ 64
+following_small : (o : Option (ℕ × List ℕ)) (found : ℕ × List ℕ) → plus_one o ≡ Some found → found.0 < 2 ^ 64
 following_small None found is = cc
 following_small (Some n) found is =
     let parts = cond_some (nat_lt (n.0 + 1) (2 ^ 64)) _ found is in
     let next : n.0 + 1 ≡ found.0 = ap (λ (f : ℕ × List ℕ). f.0) parts.1 in
     grind (arith, nat_tests, parts.0, next)
 
-ended_small : (o : Option (ℕ × List ℕ)) (found : ℕ × List ℕ) → ((n : ℕ × List ℕ) → o ≡ Some n → n.0 < 2 ^ 64) → ended o ≡ Some found → found.0 < 2 ^ 64
+ended_small : (o : Option (ℕ × List ℕ)) (found : ℕ × List ℕ) → ((n : ℕ × List ℕ) → o ≡ Some n → n.0 < 2 ^ 64) → before_underscore o ≡ Some found → found.0 < 2 ^ 64
 ended_small None found small is = cc
 ended_small (Some n) found small is =
     let parts = cond_some (begins (codes "_") n.1) _ found is in
@@ -98,9 +98,9 @@ index_small : (r : Radix) (bytes : List ℕ) (found : ℕ × List ℕ) → index
 unfolding index_of
 index_small r bytes found is = go (begins (codes "_") bytes) is
   where
-    go : (t : Bool) → (if t then Some (0, drop 1 bytes) else ended (following (numeral r bytes))) ≡ Some found → found.0 < 2 ^ 64
+    go : (t : Bool) → (if t then Some (0, drop 1 bytes) else before_underscore (plus_one (numeral r bytes))) ≡ Some found → found.0 < 2 ^ 64
     go true e = let zero_is : 0 ≡ found.0 = (some_pair_parts 0 found.0 (drop 1 bytes) found.1 e).0 in omega (arith, zero_is)
-    go false e = ended_small (following (numeral r bytes)) found (following_small (numeral r bytes)) e
+    go false e = ended_small (plus_one (numeral r bytes)) found (following_small (numeral r bytes)) e
 
 enough : 18 ≤ max_text
 unfolding max_text

@@ -100,7 +100,7 @@ IsSignatureOrName false symbol answer = IsSignature symbol None × IsAnswer symb
 
 -- any two readings of the symbol within the limits have the same tree, the same rest, saved trees and scopes after it,
 -- and the same count, depth, peak and width
-pub record HasOneReadingOf (signature : Bool) (symbol : List ℕ) : Type 0 where
+pub record HasAtMostOneReadingOf (signature : Bool) (symbol : List ℕ) : Type 0 where
   pub agree :
       (t u : Tree) (q r : Position) (c d : Cost)
       → IsReading signature symbol t q c
@@ -109,9 +109,9 @@ pub record HasOneReadingOf (signature : Bool) (symbol : List ℕ) : Type 0 where
       → IsWithin d
       → (t ≡ u) × (q ≡ r) × (c ≡ d)
 
--- `HasOneReadingOf` for the symbol's name
-abbrev pub HasOneReading : List ℕ → Type 0
-HasOneReading symbol = HasOneReadingOf false symbol
+-- `HasAtMostOneReadingOf` for the symbol's name
+abbrev pub HasAtMostOneReading : List ℕ → Type 0
+HasAtMostOneReading symbol = HasAtMostOneReadingOf false symbol
 
 -- the counts are those of every reading within the limits
 abbrev pub HasCountsOf : Bool → List ℕ → ℕ → ℕ → Type 0

@@ -379,7 +379,7 @@ mutual
   -- the first segment of a <nested-name>
   pub data FirstAs : FirstCase → Context → Position → Tree → Position → Cost → Type 0 where
     -- <template-param>, which is saved
-    parameter_first : {x : Context} {p q : Position} {t : Tree}
+    template_param_first : {x : Context} {p q : Position} {t : Tree}
         → TemplateParam x p t q
         → FirstAs TemplateParamFirst x p t (save t q) (saving q)
     -- St
@@ -471,7 +471,7 @@ mutual
         → Pack x p t q c
         → ArgumentAs PackArgument x p t q c
     -- <expr-primary>
-    literal_argument : {x : Context} {p q : Position} {t : Tree} {c : Cost}
+    primary_argument : {x : Context} {p q : Position} {t : Tree} {c : Cost}
         → PrimaryAs (primary_case p.rest) x p t q c
         → ArgumentAs PrimaryArgument x p t q c
     -- <type>
@@ -540,11 +540,11 @@ mutual
         → OperandOf x r n s e
         → ExpressionAs ConditionalExpression x p (conditional_of o m n) s (both c (both d e))
     -- <template-param>
-    parameter_expression : {x : Context} {p q : Position} {t : Tree}
+    template_param_expression : {x : Context} {p q : Position} {t : Tree}
         → TemplateParam x p t q
         → ExpressionAs TemplateParamExpression x p t q nothing
     -- <expr-primary>
-    literal_expression : {x : Context} {p q : Position} {t : Tree} {c : Cost}
+    primary_expression : {x : Context} {p q : Position} {t : Tree} {c : Cost}
         → PrimaryAs (primary_case p.rest) x p t q c
         → ExpressionAs PrimaryExpression x p t q c
 

@@ -5,12 +5,12 @@ use Rattle.itanium_syntax.specs.Bytes.{begins}
 use Rattle.itanium_grammar.specs.Tree.{Tree, printing}
 use Rattle.itanium_grammar.specs.Grammar.{Position, Cost, SymbolName, Signature}
 use Rattle.itanium_syntax.specs.declared.context.Context.{Context}
-use Rattle.itanium_grammar.specs.Answer.{IsWithin, IsReading, HasOneReadingOf, IsAnswerOf}
+use Rattle.itanium_grammar.specs.Answer.{IsWithin, IsReading, HasAtMostOneReadingOf, IsAnswerOf}
 
 -- what holds of readings
 pub record LawsOfReadings : Type 0 where
   -- two readings of a symbol within the limits agree, as signatures or as names
-  pub one_reading : (signature : Bool) (symbol : List ℕ) → HasOneReadingOf signature symbol
+  pub one_reading : (signature : Bool) (symbol : List ℕ) → HasAtMostOneReadingOf signature symbol
   -- a reading takes one byte at least
   pub takes :
       (x : Context) (p q : Position) (t : Tree) (c : Cost)

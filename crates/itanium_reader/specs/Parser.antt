@@ -204,7 +204,7 @@ tag_as NoTag name s = Some (ends name, s)
 tag_as NextTag name s =
     source_name (drop 1 s.rest) >>= λ found. Some (goes_on (tagged name (source_text found.0)), with_rest found.1 s)
 
--- its parser, by what comes next
+-- one turn of the loop over ABI tags: the next bytes select the case
 unfoldable pub tag_turn : Shape → Parses (Turn Shape Shape)
 tag_turn name s = tag_as (tag_case s.rest) name s
 
@@ -224,7 +224,7 @@ list_as EndOfArguments add_argument item so_far s = Some (ends so_far.1, skip 1 
 list_as NextArgument add_argument item so_far s =
     item s >>= λ next. fitting (listed_more so_far.0 so_far.1 next.0, add_argument next.0 next.1) >>= next_item
 
--- its parser, by what comes next
+-- one turn of the loop over arguments: the next bytes select the case
 unfoldable pub list_turn : (Shape → ParserState → ParserState) → Parses Shape → Bool × Shape
     → Parses (Turn (Bool × Shape) Shape)
 list_turn add_argument item so_far s = list_as (argument_list_case s.rest) add_argument item so_far s
@@ -240,7 +240,7 @@ typed_as EndOfTypes type so_far s = Some (ends so_far.1, s)
 typed_as NextType type so_far s =
     type s >>= λ next. fitting (listed_more so_far.0 so_far.1 next.0, next.1) >>= next_item
 
--- its parser, by what comes next
+-- one turn of the loop over types: the next bytes select the case
 unfoldable pub typed_turn : EncodingEnd → Bool → Parses Shape → Bool × Shape
     → Parses (Turn (Bool × Shape) Shape)
 typed_turn end in_function_type type so_far s = typed_as (type_list_case end in_function_type s.rest) type so_far s
@@ -388,7 +388,7 @@ segment_as ArgsSegment unqualified args so_far s =
 segment_as NameSegment unqualified args so_far s =
     later_segment NameSegment unqualified args so_far.1 s >>= fitting >>= next_segment
 
--- its parser, by what comes next
+-- one turn of the loop over segments: the next bytes select the case
 unfoldable pub segment_turn : ParsesName → Parses Shape → Bool × Shape → Parses (Turn (Bool × Shape) Shape)
 segment_turn unqualified args so_far s = segment_as (segment_case s.rest) unqualified args so_far s
 
@@ -548,8 +548,8 @@ abbrev pub past_end : ParserState → Option ParserState
 past_end s = if begins (codes "E") s.rest then Some (skip 1 s) else None
 
 -- what was parsed, with an E after it
-abbrev pub ended : Option (Shape × ParserState) → Option (Shape × ParserState)
-ended parsed = parsed >>= λ found. past_end found.1 >>= λ after. Some (found.0, after)
+abbrev pub before_e : Option (Shape × ParserState) → Option (Shape × ParserState)
+before_e parsed = parsed >>= λ found. past_end found.1 >>= λ after. Some (found.0, after)
 
 -- the value of a literal after its type
 abbrev pub literal_end : Shape → Parses Shape
@@ -558,7 +558,7 @@ literal_end type s =
 
 -- <expr-primary>, by what it begins with
 abbrev pub literal_as : PrimaryCase → Parses Shape → Parses Shape → Parses Shape
-literal_as ExternalName type encoding s = ended (encoding (skip 3 s))
+literal_as ExternalName type encoding s = before_e (encoding (skip 3 s))
 literal_as ValueLiteral type encoding s = type (skip 1 s) >>= λ t. literal_end t.0 t.1
 literal_as UnreadablePrimary type encoding s = None
 
@@ -625,7 +625,7 @@ expression_as UnreadableExpression expression primary x s = None
 
 -- <template-arg>, by what it begins with
 abbrev pub argument_as : ArgumentCase → Parses Shape → Parses Shape → Parses Shape → Parses Shape → Parses Shape
-argument_as ExpressionArgument pack type expression primary s = ended (expression (skip 1 s))
+argument_as ExpressionArgument pack type expression primary s = before_e (expression (skip 1 s))
 argument_as PackArgument pack type expression primary s = pack s
 argument_as PrimaryArgument pack type expression primary s = primary s
 argument_as ConstraintArgument pack type expression primary s = None

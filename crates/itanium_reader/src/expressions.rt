@@ -17,7 +17,7 @@ impl<'a> Reader<'a> {
     pub fn read_end(&mut self) -> ReadResult
         requires living { IsLiving self.old.buffer.value self.old.found }
         ensures reads { Gives result self.new
-            (spec.ended (Some (shape self.old.buffer.value self.old.found, state self.old))) }
+            (spec.before_e (Some (shape self.old.buffer.value self.old.found, state self.old))) }
         ensures kept { OnOk result (SameFrame self.old.buffer.value self.new.buffer.value) }
         ensures bounds { TakesSome 0 result (state self.old) (state self.new) }
         ensures saved { SavedBounds 1 result (state self.old) (state self.new) }

@@ -40,7 +40,7 @@ use Rattle.itanium_syntax.specs.Args.{attached_case, argument_list_case, argumen
 use Rattle.itanium_syntax.specs.Types.{type_case, type_list_case, cv_case, params_case, past_builtin, past_cv, past_reference}
 use Rattle.itanium_syntax.specs.Operators.{operator_here}
 use Rattle.itanium_syntax.specs.Scalars.{front_digits, digit_then, digit_of, weighted, base, numeral, number}
-use Rattle.itanium_syntax.specs.Scalars.{source_name, following, ended, index_of, ordinal}
+use Rattle.itanium_syntax.specs.Scalars.{source_name, plus_one, before_underscore, index_of, ordinal}
 use Rattle.itanium_syntax.specs.Scalars.{optional_number}
 
 -- the rest lies after a front of the bytes
@@ -383,7 +383,7 @@ begins_some (b ∷ bytes) _ = omega arith
 
 -- a value, and the `_` after it
 pub ended_takes : {A : Type 0} (front : Option (A × List ℕ)) (bytes : List ℕ) (found : A × List ℕ)
-    → ((value : A × List ℕ) → front ≡ Some value → Takes value.1 bytes) → ended front ≡ Some found → Takes found.1 bytes
+    → ((value : A × List ℕ) → front ≡ Some value → Takes value.1 bytes) → before_underscore front ≡ Some found → Takes found.1 bytes
 ended_takes None bytes found takes e = cc
 ended_takes (Some value) bytes found takes e =
     let parts = cond_some (begins (codes "_") value.1) _ found e in
@@ -392,7 +392,7 @@ ended_takes (Some value) bytes found takes e =
 
 -- the number after one that was read
 pub following_takes : (front : Option (ℕ × List ℕ)) (bytes : List ℕ) (found : ℕ × List ℕ)
-    → ((value : ℕ × List ℕ) → front ≡ Some value → Takes value.1 bytes) → following front ≡ Some found → Takes found.1 bytes
+    → ((value : ℕ × List ℕ) → front ≡ Some value → Takes value.1 bytes) → plus_one front ≡ Some found → Takes found.1 bytes
 following_takes None bytes found takes e = cc
 following_takes (Some value) bytes found takes e =
     let parts = cond_some (nat_lt (value.0 + 1) (2 ^ 64)) _ found e in
@@ -402,10 +402,10 @@ following_takes (Some value) bytes found takes e =
 -- `_`, or else a value and `_`
 optional_takes : {A : Type 0} (none : A) (front : Option (A × List ℕ)) (bytes : List ℕ) (found : A × List ℕ)
     → ((value : A × List ℕ) → front ≡ Some value → Takes value.1 bytes)
-    → (if begins (codes "_") bytes then Some (none, drop 1 bytes) else ended front) ≡ Some found → Takes found.1 bytes
+    → (if begins (codes "_") bytes then Some (none, drop 1 bytes) else before_underscore front) ≡ Some found → Takes found.1 bytes
 optional_takes none front bytes found takes e = go (begins (codes "_") bytes) refl e
   where
-    go : (t : Bool) → begins (codes "_") bytes ≡ t → (if t then Some (none, drop 1 bytes) else ended front) ≡ Some found → Takes found.1 bytes
+    go : (t : Bool) → begins (codes "_") bytes ≡ t → (if t then Some (none, drop 1 bytes) else before_underscore front) ≡ Some found → Takes found.1 bytes
     go true starts f =
         let is : drop 1 bytes ≡ found.1 = (some_pair_parts none found.0 (drop 1 bytes) found.1 f).1 in
         rw (← is) (takes_drop 1 bytes (omega arith) (begins_some bytes starts))
@@ -414,7 +414,7 @@ optional_takes none front bytes found takes e = go (begins (codes "_") bytes) re
 pub index_takes : (r : Radix) (bytes : List ℕ) (found : ℕ × List ℕ) → index_of r bytes ≡ Some found → Takes found.1 bytes
 unfolding index_of
 index_takes r bytes found e =
-    optional_takes 0 (following (numeral r bytes)) bytes found (λ v. following_takes (numeral r bytes) bytes v (numeral_takes r bytes)) e
+    optional_takes 0 (plus_one (numeral r bytes)) bytes found (λ v. following_takes (numeral r bytes) bytes v (numeral_takes r bytes)) e
 
 pub ordinal_takes : (bytes : List ℕ) (found : ℕ × List ℕ) → ordinal bytes ≡ Some found → Takes found.1 bytes
 unfolding ordinal

@@ -7,7 +7,7 @@ use Rattle.itanium_syntax.specs.declared.offsets.CallOffset.TheVariants.{Plain, 
 use Rattle.itanium_syntax.specs.declared.offsets.ThunkOffsets.{ThunkOffsets}
 use Rattle.itanium_syntax.specs.declared.offsets.ThunkOffsets.TheVariants.{Single, Covariant}
 use Rattle.itanium_syntax.specs.Bytes.{begins}
-use Rattle.itanium_syntax.specs.Scalars.{numeral, ended}
+use Rattle.itanium_syntax.specs.Scalars.{numeral, before_underscore}
 
 -- a number with a minus or without one: zero is never negative
 abbrev pub with_sign : Bool → ℕ → Signed
@@ -21,7 +21,7 @@ signed_number bytes =
 
 -- [n] <number> _, the same
 abbrev pub signed_part : List ℕ → Option (Signed × List ℕ)
-signed_part bytes = ended (signed_number bytes)
+signed_part bytes = before_underscore (signed_number bytes)
 
 -- <number> _ <number> _ after its v. `.0` is what was read, `.1` the bytes after it
 abbrev pub virtual_offset : List ℕ → Option (CallOffset × List ℕ)

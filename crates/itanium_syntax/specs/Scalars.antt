@@ -48,27 +48,27 @@ source_name bytes = option_and_then (λ n.
     if nat_lt 0 n.0 && nat_le n.0 (length n.1) then Some (take n.0 n.1, drop n.0 n.1) else None) (number bytes)
 
 -- the number that was read, plus one, if that fits 64 bits
-abbrev pub following : Option (ℕ × List ℕ) → Option (ℕ × List ℕ)
-following None = None
-following (Some (n, rest)) = if nat_lt (n + 1) (2 ^ 64) then Some (n + 1, rest) else None
+abbrev pub plus_one : Option (ℕ × List ℕ) → Option (ℕ × List ℕ)
+plus_one None = None
+plus_one (Some (n, rest)) = if nat_lt (n + 1) (2 ^ 64) then Some (n + 1, rest) else None
 
 -- a value, and what follows it, where `_` stands between
-abbrev pub ended : {A : Type 0} → Option (A × List ℕ) → Option (A × List ℕ)
-ended None = None
-ended (Some (value, rest)) = if begins (codes "_") rest then Some (value, drop 1 rest) else None
+abbrev pub before_underscore : {A : Type 0} → Option (A × List ℕ) → Option (A × List ℕ)
+before_underscore None = None
+before_underscore (Some (value, rest)) = if begins (codes "_") rest then Some (value, drop 1 rest) else None
 
 -- [<numeral>] _: 0 without the numeral, and otherwise the numeral plus 1
 unfoldable pub index_of : Radix → List ℕ → Option (ℕ × List ℕ)
 index_of r bytes =
-    if begins (codes "_") bytes then Some (0, drop 1 bytes) else ended (following (numeral r bytes))
+    if begins (codes "_") bytes then Some (0, drop 1 bytes) else before_underscore (plus_one (numeral r bytes))
 
 -- [<nonnegative number>] _ of an <unnamed-type-name>, a <closure-type-name> or a default argument: 1 without the
 -- number, and otherwise the number plus 2
 unfoldable pub ordinal : List ℕ → Option (ℕ × List ℕ)
-ordinal bytes = following (index_of Decimal bytes)
+ordinal bytes = plus_one (index_of Decimal bytes)
 
 -- [<number>] _: the dimension of an array, which may be left out
 unfoldable pub optional_number : List ℕ → Option (Option ℕ × List ℕ)
 optional_number bytes =
     if begins (codes "_") bytes then Some (None, drop 1 bytes)
-    else ended (option_map (λ n. (Some n.0, n.1)) (number bytes))
+    else before_underscore (option_map (λ n. (Some n.0, n.1)) (number bytes))

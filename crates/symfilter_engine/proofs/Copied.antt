@@ -15,8 +15,8 @@ use Rattle.std.proofs.KnownBytes.{Consumes-nil, Consumes-trans, Consumes-kept, K
 use Rattle.std.specs.Prelude.{All, IsErrAnd}
 use Rattle.symfilter_engine.specs.Replaced.{IsWordByte}
 use Rattle.std.specs.Io.KnownBytes.{Appends, Consumes, IsAtEnd, Keeps}
-use Rattle.symfilter_engine.specs.Filtered.{line_feed, HasNoLineFeed, WritesFiltered, WritesBeginning, FiltersFront, FiltersWhole}
-use Rattle.symfilter_engine.specs.Progress.{AreKept, CopiesUpTo, FiltersUpTo, ReplacesUpTo, WritesChunkUpTo, ContinuesTo, ReadsMore, WritesReplacedBeginning, WritesReplacedFront, WritesAllButKept, WritesChunkFront, WritesSomeOfChunk, FiltersSome, WritesFilteredFront}
+use Rattle.symfilter_engine.specs.Filtered.{line_feed, HasNoLineFeed, WritesFiltered, WritesBeginning, FiltersBeginning, FiltersWhole}
+use Rattle.symfilter_engine.specs.Progress.{AreKept, CopiesUpTo, FiltersUpTo, ReplacesUpTo, WritesChunkUpTo, ContinuesTo, ReadsMore, ReplacesBeginning, ReplacesBeginningOfAny, WritesAllButKept, WritesChunkBeginning, WritesSomeOfChunk, FiltersSome, WritesBeginningOfAny}
 use Rattle.symfilter_engine.proofs.ChunkBytes.{nothing_read}
 use Rattle.symfilter_engine.proofs.WordTurns.{no_word_kept, none_replaced, replaced_on, given_more, front_after, front_passed, front_replaced, words_replaced, words_front, whole_words, all_but_kept, replaced_begun, last_on, last_begun, replaced_kept}
 use Rattle.symfilter_engine.proofs.FilteredText.{none_filtered, filtered_begins, piece_filtered, piece_begins, next_unwritten, lines_before, WritesFiltered-append, WritesBeginning-append}
@@ -47,12 +47,12 @@ piece_written (Words options) mid_word after given piece left left' t t' t'' so_
 
 -- a beginning of it was
 piece_begun : (placement : Placement) (mid_word : Bool) (given piece left : List ℕ) (t t' t'' : Option (List ℕ)) → WritesChunkUpTo placement false given left mid_word t t'
-    → WritesChunkFront placement mid_word (left ++ piece) t' t'' → WritesBeginning placement (given ++ piece) t t''
+    → WritesChunkBeginning placement mid_word (left ++ piece) t' t'' → WritesBeginning placement (given ++ piece) t t''
 piece_begun (Lines printing) mid_word given piece left t t' t'' so_far begins =
     piece_begins (Lines printing) given piece left t t' t'' so_far
     (subst (λ l. WritesBeginning (Lines printing) l t' t'') (append-nil (left ++ piece)) (begins []))
 piece_begun (Words options) mid_word given piece left t t' t'' so_far begins =
-    subst (λ l. WritesReplacedBeginning options false l t t'') (append-nil (given ++ piece))
+    subst (λ l. ReplacesBeginning options false l t t'') (append-nil (given ++ piece))
     (front_after options false mid_word (given ++ piece) (left ++ piece) t t' t'' (given_more options false mid_word given left piece t t' so_far) begins [])
 
 -- nothing more was written
@@ -150,14 +150,14 @@ turn_copied placement mid_word after kept end old new rest left s s' s'' t t' t'
 
 -- a fault came in it
 pub turn_fault : (placement : Placement) (mid_word : Bool) (kept end : ℕ) (old new : List ℕ) (s s' s'' t t' t'' : Option (List ℕ))
-    → CopiesUpTo placement mid_word (take kept old) s s' t t' → ReadsMore kept end old new s' s'' → WritesChunkFront placement mid_word (take end new) t' t''
-    → FiltersFront placement s s'' t t''
+    → CopiesUpTo placement mid_word (take kept old) s s' t t' → ReadsMore kept end old new s' s'' → WritesChunkBeginning placement mid_word (take end new) t' t''
+    → FiltersBeginning placement s s'' t t''
 turn_fault placement mid_word kept end old new s s' s'' t t' t'' so_far more begins =
     record {
       read = so_far.read ++ more.piece;
       consumed = Consumes-trans s s' s'' so_far.read more.piece so_far.consumed more.consumed;
       begins = piece_begun placement mid_word so_far.read more.piece (take kept old) t t' t'' so_far.written
-          (subst (λ l. WritesChunkFront placement mid_word l t' t'') more.chunk begins);
+          (subst (λ l. WritesChunkBeginning placement mid_word l t' t'') more.chunk begins);
     }
 
 -- memory was refused in it
@@ -187,7 +187,7 @@ end_copied placement mid_word kept end old new s s' s'' t t' so_far more within 
 
 -- the source failed, and gave nothing
 pub read_fault : (placement : Placement) (mid_word : Bool) (left : List ℕ) (s s' s'' t t' : Option (List ℕ)) → CopiesUpTo placement mid_word left s s' t t' → Keeps s' s''
-    → FiltersFront placement s s'' t t'
+    → FiltersBeginning placement s s'' t t'
 read_fault placement mid_word left s s' s'' t t' so_far keeps =
     record {
       read = so_far.read;
@@ -236,7 +236,7 @@ last_copied placement mid_word left s s' t t' t'' so_far ends writes =
 
 -- a fault came while it was written
 pub last_fault : (placement : Placement) (mid_word : Bool) (left : List ℕ) (s s' t t' t'' : Option (List ℕ)) → CopiesUpTo placement mid_word left s s' t t' → WritesBeginning placement left t' t''
-    → FiltersFront placement s s' t t''
+    → FiltersBeginning placement s s' t t''
 last_fault placement mid_word left s s' t t' t'' so_far begins =
     record { read = so_far.read; consumed = so_far.consumed; begins = last_begins placement mid_word so_far.read left t t' t'' so_far.written so_far.none begins }
 
@@ -285,7 +285,7 @@ run_written T U (Ok v) fault f w is h same = absurd same
 run_written T U (Err e) fault f w is h same = subst (λ e. IsRunOutcome {T = T} (Err e) f w) (sym same) (run_last {T = T} (Err fault) f w is h)
 
 -- nothing was read and nothing written
-pub none_read : (placement : Placement) (source sink : Option (List ℕ)) → FiltersFront placement source source sink sink
+pub none_read : (placement : Placement) (source sink : Option (List ℕ)) → FiltersBeginning placement source source sink sink
 none_read placement source sink = read_fault placement false [] source source source sink sink (none_copied placement [] source sink refl) (Keeps-refl source)
 
 pub none_whole : (placement : Placement) (source sink : Option (List ℕ)) → FiltersWhole placement source source sink sink
@@ -299,7 +299,7 @@ lines_written (Words options) printing mid_word bytes n t t' is so_far = absurd 
 
 -- a beginning of its text was
 pub lines_front : (placement : Placement) (printing : Printing) (mid_word : Bool) (bytes : List ℕ) (n : ℕ) (t t' : Option (List ℕ)) → placement ≡ Lines printing
-    → WritesFilteredFront placement (take n bytes) t t' → WritesChunkFront placement mid_word bytes t t'
+    → WritesBeginningOfAny placement (take n bytes) t t' → WritesChunkBeginning placement mid_word bytes t t'
 lines_front (Lines p) printing mid_word bytes n t t' is begins = λ rest.
     subst (λ l. WritesBeginning (Lines p) l t t') (sym (append_assoc (take n bytes) (drop n bytes) rest) ∙ ap (λ l. l ++ rest) (take-append-drop n bytes))
     (begins (drop n bytes ++ rest))
@@ -340,7 +340,7 @@ words_passed options mid_word after bytes rest n whole t t' t'' leads outside re
 
 -- a fault came while they were written
 pub words_fault : (options : Replacement) (mid_word after : Bool) (bytes rest : List ℕ) (n whole : ℕ) (t t' t'' : Option (List ℕ)) → ContinuesTo options mid_word (take n bytes) (take n bytes) after
-    → after ≡ false → rest ≡ drop n bytes → Appends t t' (take n bytes) → WritesFilteredFront (Words options) (take whole rest) t' t'' → WritesReplacedFront options mid_word bytes t t''
+    → after ≡ false → rest ≡ drop n bytes → Appends t t' (take n bytes) → WritesBeginningOfAny (Words options) (take whole rest) t' t'' → ReplacesBeginningOfAny options mid_word bytes t t''
 words_fault options mid_word after bytes rest n whole t t' t'' leads outside rest_is writes begins =
     front_after options mid_word false bytes rest t t' t'' (past_first options mid_word after bytes rest n t t' leads outside rest_is writes)
     (words_front options rest (take whole rest) whole t' t'' begins refl)

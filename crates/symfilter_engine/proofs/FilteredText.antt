@@ -15,10 +15,10 @@ use Rattle.symfilter_engine.specs.declared.symbols.Placement.{Placement}
 use Rattle.symfilter_engine.specs.declared.symbols.Placement.TheVariants.{Lines, Words}
 use Rattle.symfilter_engine.specs.Replaced.{no_byte}
 use Rattle.symfilter_engine.specs.Filtered.{line_feed, HasNoLineFeed, AreLinesAnswered, no_line}
-use Rattle.symfilter_engine.specs.Filtered.{one_more, IsAnswered, ended, unended, AreWholeFiltered, IsFiltered, IsFront}
+use Rattle.symfilter_engine.specs.Filtered.{one_more, IsAnswered, ended, unended, AreWholeFiltered, IsFiltered, IsBeginningOf}
 use Rattle.symfilter_engine.specs.Filtered.{IsBeginning, IsLineAnswer, answered, unanswered, not_utf8, WritesFiltered}
 use Rattle.symfilter_engine.specs.Filtered.{WritesBeginning}
-use Rattle.symfilter_engine.specs.Progress.{AppendsReplaced, WritesFront, WritesWholeFiltered, WritesFilteredFront, FiltersUpTo}
+use Rattle.symfilter_engine.specs.Progress.{AppendsReplaced, WritesBeginningOf, WritesWholeFiltered, WritesBeginningOfAny, FiltersUpTo}
 use Rattle.symfilter_engine.proofs.ReplacedText.{IsReplaced-append, whole_parted, whole-append, replaced_of}
 use Rattle.symfilter_engine.specs.declared.symbols.Replacement.{Replacement}
 use Rattle.symfilter_engine.specs.declared.symbols.Printing.{Printing}
@@ -60,8 +60,8 @@ IsFiltered-append (Words options) lines text given text' first second =
     IsReplaced-append options first.1 second (whole_parted lines given first.0)
 
 -- a front after a text
-pub IsFront-append : (text written more : List ℕ) → IsFront written more → IsFront (text ++ written) (text ++ more)
-IsFront-append text written more is_front =
+pub IsBeginningOf-append : (text written more : List ℕ) → IsBeginningOf written more → IsBeginningOf (text ++ written) (text ++ more)
+IsBeginningOf-append text written more is_front =
     (is_front.0, ap (λ l. text ++ l) is_front.1 ∙ sym (append_assoc text written is_front.0))
 
 -- a line has an answer, or stands for itself
@@ -111,7 +111,7 @@ filtered_of (Lines printing) bytes = after_line printing [] bytes (All-nil (λ b
 filtered_of (Words options) bytes = replaced_of options bytes
 
 -- a front of the filtered text of the first lines
-of_lines : (placement : Placement) (lines text given rest written : List ℕ) → given ≡ lines ++ rest → AreWholeFiltered placement lines text → IsFront written text
+of_lines : (placement : Placement) (lines text given rest written : List ℕ) → given ≡ lines ++ rest → AreWholeFiltered placement lines text → IsBeginningOf written text
     → IsBeginning placement given written
 of_lines placement lines text given rest written given_is filtered is_front =
     let more = filtered_of placement rest in (
@@ -142,7 +142,7 @@ last_unwritten placement line at =
 
 -- a front of it was written
 pub last_begins : (placement : Placement) (printing : Printing) (line answer : List ℕ) (before after : Option (List ℕ)) → placement ≡ Lines printing → line ≢ [] → HasNoLineFeed line → IsLineAnswer printing line answer
-    → WritesFront answer before after → WritesBeginning placement line before after
+    → WritesBeginningOf answer before after → WritesBeginning placement line before after
 last_begins placement printing line answer before after is some unended_line is_answer (rest, writes) =
     subst (λ s. WritesBeginning s line before after) (sym is)
     (writes.front, (answer, unended no_line some unended_line is_answer, (rest, writes.bytes_are)), writes.written)
@@ -156,7 +156,7 @@ last_replaced placement options line old output bytes before after is none (text
 
 -- a front of its replaced text was written
 pub replaced_begins : (placement : Placement) (options : Replacement) (line old output bytes : List ℕ) (before after : Option (List ℕ)) → placement ≡ Words options → old ≡ []
-    → AppendsReplaced options line old output → bytes ≡ output → WritesFront bytes before after → WritesBeginning placement line before after
+    → AppendsReplaced options line old output → bytes ≡ output → WritesBeginningOf bytes before after → WritesBeginning placement line before after
 replaced_begins placement options line old output bytes before after is none (text, replaced, output_is) bytes_are (rest, writes) =
     subst (λ s. WritesBeginning s line before after) (sym is)
     (writes.front, (text, replaced, (rest, sym (bytes_are ∙ output_is ∙ ap (λ l. l ++ text) none) ∙ writes.bytes_are)), writes.written)
@@ -211,12 +211,12 @@ filtered_begins placement given left before after so_far = (
 )
 
 -- nothing of lines was written
-pub lines_unwritten : (placement : Placement) (lines : List ℕ) (at : Option (List ℕ)) → WritesFilteredFront placement lines at at
+pub lines_unwritten : (placement : Placement) (lines : List ℕ) (at : Option (List ℕ)) → WritesBeginningOfAny placement lines at at
 lines_unwritten placement lines at rest = last_unwritten placement (lines ++ rest) at
 
 -- a front of the text of the first lines was written
-pub lines_begin : (placement : Placement) (lines text : List ℕ) (n : ℕ) (before after : Option (List ℕ)) → AreWholeFiltered placement (take n lines) text → WritesFront text before after
-    → WritesFilteredFront placement lines before after
+pub lines_begin : (placement : Placement) (lines text : List ℕ) (n : ℕ) (before after : Option (List ℕ)) → AreWholeFiltered placement (take n lines) text → WritesBeginningOf text before after
+    → WritesBeginningOfAny placement lines before after
 lines_begin placement lines text n before after filtered (left, writes) rest = (
   writes.front,
   of_lines placement (take n lines) text (lines ++ rest) (drop n lines ++ rest) writes.front
@@ -252,7 +252,7 @@ WritesFiltered-append placement given left before mid after so_far (text, filter
 IsBeginning-append : (placement : Placement) (lines text given written : List ℕ) → AreWholeFiltered placement lines text → IsBeginning placement given written
     → IsBeginning placement (lines ++ given) (text ++ written)
 IsBeginning-append placement lines text given written first begins =
-    (text ++ begins.0, IsFiltered-append placement lines text given begins.0 first begins.1, IsFront-append text written begins.0 begins.2)
+    (text ++ begins.0, IsFiltered-append placement lines text given begins.0 first begins.1, IsBeginningOf-append text written begins.0 begins.2)
 
 -- a beginning of the next piece
 pub piece_begins : (placement : Placement) (given piece left : List ℕ) (before mid after : Option (List ℕ))
@@ -276,9 +276,9 @@ WritesBeginning-append placement given left before mid after so_far (written, be
 )
 
 -- a beginning of more lines
-pub WritesFilteredFront-append : (placement : Placement) (given left : List ℕ) (before mid after : Option (List ℕ)) → FiltersUpTo placement given left before mid
-    → WritesFilteredFront placement left mid after → WritesFilteredFront placement given before after
-WritesFilteredFront-append placement given left before mid after so_far begins rest =
+pub WritesBeginningOfAny-append : (placement : Placement) (given left : List ℕ) (before mid after : Option (List ℕ)) → FiltersUpTo placement given left before mid
+    → WritesBeginningOfAny placement left mid after → WritesBeginningOfAny placement given before after
+WritesBeginningOfAny-append placement given left before mid after so_far begins rest =
     WritesBeginning-append placement (given ++ rest) (left ++ rest) before mid after
     (lines_before placement given left rest before mid so_far)
     (begins rest)

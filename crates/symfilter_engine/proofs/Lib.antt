@@ -2,7 +2,7 @@ pub mod ReplacedText
 pub mod WordPlaces
 mod WordLanes
 pub mod FilteredText
-pub mod WrittenFronts
+pub mod WrittenBeginnings
 pub mod LineAnswers
 pub mod LineEnds
 pub mod ChunkBytes

@@ -13,7 +13,7 @@ use Rattle.symfilter_engine.specs.declared.symbols.Placement.{Placement}
 use Rattle.symfilter_engine.specs.declared.symbols.Placement.TheVariants.{Lines, Words}
 use Rattle.symfilter_engine.specs.Filtered.{line_feed, EndsInLineFeed, AreWhole, AreLinesAnswered, no_line, one_more, AreWholeFiltered, IsLineAnswer}
 use Rattle.symfilter_engine.specs.Replaced.{ends_word}
-use Rattle.symfilter_engine.specs.Progress.{HasNone, IsFirst, EndsAt, HasNoPrefix, AppendsReplaced, AppendsFiltered}
+use Rattle.symfilter_engine.specs.Progress.{HasNone, IsFirst, EndsAt, HasPrefixNowhere, AppendsReplaced, AppendsFiltered}
 use Rattle.symfilter_engine.proofs.FilteredText.{AreLinesAnswered-append, AreWholeFiltered-append}
 use Rattle.symfilter_engine.proofs.ReplacedText.{unprefixed, whole-drop}
 use Rattle.symfilter_engine.proofs.LineAnswers.{other_line}
@@ -112,7 +112,7 @@ more_ordinary printing lines len end first ends ordinary =
     )
 
 -- whole words without a prefix
-pub unprefixed_words : (placement : Placement) (options : Replacement) (text : List ℕ) → placement ≡ Words options → ends_word text ≡ false → HasNoPrefix text
+pub unprefixed_words : (placement : Placement) (options : Replacement) (text : List ℕ) → placement ≡ Words options → ends_word text ≡ false → HasPrefixNowhere text
     → AreWholeFiltered placement text text
 unprefixed_words placement options text is whole none = subst (λ s. AreWholeFiltered s text text) (sym is) (whole, unprefixed options text none)
 

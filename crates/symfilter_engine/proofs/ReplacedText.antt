@@ -13,7 +13,7 @@ use Rattle.symfilter_engine.proofs.Printed.{each_printed}
 use Rattle.symfilter_engine.specs.Replaced.{is_word_byte, IsWordByte, begins_word, ends_word, IsDot, ends_in_dot, prefix_chars_len, prefix_chars}
 use Rattle.symfilter_engine.specs.Replaced.{past_prefix_chars, symbol_at, symbol_in, IsWordAnswer, answered, unanswered}
 use Rattle.symfilter_engine.specs.Replaced.{no_symbol, IsReplaced, no_byte, other, one_word}
-use Rattle.symfilter_engine.specs.Progress.{underscore, capital_z, HasNoPrefix, AreWordBytes, IsBoundary}
+use Rattle.symfilter_engine.specs.Progress.{underscore, capital_z, HasPrefixNowhere, AreWordBytes, IsBoundary}
 use Rattle.symfilter_engine.specs.declared.symbols.Replacement.{Replacement}
 
 ends_word-cons : (byte : ℕ) (bytes : List ℕ) → ends_word bytes ≡ true → ends_word (byte ∷ bytes) ≡ true
@@ -157,11 +157,11 @@ split_of (byte ∷ bytes) =
     subst (λ l. Split (byte ∷ l)) (sym more.word_is) (split_more byte more.stem more.dots more.dotted more.undotted (is "." byte) refl)
 
 -- parts of bytes without a prefix
-no_prefix-right : (front bytes : List ℕ) → HasNoPrefix (front ++ bytes) → HasNoPrefix bytes
+no_prefix-right : (front bytes : List ℕ) → HasPrefixNowhere (front ++ bytes) → HasPrefixNowhere bytes
 no_prefix-right [] bytes none = none
 no_prefix-right (byte ∷ front) bytes none = no_prefix-right front bytes (λ k. none (suc k))
 
-pub no_prefix-left : (bytes rest : List ℕ) → HasNoPrefix (bytes ++ rest) → HasNoPrefix bytes
+pub no_prefix-left : (bytes rest : List ℕ) → HasPrefixNowhere (bytes ++ rest) → HasPrefixNowhere bytes
 no_prefix-left bytes rest none k first second =
     elim (cases_lt (suc k) (length bytes)) [
       | inl low ↦ none k (get_or_append_left bytes rest 0 k (omega (arith, low)) ∙ first) (get_or_append_left bytes rest 0 (suc k) low ∙ second)
@@ -169,7 +169,7 @@ no_prefix-left bytes rest none k first second =
     ]
 
 -- bytes that begin with the prefix of a symbol
-has_prefix : (bytes : List ℕ) → begins (underscore ∷ capital_z ∷ []) bytes ≡ true → HasNoPrefix bytes → ⊥
+has_prefix : (bytes : List ℕ) → begins (underscore ∷ capital_z ∷ []) bytes ≡ true → HasPrefixNowhere bytes → ⊥
 has_prefix [] front none = absurd (false≢true front)
 has_prefix (first ∷ []) front none = absurd (false≢true ((and_parts (first == underscore) false front).1))
 has_prefix (first ∷ second ∷ bytes) front none =
@@ -177,7 +177,7 @@ has_prefix (first ∷ second ∷ bytes) front none =
     let two = and_parts (second == capital_z) true one.1 in
     none 0 (eqb-true first underscore one.0) (eqb-true second capital_z two.0)
 
-after_underscore : (word bytes : List ℕ) → begins (underscore ∷ word) bytes ≡ true → HasNoPrefix bytes → ((rest : List ℕ) → begins word rest ≡ true → HasNoPrefix rest → ⊥) → ⊥
+after_underscore : (word bytes : List ℕ) → begins (underscore ∷ word) bytes ≡ true → HasPrefixNowhere bytes → ((rest : List ℕ) → begins word rest ≡ true → HasPrefixNowhere rest → ⊥) → ⊥
 after_underscore word [] front none goes_on = absurd (false≢true front)
 after_underscore word (byte ∷ bytes) front none goes_on =
     goes_on bytes ((and_parts (byte == underscore) (begins word bytes) front).1) (λ k. none (suc k))
@@ -190,7 +190,7 @@ passed false true c first second symbol is = inr (inl refl)
 passed false false true first second symbol is = inr (inr refl)
 passed false false false first second symbol is = absurd (cc)
 
-symbol_has_prefix : (strip : Bool) (bytes symbol : List ℕ) → symbol_at strip bytes ≡ Some symbol → HasNoPrefix bytes → ⊥
+symbol_has_prefix : (strip : Bool) (bytes symbol : List ℕ) → symbol_at strip bytes ≡ Some symbol → HasPrefixNowhere bytes → ⊥
 symbol_has_prefix strip bytes symbol is none =
     elim (passed (begins (codes "_Z") bytes) (begins (codes "__Z") bytes) (strip && begins (codes "___Z") bytes) bytes (drop 1 bytes) symbol is) [
       | inl one ↦ has_prefix bytes one none
@@ -201,17 +201,17 @@ symbol_has_prefix strip bytes symbol is none =
     ]
 
 -- past the prefix characters
-no_prefix-drop : (n : ℕ) (word : List ℕ) → HasNoPrefix word → HasNoPrefix (drop n word)
-no_prefix-drop n word none = no_prefix-right (take n word) (drop n word) (subst HasNoPrefix (sym (take-append-drop n word)) none)
+no_prefix-drop : (n : ℕ) (word : List ℕ) → HasPrefixNowhere word → HasPrefixNowhere (drop n word)
+no_prefix-drop n word none = no_prefix-right (take n word) (drop n word) (subst HasPrefixNowhere (sym (take-append-drop n word)) none)
 
-word_has_prefix : (strip : Bool) (word symbol : List ℕ) → symbol_in strip word ≡ Some symbol → HasNoPrefix word → ⊥
+word_has_prefix : (strip : Bool) (word symbol : List ℕ) → symbol_in strip word ≡ Some symbol → HasPrefixNowhere word → ⊥
 word_has_prefix strip word symbol is none = symbol_has_prefix strip (past_prefix_chars word) symbol is (no_prefix-drop (prefix_chars_len word) word none)
 
 -- what is written for a word: the word itself, where no prefix is in it
 record WordText (options : Replacement) (word : List ℕ) : Type 0 where
   answer : List ℕ
   is_answer : IsWordAnswer options word answer
-  same : HasNoPrefix word → answer ≡ word
+  same : HasPrefixNowhere word → answer ≡ word
 
 symbol_text : (options : Replacement) (word symbol : List ℕ) → symbol_in options.strip word ≡ Some symbol → (found : Option (List ℕ)) → IsPrintedAs options.printing symbol found → WordText options word
 symbol_text options word symbol is None none = record { answer = word; is_answer = unanswered is none; same = λ _. refl }
@@ -226,7 +226,7 @@ word_text options word (Some symbol) is = let found = each_printed options.print
 record BytesText (options : Replacement) (bytes : List ℕ) : Type 0 where
   text : List ℕ
   replaced : IsReplaced options bytes text
-  same : HasNoPrefix bytes → text ≡ bytes
+  same : HasPrefixNowhere bytes → text ≡ bytes
 
 -- a word, and what follows it
 after_word : (options : Replacement) (word bytes : List ℕ) → word ≢ [] → All IsWordByte word → begins_word bytes ≡ false → BytesText options bytes → BytesText options (word ++ bytes)
@@ -240,7 +240,7 @@ after_word options word bytes some all next rest =
       replaced = subst (λ l. IsReplaced options (l ++ bytes) text) back
           (one_word split.dots (λ e. some (split.word_is ∙ e)) (All-same IsWordByte (split.stem ++ split.dots) word back all) split.dotted split.undotted found.is_answer next rest.replaced);
       same = λ none.
-          let in_word : HasNoPrefix (split.stem ++ split.dots) = subst HasNoPrefix split.word_is (no_prefix-left word bytes none) in
+          let in_word : HasPrefixNowhere (split.stem ++ split.dots) = subst HasPrefixNowhere split.word_is (no_prefix-left word bytes none) in
           ap (λ l. (l ++ split.dots) ++ rest.text) (found.same (no_prefix-left split.stem split.dots in_word))
           ∙ ap (λ l. l ++ rest.text) back ∙ ap (λ l. word ++ l) (rest.same (no_prefix-right word bytes none));
     }
@@ -274,7 +274,7 @@ pub replaced_of : (options : Replacement) (bytes : List ℕ) → (text : List �
 replaced_of options bytes = let found = from_word options [] bytes (All-nil IsWordByte) in (found.text, found.replaced)
 
 -- bytes without a prefix stay
-pub unprefixed : (options : Replacement) (bytes : List ℕ) → HasNoPrefix bytes → IsReplaced options bytes bytes
+pub unprefixed : (options : Replacement) (bytes : List ℕ) → HasPrefixNowhere bytes → IsReplaced options bytes bytes
 unprefixed options bytes none =
     let found = from_word options [] bytes (All-nil IsWordByte) in
     subst (IsReplaced options bytes) (found.same none) found.replaced

@@ -10,7 +10,7 @@ use Rattle.std.proofs.lemmas.Str.{IsUtf8-from_ascii}
 use Rattle.std.specs.Prelude.{All, IsUtf8}
 use Rattle.itanium_syntax.specs.Bytes.{is, is_between, is_digit, one_of, begins}
 use Rattle.symfilter_engine.specs.Replaced.{is_word_byte, IsWordByte, IsDot, ends_in_dot, prefix_chars_len, past_prefix_chars, symbol_in, IsWordAnswer, IsReplaced, no_byte, one_word}
-use Rattle.symfilter_engine.specs.Progress.{underscore, capital_z, HasNone, IsFirst, HasNoPrefix, IsFirstPrefix, AreWordBytes, IsBoundary, Extends, AppendsReplaced}
+use Rattle.symfilter_engine.specs.Progress.{underscore, capital_z, HasNone, IsFirst, HasPrefixNowhere, IsFirstPrefix, AreWordBytes, IsBoundary, Extends, AppendsReplaced}
 use Rattle.symfilter_engine.proofs.ReplacedText.{no_prefix-left, more_replaced, unprefixed}
 use Rattle.symfilter_engine.specs.declared.symbols.Replacement.{Replacement}
 
@@ -32,7 +32,7 @@ none_up_to bytes at more none first k low one two =
           (get_or-take more (drop at bytes) j 0 below ∙ get_or-drop at bytes j 0 ∙ ap (λ n. get_or bytes n 0) place ∙ two)
     ]
 
-no_prefix-take : (bytes : List ℕ) (n : ℕ) → n ≤ length bytes → NoneUpTo bytes n → HasNoPrefix (take n bytes)
+no_prefix-take : (bytes : List ℕ) (n : ℕ) → n ≤ length bytes → NoneUpTo bytes n → HasPrefixNowhere (take n bytes)
 no_prefix-take bytes n inside none k one two =
     let long : length (take n bytes) ≡ n = length-take-le n bytes inside in
     elim (cases_lt (suc k) n) [
@@ -70,7 +70,7 @@ none_past bytes at more none first other k low one two =
     ]
 
 -- no `Z` is left
-pub none_left : (bytes : List ℕ) (at : ℕ) → NoneUpTo bytes at → HasNone capital_z (take (length bytes - at) (drop at bytes)) → HasNoPrefix bytes
+pub none_left : (bytes : List ℕ) (at : ℕ) → NoneUpTo bytes at → HasNone capital_z (take (length bytes - at) (drop at bytes)) → HasPrefixNowhere bytes
 none_left bytes at none rest k one two =
     elim (cases_lt (suc k) at) [
       | inl before ↦ none k before one two
@@ -86,15 +86,15 @@ none_left bytes at none rest k one two =
     ]
 
 -- a front of bytes without a prefix
-pub no_prefix-front : (bytes : List ℕ) (n : ℕ) → HasNoPrefix bytes → HasNoPrefix (take n bytes)
-no_prefix-front bytes n none = no_prefix-left (take n bytes) (drop n bytes) (subst HasNoPrefix (sym (take-append-drop n bytes)) none)
+pub no_prefix-front : (bytes : List ℕ) (n : ℕ) → HasPrefixNowhere bytes → HasPrefixNowhere (take n bytes)
+no_prefix-front bytes n none = no_prefix-left (take n bytes) (drop n bytes) (subst HasPrefixNowhere (sym (take-append-drop n bytes)) none)
 
-pub no_prefix-shorter : (bytes : List ℕ) (n m : ℕ) → n ≤ m → HasNoPrefix (take m bytes) → HasNoPrefix (take n bytes)
-no_prefix-shorter bytes n m small none = subst HasNoPrefix (take-take n m bytes small) (no_prefix-front (take m bytes) n none)
+pub no_prefix-shorter : (bytes : List ℕ) (n m : ℕ) → n ≤ m → HasPrefixNowhere (take m bytes) → HasPrefixNowhere (take n bytes)
+no_prefix-shorter bytes n m small none = subst HasPrefixNowhere (take-take n m bytes small) (no_prefix-front (take m bytes) n none)
 
 -- in what is left, as a slice has it
-pub no_prefix-rest : (bytes : List ℕ) (done more : ℕ) → HasNoPrefix (take more (take (length bytes - done) (drop done bytes))) → HasNoPrefix (take more (drop done bytes))
-no_prefix-rest bytes done more none = subst (λ l. HasNoPrefix (take more l)) (take_rest bytes done) none
+pub no_prefix-rest : (bytes : List ℕ) (done more : ℕ) → HasPrefixNowhere (take more (take (length bytes - done) (drop done bytes))) → HasPrefixNowhere (take more (drop done bytes))
+no_prefix-rest bytes done more none = subst (λ l. HasPrefixNowhere (take more l)) (take_rest bytes done) none
 
 -- a word has its prefix's underscore at least
 pub some_word : (bytes : List ℕ) (from more end : ℕ) → IsFirstPrefix (take (length bytes - from) (drop from bytes)) more → from + more ≤ end
@@ -211,7 +211,7 @@ word_stays options word stem some all dotted undotted is_answer =
 
 -- after bytes without a prefix a word was replaced too
 pub turn_replaced : (options : Replacement) (text old before mid after : List ℕ) (done more start end : ℕ) → end ≤ length text → done ≤ start → start ≤ done + more → start ≤ end
-    → IsBoundary text done → IsBoundary text start → AppendsReplaced options (take done text) old before → HasNoPrefix (take more (drop done text))
+    → IsBoundary text done → IsBoundary text start → AppendsReplaced options (take done text) old before → HasPrefixNowhere (take more (drop done text))
     → mid ≡ before ++ take (start - done) (drop done text) → AppendsReplaced options (take (end - start) (drop start text)) mid after
     → AppendsReplaced options (take end text) old after
 turn_replaced options text old before mid after done more start end inside low high ordered first second (written, replaced, before_is) none mid_is (answer, is_answer, after_is) =
@@ -247,7 +247,7 @@ more_parts output text low mid high first second =
 -- one more word stays, and is yet to be appended
 pub stays_replaced : (options : Replacement) (text old output : List ℕ) (done from more start end : ℕ) → done ≤ from → from ≤ start → start ≤ from + more → start ≤ end
     → end ≤ length text → IsBoundary text from → IsBoundary text start → AppendsReplaced options (take from text) old (output ++ part text done from)
-    → HasNoPrefix (take more (drop from text)) → IsReplaced options (part text start end) (part text start end)
+    → HasPrefixNowhere (take more (drop from text)) → IsReplaced options (part text start end) (part text start end)
     → AppendsReplaced options (take end text) old (output ++ part text done end)
 stays_replaced options text old output done from more start end kept low high ordered inside first second so_far none replaced =
     turn_replaced options text old (output ++ part text done from) (output ++ part text done start) (output ++ part text done end) from more start end
@@ -277,7 +277,7 @@ answer_placed output text answer done start chars stem end first second third =
 -- one more word is answered
 pub answer_replaced : (options : Replacement) (text old output answer after : List ℕ) (done from more start chars stem end : ℕ) → done ≤ from → from ≤ start → start ≤ from + more
     → start < end → end ≤ length text → IsBoundary text from → IsBoundary text start → AppendsReplaced options (take from text) old (output ++ part text done from)
-    → HasNoPrefix (take more (drop from text)) → All IsWordByte (part text start end) → All IsDot (drop stem (part text start end))
+    → HasPrefixNowhere (take more (drop from text)) → All IsWordByte (part text start end) → All IsDot (drop stem (part text start end))
     → ends_in_dot (take stem (part text start end)) ≡ false → chars ≤ stem → start + stem ≤ end
     → IsWordAnswer options (take stem (part text start end)) (take chars (take stem (part text start end)) ++ answer)
     → after ≡ output ++ (part text done (start + chars) ++ answer)
@@ -300,7 +300,7 @@ pub end_past : (options : Replacement) (text old output : List ℕ) (done end pa
     → AppendsReplaced options (take past text) old (output ++ part text done past)
 end_past options text old output done end past kept inside past_is ended (written, replaced, output_is) =
     let rest : List ℕ = part text end past in
-    let none : HasNoPrefix rest =
+    let none : HasPrefixNowhere rest =
     no_prefix-take (drop end text) (past - end) (omega (arith, past_is, inside, length-drop end text)) (λ k low _ _. absurd (omega (arith, low, past_is))) in
     let up_to : IsReplaced options (take (end + (past - end)) text) (written ++ rest) =
     more_replaced options text written rest end (past - end) inside (λ _ _. ended) replaced (unprefixed options rest none) in (
@@ -320,7 +320,7 @@ boundary_past text end past inside past_is ended some word =
 
 -- no prefix is left
 rest_replaced : (options : Replacement) (text old before after : List ℕ) (done : ℕ) → done ≤ length text → IsBoundary text done
-    → AppendsReplaced options (take done text) old before → HasNoPrefix (take (length text - done) (drop done text))
+    → AppendsReplaced options (take done text) old before → HasPrefixNowhere (take (length text - done) (drop done text))
     → after ≡ before ++ take (length text - done) (drop done text) → AppendsReplaced options text old after
 rest_replaced options text old before after done inside boundary (written, replaced, before_is) none after_is =
     let rest : List ℕ = take (length text - done) (drop done text) in
@@ -334,7 +334,7 @@ pub extended : (old output more after : List ℕ) → Extends old output → aft
 extended old output more after (front, output_is) after_is = (front ++ more, after_is ∙ ap (λ l. l ++ more) output_is ∙ append_assoc old front more)
 
 pub rest_appended : {T E : Type 0} (r : Result T E) (options : Replacement) (text old output after : List ℕ) (done from : ℕ) → done ≤ from → from ≤ length text → IsBoundary text from
-    → AppendsReplaced options (take from text) old (output ++ part text done from) → HasNoPrefix (part text from (length text))
+    → AppendsReplaced options (take from text) old (output ++ part text done from) → HasPrefixNowhere (part text from (length text))
     → OnOk r (after ≡ output ++ part text done (length text)) → OnOk r (AppendsReplaced options text old after)
 rest_appended (Ok _) options text old output after done from kept inside boundary so_far none after_is =
     rest_replaced options text old (output ++ part text done from) after from inside boundary so_far none (after_is ∙ more_parts output text done from (length text) kept inside)

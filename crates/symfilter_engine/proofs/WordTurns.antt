@@ -9,8 +9,8 @@ use Rattle.std.specs.Io.KnownBytes.{Appends, Consumes, Keeps}
 use Rattle.std.specs.Prelude.{All}
 use Rattle.symfilter_engine.specs.declared.symbols.Placement.TheVariants.{Words}
 use Rattle.symfilter_engine.specs.Replaced.{is_word_byte, IsWordByte, begins_word, ends_word, IsKept, may_hold_symbol, IsReplaced, no_byte, other, one_word, no_symbol}
-use Rattle.symfilter_engine.specs.Filtered.{IsFront, FiltersWhole, ReplacesAllButKept, WritesBeginning, WritesFiltered}
-use Rattle.symfilter_engine.specs.Progress.{AreWordBytes, StartsMidWord, FiltersUpTo, ReplacesUpTo, IsReplacedFrom, ContinuesTo, WritesReplacedBeginning, WritesReplacedFront, WritesFront, WritesFilteredFront}
+use Rattle.symfilter_engine.specs.Filtered.{IsBeginningOf, FiltersWhole, ReplacesAllButKept, WritesBeginning, WritesFiltered}
+use Rattle.symfilter_engine.specs.Progress.{AreWordBytes, StartsMidWord, FiltersUpTo, ReplacesUpTo, IsReplacedFrom, ContinuesTo, ReplacesBeginning, ReplacesBeginningOfAny, WritesBeginningOf, WritesBeginningOfAny}
 use Rattle.symfilter_engine.proofs.ReplacedText.{IsReplaced-append, whole_parted, whole-append, replaced_of, split_of}
 use Rattle.symfilter_engine.proofs.WordPlaces.{rest_of_word}
 use Rattle.symfilter_engine.proofs.PrefixChars.{stem_plain, plain_some}
@@ -237,8 +237,8 @@ front_passed options mid_word after bytes n t t' leads writes =
     record { done = take n bytes; text = take n bytes; given_is = sym (take-append-drop n bytes); leads = leads; written = writes }
 
 -- a front of what the bytes lead to
-front_of : (options : Replacement) (mid_word after : Bool) (bytes text rest written : List ℕ) → ContinuesTo options mid_word bytes text after → IsFront written text
-    → (all : List ℕ) × IsReplacedFrom options mid_word (bytes ++ rest) all × IsFront written all
+front_of : (options : Replacement) (mid_word after : Bool) (bytes text rest written : List ℕ) → ContinuesTo options mid_word bytes text after → IsBeginningOf written text
+    → (all : List ℕ) × IsReplacedFrom options mid_word (bytes ++ rest) all × IsBeginningOf written all
 front_of options mid_word after bytes text rest written leads is_front =
     let found = replaced_in options after rest in (
       text ++ found.0,
@@ -248,7 +248,7 @@ front_of options mid_word after bytes text rest written leads is_front =
 
 -- a front of bytes that stay was written
 pub stay_front : (options : Replacement) (mid_word after : Bool) (bytes front : List ℕ) (n : ℕ) (t t' : Option (List ℕ)) → ContinuesTo options mid_word front front after → front ≡ take n bytes
-    → WritesFront front t t' → WritesReplacedFront options mid_word bytes t t'
+    → WritesBeginningOf front t t' → ReplacesBeginningOfAny options mid_word bytes t t'
 stay_front options mid_word after bytes front n t t' leads front_is (left, writes) rest =
     let whole : bytes ++ rest ≡ front ++ (drop n bytes ++ rest) =
     ap (λ l. l ++ rest) (sym (take-append-drop n bytes) ∙ ap (λ l. l ++ drop n bytes) (sym front_is)) ∙ append_assoc front (drop n bytes) rest in
@@ -258,8 +258,8 @@ stay_front options mid_word after bytes front n t t' leads front_is (left, write
       writes.written,
     )
 
-pub word_front : (options : Replacement) (word : List ℕ) (t t' : Option (List ℕ)) → All IsWordByte word → may_hold_symbol options.strip word ≡ false → WritesFront word t t'
-    → WritesReplacedFront options false word t t'
+pub word_front : (options : Replacement) (word : List ℕ) (t t' : Option (List ℕ)) → All IsWordByte word → may_hold_symbol options.strip word ≡ false → WritesBeginningOf word t t'
+    → ReplacesBeginningOfAny options false word t t'
 word_front options word t t' all plain writes rest =
     let front = writes.1 in
     let found = front_of options false true word word rest front.front (plain_leads options word all plain) (writes.0, front.bytes_are) in
@@ -267,7 +267,7 @@ word_front options word t t' all plain writes rest =
 
 -- a beginning of what was left
 begins_after : (options : Replacement) (mid_word mid : Bool) (given left rest : List ℕ) (t t' t'' : Option (List ℕ)) → ReplacesUpTo options mid_word given left mid t t'
-    → WritesReplacedBeginning options mid (left ++ rest) t' t'' → WritesReplacedBeginning options mid_word (given ++ rest) t t''
+    → ReplacesBeginning options mid (left ++ rest) t' t'' → ReplacesBeginning options mid_word (given ++ rest) t t''
 begins_after options mid_word mid given left rest t t' t'' so_far (written, (text, replaced, is_front), writes) = (
   so_far.text ++ written,
   (
@@ -280,16 +280,16 @@ begins_after options mid_word mid given left rest t t' t'' so_far (written, (tex
 )
 
 pub front_after : (options : Replacement) (mid_word mid : Bool) (given left : List ℕ) (t t' t'' : Option (List ℕ)) → ReplacesUpTo options mid_word given left mid t t'
-    → WritesReplacedFront options mid left t' t'' → WritesReplacedFront options mid_word given t t''
+    → ReplacesBeginningOfAny options mid left t' t'' → ReplacesBeginningOfAny options mid_word given t t''
 front_after options mid_word mid given left t t' t'' so_far begins rest = begins_after options mid_word mid given left rest t t' t'' so_far (begins rest)
 
 -- a front of whole words, before other bytes
-pub words_front : (options : Replacement) (bytes words : List ℕ) (n : ℕ) (t t' : Option (List ℕ)) → WritesFilteredFront (Words options) words t t' → words ≡ take n bytes
-    → WritesReplacedFront options false bytes t t'
+pub words_front : (options : Replacement) (bytes words : List ℕ) (n : ℕ) (t t' : Option (List ℕ)) → WritesBeginningOfAny (Words options) words t t' → words ≡ take n bytes
+    → ReplacesBeginningOfAny options false bytes t t'
 words_front options bytes words n t t' begins words_are rest =
     let whole : words ++ (drop n bytes ++ rest) ≡ bytes ++ rest =
     sym (append_assoc words (drop n bytes) rest) ∙ ap (λ l. l ++ rest) (ap (λ l. l ++ drop n bytes) words_are ∙ take-append-drop n bytes) in
-    subst (λ l. WritesReplacedBeginning options false l t t') whole (begins (drop n bytes ++ rest))
+    subst (λ l. ReplacesBeginning options false l t t') whole (begins (drop n bytes ++ rest))
 
 -- nothing is held back
 pub no_word_kept : (options : Replacement) (word : List ℕ) → word ≡ [] → IsKept options.strip word

@@ -18,11 +18,11 @@ HasNoLineFeed bytes = All (λ byte. byte ≢ line_feed) bytes
 
 -- a line without its line feed, and what is written for it
 pub data IsLineAnswer (printing : Printing) (line : List ℕ) : List ℕ → Type 0 where
-  -- its demangled name, where it is UTF-8 and has one
+  -- what is printed for it, if it is UTF-8 and something is printed
   answered : {text : List ℕ} → IsUtf8 line → IsPrintedAs printing line (Some text) → IsLineAnswer printing line text
-  -- the line itself, where it has none
+  -- the line itself, if nothing is printed for it
   unanswered : IsUtf8 line → IsPrintedAs printing line None → IsLineAnswer printing line line
-  -- the line itself, where it isn't UTF-8
+  -- the line itself, if it isn't UTF-8
   not_utf8 : ¬ (IsUtf8 line) → IsLineAnswer printing line line
 
 -- lines that each end in a line feed, and what is written where each is a symbol
@@ -63,12 +63,12 @@ AreWholeFiltered (Lines printing) lines text = AreLinesAnswered printing lines t
 AreWholeFiltered (Words options) lines text = (ends_word lines ≡ false) × IsReplaced options lines text
 
 -- written is a front of the text
-abbrev pub IsFront : List ℕ → List ℕ → Type 0
-IsFront written text = (rest : List ℕ) × (text ≡ written ++ rest)
+abbrev pub IsBeginningOf : List ℕ → List ℕ → Type 0
+IsBeginningOf written text = (rest : List ℕ) × (text ≡ written ++ rest)
 
 -- a beginning of the filtered text of the bytes given was written
 abbrev pub IsBeginning : Placement → List ℕ → List ℕ → Type 0
-IsBeginning placement given written = (text : List ℕ) × IsFiltered placement given text × IsFront written text
+IsBeginning placement given written = (text : List ℕ) × IsFiltered placement given text × IsBeginningOf written text
 
 -- the sink got the filtered text of what was given and nothing else, where its bytes are known
 abbrev pub WritesFiltered : Placement → List ℕ → Option (List ℕ) → Option (List ℕ) → Type 0
@@ -81,7 +81,7 @@ WritesBeginning placement given before after =
     (written : List ℕ) × IsBeginning placement given written × Appends before after written
 
 -- the source gave a front of its bytes, where they are known, and the sink got a beginning of their filtered text
-pub record FiltersFront (placement : Placement)
+pub record FiltersBeginning (placement : Placement)
     (before after written_before written_after : Option (List ℕ)) : Type 0 where
   pub read : List ℕ
   pub consumed : Consumes before after read
@@ -100,14 +100,14 @@ pub record FiltersWhole (placement : Placement)
 
 -- the source gave whole lines and a part of one more, where its bytes are known, and the sink got the filtered text
 -- of the whole lines and nothing else
-pub record FiltersLines (placement : Placement)
+pub record FiltersAllButKept (printing : Printing)
     (before after written_before written_after : Option (List ℕ)) : Type 0 where
   pub lines : List ℕ
   pub line : List ℕ
   pub consumed : Consumes before after (lines ++ line)
   pub unended : HasNoLineFeed line
   pub text : List ℕ
-  pub filtered : AreWholeFiltered placement lines text
+  pub filtered : AreLinesAnswered printing lines text
   pub written : Appends written_before written_after text
 
 -- the source gave these bytes and then those that are held back, where its bytes are known, and the sink got the

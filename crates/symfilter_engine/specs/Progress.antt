@@ -4,7 +4,7 @@ use Rattle.std.specs.Io.KnownBytes.{Appends, Consumes, IsAtEnd}
 use Rattle.symfilter_engine.specs.declared.symbols.Replacement.{Replacement}
 use Rattle.symfilter_engine.specs.declared.symbols.Placement.{Placement}
 use Rattle.symfilter_engine.specs.declared.symbols.Placement.TheVariants.{Lines, Words}
-use Rattle.symfilter_engine.specs.Filtered.{line_feed, HasNoLineFeed, AreWholeFiltered, IsFront, WritesBeginning, FiltersLines, ReplacesAllButKept}
+use Rattle.symfilter_engine.specs.Filtered.{line_feed, HasNoLineFeed, AreWholeFiltered, IsBeginningOf, WritesBeginning, FiltersAllButKept, ReplacesAllButKept}
 use Rattle.symfilter_engine.specs.Replaced.{is_word_byte, IsWordByte, begins_word, ends_word, IsKept, IsReplaced}
 
 -- no byte is this one
@@ -29,15 +29,15 @@ abbrev pub capital_z : ℕ
 capital_z = 90
 
 -- `_Z` stands nowhere
-abbrev pub HasNoPrefix : List ℕ → Type 0
-HasNoPrefix bytes = (k : ℕ) → slice_index bytes k ≡ underscore → slice_index bytes (suc k) ≡ capital_z → ⊥
+abbrev pub HasPrefixNowhere : List ℕ → Type 0
+HasPrefixNowhere bytes = (k : ℕ) → slice_index bytes k ≡ underscore → slice_index bytes (suc k) ≡ capital_z → ⊥
 
 -- The first `_Z` stands there.
 pub record IsFirstPrefix (bytes : List ℕ) (place : ℕ) : Type 0 where
   pub inside : place < length bytes
   pub underscore : slice_index bytes place ≡ underscore
   pub capital_z : slice_index bytes (suc place) ≡ capital_z
-  pub before : HasNoPrefix (take place bytes)
+  pub before : HasPrefixNowhere (take place bytes)
 
 -- from one place up to another all are bytes of words
 abbrev pub AreWordBytes : List ℕ → ℕ → ℕ → Type 0
@@ -64,8 +64,8 @@ pub record WritesUpTo (bytes rest : List ℕ) (before after : Option (List ℕ))
   pub written : Appends before after front
 
 -- a front of these bytes was written
-abbrev pub WritesFront : List ℕ → Option (List ℕ) → Option (List ℕ) → Type 0
-WritesFront bytes before after = (rest : List ℕ) × WritesUpTo bytes rest before after
+abbrev pub WritesBeginningOf : List ℕ → Option (List ℕ) → Option (List ℕ) → Type 0
+WritesBeginningOf bytes before after = (rest : List ℕ) × WritesUpTo bytes rest before after
 
 -- the filtered text of the lines was appended
 abbrev pub AppendsFiltered : Placement → List ℕ → List ℕ → List ℕ → Type 0
@@ -90,11 +90,11 @@ WritesWholeFiltered placement lines before after =
     (text : List ℕ) × AreWholeFiltered placement lines text × Appends before after text
 
 -- whatever follows these lines, a beginning of the filtered text of all was written
-abbrev pub WritesFilteredFront : Placement → List ℕ → Option (List ℕ) → Option (List ℕ) → Type 0
-WritesFilteredFront placement lines before after =
+abbrev pub WritesBeginningOfAny : Placement → List ℕ → Option (List ℕ) → Option (List ℕ) → Type 0
+WritesBeginningOfAny placement lines before after =
     (rest : List ℕ) → WritesBeginning placement (lines ++ rest) before after
 
--- a chunk holds what was read between the bytes kept and this place, and the source is at its end if that is nothing
+-- The chunk has its first `kept` bytes as before, then what was read, up to `end`. If that is nothing, the input ends.
 pub record ReadsMore (kept end : ℕ) (old new : List ℕ) (before after : Option (List ℕ)) : Type 0 where
   pub piece : List ℕ
   pub low : kept ≤ end
@@ -140,16 +140,16 @@ pub record ReplacesUpTo (options : Replacement) (mid_word : Bool) (given left : 
   pub written : Appends before_written after_written text
 
 -- A beginning of the replaced text of the given bytes was written. `mid_word` is that of `ContinuesTo`.
-abbrev pub WritesReplacedBeginning : Replacement → Bool → List ℕ → Option (List ℕ) → Option (List ℕ) → Type 0
-WritesReplacedBeginning options mid_word given before after =
+abbrev pub ReplacesBeginning : Replacement → Bool → List ℕ → Option (List ℕ) → Option (List ℕ) → Type 0
+ReplacesBeginning options mid_word given before after =
     (written : List ℕ)
-    × ((text : List ℕ) × IsReplacedFrom options mid_word given text × IsFront written text)
+    × ((text : List ℕ) × IsReplacedFrom options mid_word given text × IsBeginningOf written text)
     × Appends before after written
 
 -- For all bytes `rest` it holds that a beginning of the replaced text of `given ++ rest` was written.
-abbrev pub WritesReplacedFront : Replacement → Bool → List ℕ → Option (List ℕ) → Option (List ℕ) → Type 0
-WritesReplacedFront options mid_word given before after =
-    (rest : List ℕ) → WritesReplacedBeginning options mid_word (given ++ rest) before after
+abbrev pub ReplacesBeginningOfAny : Replacement → Bool → List ℕ → Option (List ℕ) → Option (List ℕ) → Type 0
+ReplacesBeginningOfAny options mid_word given before after =
+    (rest : List ℕ) → ReplacesBeginning options mid_word (given ++ rest) before after
 
 -- Bytes that are kept for the next turn. In lines they have no line feed. In words they begin a word that may hold a
 -- symbol, or there are none.
@@ -171,9 +171,11 @@ WritesSomeOfChunk placement mid_word given before after =
     (left : List ℕ) × WritesChunkUpTo placement mid_word given left false before after
 
 -- For all bytes `rest` it holds that a beginning of the filtered text of `given ++ rest` was written.
-abbrev pub WritesChunkFront : Placement → Bool → List ℕ → Option (List ℕ) → Option (List ℕ) → Type 0
-WritesChunkFront (Lines printing) mid_word given before after = WritesFilteredFront (Lines printing) given before after
-WritesChunkFront (Words options) mid_word given before after = WritesReplacedFront options mid_word given before after
+abbrev pub WritesChunkBeginning : Placement → Bool → List ℕ → Option (List ℕ) → Option (List ℕ) → Type 0
+WritesChunkBeginning (Lines printing) mid_word given before after =
+    WritesBeginningOfAny (Lines printing) given before after
+WritesChunkBeginning (Words options) mid_word given before after =
+    ReplacesBeginningOfAny options mid_word given before after
 
 -- The bytes `read` were read. They end in `left`, and the filtered text of those in front of `left` was written.
 -- `mid_word`: a word without a symbol continues after the written bytes. Then `left` is empty.
@@ -187,6 +189,6 @@ pub record CopiesUpTo (placement : Placement) (mid_word : Bool) (left : List ℕ
 -- The filtered text of all bytes that were read was written, except for the last ones, which may be kept (`AreKept`).
 abbrev pub WritesAllButKept : Placement → Option (List ℕ) → Option (List ℕ) → Option (List ℕ) → Option (List ℕ) → Type 0
 WritesAllButKept (Lines printing) before after written_before written_after =
-    FiltersLines (Lines printing) before after written_before written_after
+    FiltersAllButKept printing before after written_before written_after
 WritesAllButKept (Words options) before after written_before written_after =
     ReplacesAllButKept options before after written_before written_after

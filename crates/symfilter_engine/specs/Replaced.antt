@@ -1,4 +1,4 @@
--- The replaced text of a list of bytes: symbols that stand in words are replaced by their demangled names.
+-- The replaced text of a list of bytes: symbols in words are replaced by what is printed for them.
 use Rattle.std.specs.Prelude.{◌≡◌, ◌≢◌, ℕ, List, [], ◌∷◌, ◌++◌, All, Bool, false, ◌&&◌, ◌||◌, Option, Some, None, IsTrue, is_some, nat_lt, codes, length, take, drop, if◌then◌else◌}
 use Rattle.itanium_syntax.specs.Bytes.{is, is_between, is_digit, one_of, begins, begins_one_of}
 use Rattle.symfilter_engine.specs.declared.symbols.Replacement.{Replacement}
@@ -58,17 +58,17 @@ symbol_in strip word = symbol_at strip (past_prefix_chars word)
 
 -- a word without the dots at its end, and what is written for it
 pub data IsWordAnswer (options : Replacement) (word : List ℕ) : List ℕ → Type 0 where
-  -- its prefix characters stay, and its symbol has a demangled name
+  -- its prefix characters stay, and something is printed for its symbol
   answered : {symbol text : List ℕ}
       → symbol_in options.strip word ≡ Some symbol
       → IsPrintedAs options.printing symbol (Some text)
       → IsWordAnswer options word (prefix_chars word ++ text)
-  -- it stays, where its symbol has none
+  -- it stays, if nothing is printed for its symbol
   unanswered : {symbol : List ℕ}
       → symbol_in options.strip word ≡ Some symbol
       → IsPrintedAs options.printing symbol None
       → IsWordAnswer options word word
-  -- it stays, where it has no symbol
+  -- it stays, if it has no symbol
   no_symbol : symbol_in options.strip word ≡ None → IsWordAnswer options word word
 
 -- a word that begins with these bytes may hold a symbol: it begins with one, or there are fewer than ten bytes. No more

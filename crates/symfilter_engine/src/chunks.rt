@@ -3,8 +3,8 @@ ghost use Rattle.std.specs.Prelude.{◌≡◌, ◌<◌, ◌≤◌, true, false, 
 ghost use Rattle.std.specs.Io.KnownBytes.{Keeps};
 ghost use Rattle.symfilter_engine.specs.declared.symbols.Replacement.{Replacement};
 ghost use Rattle.symfilter_engine.specs.Fault.{IsRunOutcome, IsReadOutcome, IsWriteOutcome};
-ghost use Rattle.symfilter_engine.specs.Filtered.{FiltersFront, FiltersWhole, WritesFiltered};
-ghost use Rattle.symfilter_engine.specs.Progress.{AreKept, WritesChunkUpTo, ContinuesTo, ReadsMore, WritesAllButKept, WritesChunkFront, WritesSomeOfChunk};
+ghost use Rattle.symfilter_engine.specs.Filtered.{FiltersBeginning, FiltersWhole, WritesFiltered};
+ghost use Rattle.symfilter_engine.specs.Progress.{AreKept, WritesChunkUpTo, ContinuesTo, ReadsMore, WritesAllButKept, WritesChunkBeginning, WritesSomeOfChunk};
 
 use super::fault::FilterFault;
 use super::output::write_all;
@@ -36,7 +36,7 @@ pub(crate) fn filter_chunks<R: Source, W: Sink>(
     ensures used_up { OnOk result (IfSome (R.remaining source.old) (λ _. R.remaining source.new ≡ Some [])) }
     ensures ok { OnOk result (IfSome (R.remaining source.old) (λ given.
         WritesFiltered placement given (W.taken sink.old) (W.taken sink.new))) }
-    ensures err { OnErr result (FiltersFront placement
+    ensures err { OnErr result (FiltersBeginning placement
         (R.remaining source.old) (R.remaining source.new) (W.taken sink.old) (W.taken sink.new)) }
     ensures put { IsErrOf result FilterFault.Read → WritesAllButKept placement
         (R.remaining source.old) (R.remaining source.new) (W.taken sink.old) (W.taken sink.new) }
@@ -122,7 +122,8 @@ fn write_chunk<W: Sink>(
     ensures none { IfOk result (λ written. written.1 ≡ true → drop written.0 bytes.now ≡ []) }
     ensures ok { IfOk result (λ written. WritesChunkUpTo placement mid_word bytes.now
         (drop written.0 bytes.now) written.1 (W.taken sink.old) (W.taken sink.new)) }
-    ensures err { OnErr result (WritesChunkFront placement mid_word bytes.now (W.taken sink.old) (W.taken sink.new)) }
+    ensures err { OnErr result (WritesChunkBeginning placement mid_word bytes.now
+        (W.taken sink.old) (W.taken sink.new)) }
     ensures memory { IsErrOf result FilterFault.Memory →
         WritesSomeOfChunk placement mid_word bytes.now (W.taken sink.old) (W.taken sink.new) }
 {

@@ -1,7 +1,7 @@
 //! Finds the prefix of a symbol, `_Z`, in bytes.
 ghost use Rattle.std.specs.Prelude.{◌≡◌, ◌+◌, ◌≤◌, false, length, take, IfSome, IfNone};
 ghost use Rattle.symfilter_engine.specs.Replaced.{ends_word};
-ghost use Rattle.symfilter_engine.specs.Progress.{HasNoPrefix, IsFirstPrefix};
+ghost use Rattle.symfilter_engine.specs.Progress.{HasPrefixNowhere, IsFirstPrefix};
 
 use super::byte_search::first_place;
 use super::word_bounds::whole_words_len;
@@ -14,7 +14,7 @@ const PREFIX_END: u8 = b'Z';
 /// Returns the place of the first `_Z`, or `None` if there is none.
 pub(crate) fn first_prefix(bytes: &[u8]) -> Option<usize>
     ensures found { IfSome result (IsFirstPrefix bytes.now) }
-    ensures none { IfNone result (HasNoPrefix bytes.now) }
+    ensures none { IfNone result (HasPrefixNowhere bytes.now) }
 {
     let mut at = 0;
     while let Some(more) = first_place(&bytes[at..], PREFIX_END) {
@@ -31,7 +31,7 @@ pub(crate) fn first_prefix(bytes: &[u8]) -> Option<usize>
 pub(crate) fn ordinary_words_len(text: &[u8]) -> usize
     ensures bound { result ≤ length text.now }
     ensures whole { ends_word (take result text.now) ≡ false }
-    ensures unprefixed { HasNoPrefix (take result text.now) }
+    ensures unprefixed { HasPrefixNowhere (take result text.now) }
 {
     match first_prefix(text) {
         Some(place) => whole_words_len(&text[..place], 0),

@@ -10,7 +10,7 @@ ghost use Rattle.symfilter_engine.specs.Replaced.{ends_word};
 ghost use Rattle.symfilter_engine.specs.declared.symbols.Printing.{Printing};
 ghost use Rattle.symfilter_engine.specs.declared.symbols.Placement.TheVariants.{Lines, Words};
 ghost use Rattle.symfilter_engine.specs.Filtered.{HasNoLineFeed, EndsInLineFeed, AreWhole, IsLineAnswer, AreLinesAnswered, AreWholeFiltered, WritesFiltered, WritesBeginning};
-ghost use Rattle.symfilter_engine.specs.Progress.{AppendsFiltered, FiltersUpTo, WritesWholeFiltered, WritesFilteredFront, FiltersSome};
+ghost use Rattle.symfilter_engine.specs.Progress.{AppendsFiltered, FiltersUpTo, WritesWholeFiltered, WritesBeginningOfAny, FiltersSome};
 
 use super::byte_search::first_place;
 use super::fault::FilterFault;
@@ -265,7 +265,7 @@ fn write_next<W: Sink>(
     ensures bound { IfOk result (λ len. len ≤ length whole.now) }
     ensures ok { IfOk result (λ len. WritesWholeFiltered placement (take len whole.now)
         (W.taken sink.old) (W.taken sink.new)) }
-    ensures err { OnErr result (WritesFilteredFront placement whole.now (W.taken sink.old) (W.taken sink.new)) }
+    ensures err { OnErr result (WritesBeginningOfAny placement whole.now (W.taken sink.old) (W.taken sink.new)) }
     ensures memory { IsErrOf result FilterFault.Memory → Keeps (W.taken sink.old) (W.taken sink.new) }
 {
     let ordinary = ordinary_len(placement, whole);
@@ -294,7 +294,7 @@ pub(crate) fn write_whole<W: Sink>(
     ensures outcome { IsWriteOutcome result (W.failed sink.new) }
     ensures in_time { W.called_late sink.new ≡ W.called_late sink.old }
     ensures ok { OnOk result (FiltersUpTo placement whole.now [] (W.taken sink.old) (W.taken sink.new)) }
-    ensures err { OnErr result (WritesFilteredFront placement whole.now (W.taken sink.old) (W.taken sink.new)) }
+    ensures err { OnErr result (WritesBeginningOfAny placement whole.now (W.taken sink.old) (W.taken sink.new)) }
     ensures memory { IsErrOf result FilterFault.Memory →
         FiltersSome placement whole.now (W.taken sink.old) (W.taken sink.new) }
 {

@@ -3,7 +3,7 @@ use Rattle.std.proofs.lemmas.List.{length-take-le}
 use Rattle.std.proofs.lemmas.Result.{on_ok_weaker, on_err_weaker}
 use Rattle.std.proofs.lemmas.Grind.{common_steps}
 use Rattle.symfilter_engine.specs.Filtered.{WritesFiltered, WritesBeginning}
-use Rattle.symfilter_engine.specs.Progress.{AreKept, WritesChunkUpTo, WritesChunkFront, WritesSomeOfChunk}
+use Rattle.symfilter_engine.specs.Progress.{AreKept, WritesChunkUpTo, WritesChunkBeginning, WritesSomeOfChunk}
 use Rattle.symfilter_engine.proofs.ChunkBytes.{front_moved, none_moved}
 use Rattle.symfilter_engine.proofs.FilteredText.{at_fault}
 use Rattle.symfilter_engine.proofs.Copied.{run_read, run_written, run_last, none_read, at_end, none_whole, none_copied, none_kept, still_kept, kept_none, turn_copied, turn_fault, turn_refused, end_copied, read_fault, read_put, read_refused, last_copied, last_fault, last_refused}
@@ -52,7 +52,7 @@ pub returns-in_err-done-clause-err : goal.returns-in_err-done-clause-err
 returns-in_err-done-clause-err g c =
     let end = c.in_ok-end.end in
     at_fault _ (turn_fault c.args.placement c.chunks.mid_word _ end _ _ _ _ _ _ _ _ c.chunks.invariant.so_far c.in_ok-end.ensures.ok
-    (subst (λ l. WritesChunkFront c.args.placement c.chunks.mid_word (take end l) (g.W.Sink.taken c.chunks.sink) (g.W.Sink.taken c.write_chunk.new.sink)) c.deref-in-chunks.ensures.value c.in_err-done.ensures.err))
+    (subst (λ l. WritesChunkBeginning c.args.placement c.chunks.mid_word (take end l) (g.W.Sink.taken c.chunks.sink) (g.W.Sink.taken c.write_chunk.new.sink)) c.deref-in-chunks.ensures.value c.in_err-done.ensures.err))
 
 pub returns-in_err-done-clause-memory : goal.returns-in_err-done-clause-memory
 returns-in_err-done-clause-memory g c = λ refused.

@@ -5,7 +5,7 @@ use Rattle.std.specs.Prelude.{All}
 use Rattle.std.specs.Io.KnownBytes.{Appends}
 use Rattle.std.proofs.Common.{arith}
 use Rattle.std.proofs.lemmas.Grind.{common_steps}
-use Rattle.symfilter_engine.specs.Progress.{ReplacesUpTo, WritesChunkUpTo, WritesFront, WritesChunkFront, WritesSomeOfChunk}
+use Rattle.symfilter_engine.specs.Progress.{ReplacesUpTo, WritesChunkUpTo, WritesBeginningOf, WritesChunkBeginning, WritesSomeOfChunk}
 use Rattle.symfilter_engine.specs.Replaced.{IsWordByte, may_hold_symbol}
 use Rattle.symfilter_engine.proofs.FilteredText.{at_fault}
 use Rattle.symfilter_engine.proofs.Copied.{lines_front, lines_some, none_kept, words_before, words_passed, words_fault, words_refused}
@@ -23,7 +23,7 @@ returns-in_err-write_whole-in-Lines-clause-memory g c = λ refused.
 pub returns-in_err-write_all-in-Words-clause-err : goal.returns-in_err-write_all-in-Words-clause-err
 returns-in_err-write_all-in-Words-clause-err g c =
     let first = c.rest_of_word-first in
-    at_fault _ (subst (λ s. WritesChunkFront s c.args.mid_word c.args.bytes.now (g.W.Sink.taken c.args.sink.now) (g.W.Sink.taken c.write_all.new.sink)) (sym c.in-Words.is)
+    at_fault _ (subst (λ s. WritesChunkBeginning s c.args.mid_word c.args.bytes.now (g.W.Sink.taken c.args.sink.now) (g.W.Sink.taken c.write_all.new.sink)) (sym c.in-Words.is)
     (stay_front c.in-Words.options c.args.mid_word first.result.1 c.args.bytes.now _ first.result.0 _ _ (first.ensures.leads c.in-Words.options) refl c.in_err-write_all-in-Words.ensures.err))
 
 pub returns-then-goes_on-clause-ok : goal.returns-then-goes_on-clause-ok
@@ -43,7 +43,7 @@ returns-in_err-write_whole-in-Words-clause-err g c =
     let first = c.rest_of_word-first in
     let bytes = c.args.bytes.now in
     let rest : List ℕ = take (length bytes - first.result.0) (drop first.result.0 bytes) in
-    at_fault _ (subst (λ s. WritesChunkFront s c.args.mid_word bytes (g.W.Sink.taken c.args.sink.now) (g.W.Sink.taken c.write_whole-in-Words.new.sink)) (sym c.in-Words.is)
+    at_fault _ (subst (λ s. WritesChunkBeginning s c.args.mid_word bytes (g.W.Sink.taken c.args.sink.now) (g.W.Sink.taken c.write_whole-in-Words.new.sink)) (sym c.in-Words.is)
     (words_fault c.in-Words.options c.args.mid_word first.result.1 bytes rest first.result.0 c.whole_words_len-whole.result _ _ _ (first.ensures.leads c.in-Words.options) c.if-goes_on.false
     (take_rest bytes first.result.0) c.in_ok-write_all-in-Words.ensures.ok c.in_err-write_whole-in-Words.ensures.err))
 
@@ -78,12 +78,12 @@ returns-in_err-write_all-in-Words-2-clause-err g c =
     let same : take (length rest - whole) (drop whole rest) ≡ drop whole rest = take_rest rest whole in
     let plain : may_hold_symbol c.in-Words.options.strip (drop whole rest) ≡ false =
     ap (may_hold_symbol c.in-Words.options.strip) (sym same) ∙ sym c.may_hold_symbol.ensures.value ∙ c.if-may_hold_symbol.false in
-    at_fault _ (subst (λ s. WritesChunkFront s c.args.mid_word bytes (g.W.Sink.taken c.args.sink.now) (g.W.Sink.taken c.write_all-in-Words.new.sink)) (sym c.in-Words.is)
+    at_fault _ (subst (λ s. WritesChunkBeginning s c.args.mid_word bytes (g.W.Sink.taken c.args.sink.now) (g.W.Sink.taken c.write_all-in-Words.new.sink)) (sym c.in-Words.is)
     (front_after c.in-Words.options c.args.mid_word false bytes (drop whole rest) _ _ _
     (words_passed c.in-Words.options c.args.mid_word first.result.1 bytes rest n whole _ _ _ (first.ensures.leads c.in-Words.options) c.if-goes_on.false
     (take_rest bytes n) c.in_ok-write_all-in-Words.ensures.ok c.in_ok-write_whole-in-Words.ensures.ok)
     (word_front c.in-Words.options (drop whole rest) _ _ c.whole_words_len-whole.ensures.word plain
-    (subst (λ l. WritesFront l (g.W.Sink.taken c.write_whole-in-Words.new.sink) (g.W.Sink.taken c.write_all-in-Words.new.sink)) same c.in_err-write_all-in-Words-2.ensures.err))))
+    (subst (λ l. WritesBeginningOf l (g.W.Sink.taken c.write_whole-in-Words.new.sink) (g.W.Sink.taken c.write_all-in-Words.new.sink)) same c.in_err-write_all-in-Words-2.ensures.err))))
 
 pub returns-in_ok-write_all-in-Words-2-clause-kept : goal.returns-in_ok-write_all-in-Words-2-clause-kept
 returns-in_ok-write_all-in-Words-2-clause-kept g c = none_kept c.args.placement _ (drop-length c.args.bytes.now)

@@ -1,6 +1,6 @@
 use Rattle.std.proofs.Common.{arith, ◌∙◌}
 use Rattle.std.proofs.lemmas.Grind.{common_steps}
-use Rattle.symfilter_engine.proofs.WrittenFronts.{more_written}
+use Rattle.symfilter_engine.proofs.WrittenBeginnings.{more_written}
 use Rattle.symfilter_engine.proofs.output.write_all.Goals as goal
 
 pub loop-rest-preserved : goal.loop-rest-preserved

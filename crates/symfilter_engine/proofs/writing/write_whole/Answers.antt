@@ -5,7 +5,7 @@ use Rattle.std.specs.Prelude.{IsUtf8}
 use Rattle.std.proofs.lemmas.List.{take_rest}
 use Rattle.symfilter_engine.specs.Filtered.{AreWhole}
 use Rattle.symfilter_engine.specs.Progress.{FiltersUpTo}
-use Rattle.symfilter_engine.proofs.FilteredText.{at_fault, none_filtered, lines_filtered, next_unwritten, WritesFilteredFront-append}
+use Rattle.symfilter_engine.proofs.FilteredText.{at_fault, none_filtered, lines_filtered, next_unwritten, WritesBeginningOfAny-append}
 use Rattle.symfilter_engine.proofs.LineEnds.{whole_after, utf8_after}
 use Rattle.symfilter_engine.proofs.writing.write_whole.Goals as goal
 
@@ -20,7 +20,7 @@ loop-rest-init g c =
     }
 
 pub returns-in_err-len-clause-err : goal.returns-in_err-len-clause-err
-returns-in_err-len-clause-err g c = at_fault _ (WritesFilteredFront-append c.args.placement _ _ _ _ _ c.loop-rest.invariant.so_far c.in_err-len.ensures.err)
+returns-in_err-len-clause-err g c = at_fault _ (WritesBeginningOfAny-append c.args.placement _ _ _ _ _ c.loop-rest.invariant.so_far c.in_err-len.ensures.err)
 
 pub returns-in_err-len-clause-memory : goal.returns-in_err-len-clause-memory
 returns-in_err-len-clause-memory g c = λ refused.
