@@ -130,21 +130,21 @@ impl Demangler {
         self.buffer = Some(reader.buffer);
     }
 
-    /// Reads a symbol as a signature if `signature` is true, and as a name otherwise, and keeps the result. Returns
-    /// whether there is one.
+    /// Reads a symbol as a signature if `as_signature` is true, and as a name otherwise, and keeps the result. Returns
+    /// whether there is one. The field `signature` is false afterwards: `prepare_signature` sets it.
     #[tactic(auto, using(crate::proofs::Rules::answers))]
     #[inline(always)]
-    fn read(&mut self, alloc: Global, symbol: &str, signature: bool) -> Result<bool, AllocError>
-        ensures answer { IfOk result (λ _. IsAnswerOf signature symbol.now self.new.text) }
+    fn read(&mut self, alloc: Global, symbol: &str, as_signature: bool) -> Result<bool, AllocError>
+        ensures answer { IfOk result (λ _. IsAnswerOf as_signature symbol.now self.new.text) }
         ensures found { IfOk result (λ found. found ≡ is_some self.new.text) }
         ensures not_signature { self.new.signature ≡ false }
-        ensures counts { IfOk result (λ _. HasCountsOf signature symbol.now self.new.entered self.new.most_saved) }
-        ensures components { IfOk result (λ _. HasComponentsOf signature symbol.now self.new.text
+        ensures counts { IfOk result (λ _. HasCountsOf as_signature symbol.now self.new.entered self.new.most_saved) }
+        ensures components { IfOk result (λ _. HasComponentsOf as_signature symbol.now self.new.text
             self.new.components) }
-        ensures saved { IfOk result (λ _. HasSavedOf signature symbol.now self.new.text self.new.saved) }
+        ensures saved { IfOk result (λ _. HasSavedOf as_signature symbol.now self.new.text self.new.saved) }
         ensures bounds { IfOk result (λ _. HasBounds symbol.now self.new.entered self.new.most_saved) }
-        ensures longest { IfOk result (λ _. HasLengthOf signature symbol.now self.new.text) }
-        ensures one { HasAtMostOneReadingOf signature symbol.now }
+        ensures longest { IfOk result (λ _. HasLengthOf as_signature symbol.now self.new.text) }
+        ensures one { HasAtMostOneReadingOf as_signature symbol.now }
         ensures no_prefix { spec.after_prefix symbol.now ≡ None → (result ≡ Ok false) × (self.new ≡ no_result) }
         ensures err { OnErr result (self.new ≡ no_result) }
     {
@@ -168,7 +168,7 @@ impl Demangler {
             entered: 0,
             recorded_peak: 0,
         };
-        match read_mangled_name(&mut reader, MAX_DEPTH, signature) {
+        match read_mangled_name(&mut reader, MAX_DEPTH, as_signature) {
             Ok(()) => {}
             Err(Stop::Unreadable) => {
                 self.keep(reader, false);

@@ -16,12 +16,12 @@ keep-requires-2-clause-text c =
     let prefix : after_prefix c.args.symbol.now ≡ Some c.in-Some.inside.now = search rules in
     let starts = state_begun _ _ c.begin_answer-mark.ensures.saved c.begin_answer-mark.ensures.scopes in
     let read = reading_from_start _ _ _ _ _ _ starts (c.in-Ok.ensures {u = tt}).reading.1 in
-    let good = suffix_utf8 c.args.signature c.args.symbol.now c.in-Some.inside.now _ _ _ _ c.utf8.symbol prefix read in
+    let good = suffix_utf8 c.args.as_signature c.args.symbol.now c.in-Some.inside.now _ _ _ _ c.utf8.symbol prefix read in
     kept_text _ _ c.end_answer.new.reader.buffer c.in_ok-answered.answered (c.in_ok-answered.ensures {u = tt}).answer good
 
 -- the reading that was found
 found : (c : goal.After-keep-2)
-    → HasReading (Mangled c.args.signature (start c.in-Some.inside.now)) shape_of max_depth 0 0
+    → HasReading (Mangled c.args.as_signature (start c.in-Some.inside.now)) shape_of max_depth 0 0
     (shape c.read_mangled_name.new.reader.buffer.value c.read_mangled_name.new.reader.found) (state c.read_mangled_name.new.reader)
 found c =
     let starts = state_begun _ _ c.begin_answer-mark.ensures.saved c.begin_answer-mark.ensures.scopes in
@@ -30,11 +30,11 @@ found c =
 pub returns-clause-answer : goal.returns-clause-answer
 returns-clause-answer c =
     let prefix : after_prefix c.args.symbol.now ≡ Some c.in-Some.inside.now = search rules in
-    rw c.keep-2.ensures.text (printed c.args.signature c.args.symbol.now c.in-Some.inside.now _ _ _ _ _ prefix (found c) (c.in_ok-answered.ensures {u = tt}).answer)
+    rw c.keep-2.ensures.text (printed c.args.as_signature c.args.symbol.now c.in-Some.inside.now _ _ _ _ _ prefix (found c) (c.in_ok-answered.ensures {u = tt}).answer)
 
 -- and so long it is at most
 pub returns-clause-longest : goal.returns-clause-longest
-returns-clause-longest c = answer_length c.args.signature c.args.symbol.now _ (returns-clause-answer c)
+returns-clause-longest c = answer_length c.args.as_signature c.args.symbol.now _ (returns-clause-answer c)
 
 -- the counts are those that the reader has kept
 pub returns-clause-counts : goal.returns-clause-counts
@@ -42,7 +42,7 @@ returns-clause-counts c =
     let prefix : after_prefix c.args.symbol.now ≡ Some c.in-Some.inside.now = search rules in
     let kept = c.keep-2.ensures in
     let ended = c.in_ok-answered.ensures {u = tt} in
-    rw (kept.entered, kept.most_saved, ended.entered, ended.most_saved) (counted c.args.signature c.args.symbol.now c.in-Some.inside.now _ _ prefix (found c))
+    rw (kept.entered, kept.most_saved, ended.entered, ended.most_saved) (counted c.args.as_signature c.args.symbol.now c.in-Some.inside.now _ _ prefix (found c))
 
 -- and so are the components
 pub returns-clause-components : goal.returns-clause-components
@@ -50,7 +50,7 @@ returns-clause-components c =
     let prefix : after_prefix c.args.symbol.now ≡ Some c.in-Some.inside.now = search rules in
     let kept = c.keep-2.ensures in
     let ended = c.in_ok-answered.ensures {u = tt} in
-    rw (kept.text, kept.components) (kept_components c.args.signature c.args.symbol.now c.in-Some.inside.now _ _ _
+    rw (kept.text, kept.components) (kept_components c.args.as_signature c.args.symbol.now c.in-Some.inside.now _ _ _
     (state c.read_mangled_name.new.reader) c.end_answer.new.reader.buffer c.in_ok-answered.answered prefix (found c) ended.saved)
 
 -- and their shapes
@@ -59,7 +59,7 @@ returns-clause-saved c =
     let prefix : after_prefix c.args.symbol.now ≡ Some c.in-Some.inside.now = search rules in
     let kept = c.keep-2.ensures in
     let ended = c.in_ok-answered.ensures {u = tt} in
-    rw (kept.text, kept.saved) (kept_shapes c.args.signature c.args.symbol.now c.in-Some.inside.now _ _ _
+    rw (kept.text, kept.saved) (kept_shapes c.args.as_signature c.args.symbol.now c.in-Some.inside.now _ _ _
     (state c.read_mangled_name.new.reader) c.end_answer.new.reader.buffer c.in_ok-answered.answered prefix (found c) ended.saved)
 
 pub returns-in-Err-Unreadable-clause-one : goal.returns-in-Err-Unreadable-clause-one
