@@ -6,7 +6,7 @@ ghost use Rattle.cosvigle.specs.Arguments.{IsArgumentAnswer};
 use itanium_demangle::{Demangler, is_utf8};
 use std::alloc::{AllocError, Global};
 use std::str;
-use symfilter_engine::{Replacement, prepare_for};
+use symfilter_engine::{ReplaceOptions, prepare_for};
 
 /// Returns how many bytes are in front of the symbol in an argument: 6 for `__imp_`, and otherwise 0. They are printed
 /// unchanged.
@@ -46,7 +46,7 @@ pub struct Printed<'a> {
 pub fn answer_of<'a>(
     alloc: Global,
     demangler: &'a mut Demangler,
-    options: Replacement,
+    options: ReplaceOptions,
     argument: &'a [u8],
 ) -> Result<Printed<'a>, AllocError>
     ensures answer { IfOk result (λ printed.

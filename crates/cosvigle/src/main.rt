@@ -30,7 +30,7 @@ use std::env::{Env, FillError};
 use std::io::{ErrorKind, Read, Stdout, Write};
 use std::process::ExitCode;
 use std::{fs, str};
-use symfilter_engine::{FilterFault, Replacement, Tally, filter_with, replace};
+use symfilter_engine::{FilterFault, ReplaceOptions, Tally, filter_with, replace};
 
 /// The exit status if the arguments can't be read, and nothing is done.
 const USAGE_ERROR: u8 = 2;
@@ -53,11 +53,11 @@ fn put(output: &mut Output<Stdout>, bytes: &[u8]) -> Result<(), FilterFault> {
 }
 
 /// Returns how the flags say that symbols are replaced.
-fn replacement(flags: Flags) -> Replacement
+fn replacement(flags: Flags) -> ReplaceOptions
     ensures strip { result.strip ≡ flags.strip }
     ensures printing { result.printing ≡ flags.printing }
 {
-    Replacement {
+    ReplaceOptions {
         strip: flags.strip,
         printing: flags.printing,
     }

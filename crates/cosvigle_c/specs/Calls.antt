@@ -3,7 +3,7 @@ use Rattle.std.specs.Prelude.{ℕ, List, Bool, Option, Some}
 use Rattle.itanium_grammar.specs.Answer.{IsAnswer, IsSignatureOrName}
 use Rattle.symfilter_engine.specs.declared.symbols.Printing.{Printing}
 use Rattle.symfilter_engine.specs.declared.symbols.Printing.TheVariants.{Names, Signatures}
-use Rattle.symfilter_engine.specs.declared.symbols.Replacement.{Replacement}
+use Rattle.symfilter_engine.specs.declared.symbols.ReplaceOptions.{ReplaceOptions}
 use Rattle.symfilter_engine.specs.Filtered.{IsAnswered}
 use Rattle.symfilter_engine.specs.Replaced.{IsReplaced}
 use Rattle.cosvigle_c.specs.Capacity.{Fills, IsShort}
@@ -14,7 +14,7 @@ IsNameOrSignature Names symbol answer = IsAnswer symbol answer
 IsNameOrSignature Signatures symbol answer = (signature : Bool) × IsSignatureOrName signature symbol answer
 
 -- symbols in words are replaced by their demangled names
-abbrev pub by_names : Bool → Replacement
+abbrev pub by_names : Bool → ReplaceOptions
 by_names strip = record { strip = strip; printing = Names }
 
 -- what was asked of the symbol is written

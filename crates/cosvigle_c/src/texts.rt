@@ -13,7 +13,9 @@ use crate::kept::Kept;
 use crate::status::{NO_ANSWER, NO_MEMORY, NO_ROOM, WRITTEN, hand_out};
 use std::alloc::{AllocError, Global};
 use std::mem;
-use symfilter_engine::{Failed, FilterFault, Printing, Replacement, Sink, Tally, filter, replace};
+use symfilter_engine::{
+    Failed, FilterFault, Printing, ReplaceOptions, Sink, Tally, filter, replace,
+};
 
 /// A sink in memory. A call fails if an allocation fails.
 #[derive(Drop)]
@@ -65,7 +67,7 @@ fn replaced(alloc: Global, strip: bool, bytes: &[u8]) -> Result<Vec<u8>, FilterF
         text: Vec::new(alloc),
         failed: false,
     };
-    let options = Replacement {
+    let options = ReplaceOptions {
         strip,
         printing: Printing::Names,
     };

@@ -2,10 +2,10 @@
 ghost use Rattle.std.specs.Prelude.{◌≡◌, false};
 
 use std::alloc::Global;
-use symfilter_engine::{FilterFault, Printing, Replacement, Sink, Source, filter, replace};
+use symfilter_engine::{FilterFault, Printing, ReplaceOptions, Sink, Source, filter, replace};
 
 /// Symbols in words are replaced by their names.
-const IN_WORDS: Replacement = Replacement {
+const IN_WORDS: ReplaceOptions = ReplaceOptions {
     strip: false,
     printing: Printing::Names,
 };

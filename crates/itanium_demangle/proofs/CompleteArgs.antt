@@ -14,7 +14,7 @@ use Rattle.itanium_grammar.proofs.Progress.{argument_takes}
 use Rattle.itanium_grammar.proofs.Scopes.{argument_keeps}
 use Rattle.itanium_grammar.specs.Cases.{ArgumentListCase}
 use Rattle.itanium_reader.specs.Parser.{after_turn, loop, add_argument, add_nowhere, ◌>>=◌, parse_argument}
-use Rattle.itanium_reader.specs.Parser.{parse_primary, parse_encoding, parse_special, parse_name, next_item, list_as}
+use Rattle.itanium_reader.specs.Parser.{parse_primary, parse_encoding, parse_special, parse_name, next_item, argument_list_as}
 use Rattle.itanium_reader.specs.Parser.{list_turn, parse_list, parse_packed, parse_args, parse_pack}
 use Rattle.itanium_demangle.specs.Meaning.{state_at}
 use Rattle.itanium_demangle.proofs.Shapes.{same_read, IsInside, add_argument-scopes, open_scope_if-scopes, open_scope_if-inside, inside_more, shape-pack_of}
@@ -47,7 +47,7 @@ module _ (d : ℕ) (each : ArgumentsComplete d) where
   arguments_as_met : (n : ℕ) → TurnsMet d n → {case : ArgumentListCase} {x : Context} {o : Bool} {k : ℕ} {outer : List (List Tree)} {own : Option (List Tree)} {p q : Position} {list : List Tree} {c : Cost}
       → ArgumentListAs case x outer own p list q c → IsInside o k outer own → Small d c
       → (e m : ℕ) (first : Bool) (front : Shape) → length p.rest < suc n
-      → Met text_len (list_as case (add_argument o k) (parse_argument d x) (first, front) (state_at (within_list outer own p) e m)
+      → Met text_len (argument_list_as case (add_argument o k) (parse_argument d x) (first, front) (state_at (within_list outer own p) e m)
       >>= λ r. after_turn r.0 (loop (list_turn (add_argument o k) (parse_argument d x)) n) r.1)
       (reached (λ us. listed_each first front (map shape_of us)) list q c e m)
   arguments_as_met n again end_of_arguments inside deep e m first front enough = met (same_read refl refl refl (omega arith) (omega arith))
@@ -68,7 +68,7 @@ module _ (d : ℕ) (each : ArgumentsComplete d) where
 
   packed_as_met : (n : ℕ) → PackedMet d n → {case : ArgumentListCase} {x : Context} {p q : Position} {list : List Tree} {c : Cost} → PackedAs case x p list q c → Small d c
       → (e m : ℕ) (first : Bool) (front : Shape) → length p.rest < suc n
-      → Met text_len (list_as case add_nowhere (parse_argument d x) (first, front) (state_at p e m)
+      → Met text_len (argument_list_as case add_nowhere (parse_argument d x) (first, front) (state_at p e m)
       >>= λ r. after_turn r.0 (loop (list_turn add_nowhere (parse_argument d x)) n) r.1)
       (reached (λ us. listed_each first front (map shape_of us)) list q c e m)
   packed_as_met n again end_of_pack deep e m first front enough = met (same_read refl refl refl (omega arith) (omega arith))

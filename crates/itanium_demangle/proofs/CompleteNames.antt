@@ -42,7 +42,7 @@ use Rattle.itanium_reader.specs.Parser.{ParserState, after_turn, loop, ◌>>=◌
 use Rattle.itanium_reader.specs.Parser.{parse_ordinary, parse_type, substitution_as, parse_substitution, template_param_as}
 use Rattle.itanium_reader.specs.Parser.{parse_template_param, unqualified_as, parse_unqualified, first_as, attached_by}
 use Rattle.itanium_reader.specs.Parser.{attached_as, unscoped_as, segment_as, segment_turn, parse_nested, return_as}
-use Rattle.itanium_reader.specs.Parser.{signature_as, special_as, parse_special, encoding_by, thunk_by, at_symbol_end}
+use Rattle.itanium_reader.specs.Parser.{encoding_params_as, special_as, parse_special, encoding_by, thunk_by, at_symbol_end}
 use Rattle.itanium_reader.specs.Parser.{parse_thunk, encoding_as, parse_encoding, entity_as, parse_local, name_as}
 use Rattle.itanium_reader.specs.Parser.{parse_bare_name, parse_name, parse_args}
 use Rattle.itanium_demangle.specs.Meaning.{state_at}
@@ -215,7 +215,7 @@ return_complete d kinds (some_return_type a) deep e m = rw (kinds _ _ _ _ _ a de
 
 -- the parameters of an encoding
 signature_met : (d : ℕ) → TypesComplete d → {case : EncodingParamsCase} {end : EncodingEnd} {x : Context} {t u : Tree} {p q : Position} {c : Cost} → EncodingParamsAs case end x t p u q c → Small d c → (e m : ℕ)
-    → Met text_len (signature_as case end (parse_type d (inside_params end x)) (bare_of t) (state_at p e m)) (reached shape_of u q c e m)
+    → Met text_len (encoding_params_as case end (parse_type d (inside_params end x)) (bare_of t) (state_at p e m)) (reached shape_of u q c e m)
 signature_met d kinds (no_encoding_params {t = t}) deep e m = met (same_read (sym (shape-encoding_of t)) refl refl (omega arith) (omega arith))
 signature_met d kinds (some_encoding_params {end = end} {t = t} {ts = ts} params) deep e m =
     let list = listed_each true (params_opened (bare_shape t)) (map shape_of ts) in

@@ -17,7 +17,7 @@ use Rattle.itanium_grammar.specs.Cases.{ArgumentListCase, EndOfArguments, NextAr
 use Rattle.itanium_reader.specs.Parser as parser
 use Rattle.itanium_reader.specs.Parser.{ParserState, Turn, after_turn, loop, parse_loop, add_nowhere, ◌>>=◌}
 use Rattle.itanium_reader.specs.Parser.{parse_argument, parse_primary, parse_encoding, parse_special, parse_name}
-use Rattle.itanium_reader.specs.Parser.{next_item, list_as, list_turn, parse_list, parse_packed, parse_args, parse_pack}
+use Rattle.itanium_reader.specs.Parser.{next_item, argument_list_as, list_turn, parse_list, parse_packed, parse_args, parse_pack}
 use Rattle.itanium_demangle.specs.Meaning.{state_at}
 use Rattle.itanium_demangle.proofs.Shapes.{IsInside, add_argument-scopes, open_scope_if-scopes, open_scope_if-inside, inside_more}
 use Rattle.itanium_demangle.proofs.Fitting.{met_passed, past_fitting}
@@ -40,13 +40,13 @@ PackedSound d n = (x : Context) (first : Bool) (front : Shape) (p : Position) (e
 module _ (d : ℕ) (each : ArgumentsSound d) where
   arguments_as_sound : (n : ℕ) → TurnsSound d n → (case : ArgumentListCase) (x : Context) (o : Bool) (k : ℕ) (outer : List (List Tree)) (own : Option (List Tree)) (first : Bool) (front : Shape) (p : Position) (e m : ℕ) (y : Shape × ParserState)
       → IsInside o k outer own → length p.rest < suc n
-      → (list_as case (parser.add_argument o k) (parse_argument d x) (first, front) (state_at (within_list outer own p) e m)
+      → (argument_list_as case (parser.add_argument o k) (parse_argument d x) (first, front) (state_at (within_list outer own p) e m)
       >>= λ r. after_turn r.0 (loop (list_turn (parser.add_argument o k) (parse_argument d x)) n) r.1) ≡ Some y
       → Within (ArgumentListAs case x outer own p) d
   arguments_as_sound n again EndOfArguments x o k outer own first front p e m y inside enough is = record { tree = _; next = _; cost = _; reading = end_of_arguments; deep = omega arith }
   arguments_as_sound n again NextArgument x o k outer own first front p e m y inside enough is =
       let here = within_list outer own p in
-      option_and_then_some _ (list_as NextArgument (parser.add_argument o k) (parse_argument d x) (first, front) (state_at here e m)) y is (λ v turned rest.
+      option_and_then_some _ (argument_list_as NextArgument (parser.add_argument o k) (parse_argument d x) (first, front) (state_at here e m)) y is (λ v turned rest.
       option_and_then_some _ (parse_argument d x (state_at here e m)) v turned (λ z arg made.
       let found = each x here e m z arg in
       let i = found.within in
@@ -70,12 +70,12 @@ module _ (d : ℕ) (each : ArgumentsSound d) where
 
   packed_as_sound : (n : ℕ) → PackedSound d n → (case : ArgumentListCase) (x : Context) (first : Bool) (front : Shape) (p : Position) (e m : ℕ) (y : Shape × ParserState)
       → length p.rest < suc n
-      → (list_as case add_nowhere (parse_argument d x) (first, front) (state_at p e m)
+      → (argument_list_as case add_nowhere (parse_argument d x) (first, front) (state_at p e m)
       >>= λ r. after_turn r.0 (loop (list_turn add_nowhere (parse_argument d x)) n) r.1) ≡ Some y
       → Within (PackedAs case x p) d
   packed_as_sound n again EndOfArguments x first front p e m y enough is = record { tree = _; next = _; cost = _; reading = end_of_pack; deep = omega arith }
   packed_as_sound n again NextArgument x first front p e m y enough is =
-      option_and_then_some _ (list_as NextArgument add_nowhere (parse_argument d x) (first, front) (state_at p e m)) y is (λ v turned rest.
+      option_and_then_some _ (argument_list_as NextArgument add_nowhere (parse_argument d x) (first, front) (state_at p e m)) y is (λ v turned rest.
       option_and_then_some _ (parse_argument d x (state_at p e m)) v turned (λ z arg made.
       let found = each x p e m z arg in
       let i = found.within in

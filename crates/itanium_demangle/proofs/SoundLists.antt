@@ -9,7 +9,7 @@ use Rattle.itanium_grammar.specs.Tree.{shape_of}
 use Rattle.itanium_grammar.specs.Grammar.{Position, ParamsAs, TypeListAs, no_params, some_params, end_of_types, one_more_type}
 use Rattle.itanium_grammar.proofs.Progress.{type_takes}
 use Rattle.itanium_grammar.specs.Cases.{EncodingEnd, ParamsCase, NoParams, SomeParams, TypeListCase, EndOfTypes, NextType}
-use Rattle.itanium_reader.specs.Parser.{ParserState, after_turn, loop, ◌>>=◌, next_item, typed_as, typed_turn, typed_params_as, parse_type}
+use Rattle.itanium_reader.specs.Parser.{ParserState, after_turn, loop, ◌>>=◌, next_item, type_list_as, typed_turn, params_as, parse_type}
 use Rattle.itanium_demangle.specs.Meaning.{state_at}
 use Rattle.itanium_demangle.proofs.Fitting.{met_is, past_fitting}
 use Rattle.itanium_demangle.proofs.Readings.{Within, Found, TypesSound, TypesComplete}
@@ -22,11 +22,11 @@ TypedSound d end in_function_type n = (x : Context) (first : Bool) (front : Shap
 
 module _ (end : EncodingEnd) (in_function_type : Bool) (d : ℕ) (complete : TypesComplete d) (kinds : TypesSound d) where
   typed_as_sound : (n : ℕ) → TypedSound d end in_function_type n → (case : TypeListCase) (x : Context) (first : Bool) (front : Shape) (p : Position) (e m : ℕ) (y : Shape × ParserState) → length p.rest < suc n
-      → (typed_as case (parse_type d x) (first, front) (state_at p e m) >>= λ r. after_turn r.0
+      → (type_list_as case (parse_type d x) (first, front) (state_at p e m) >>= λ r. after_turn r.0
       (loop (typed_turn end in_function_type (parse_type d x)) n) r.1) ≡ Some y → Within (TypeListAs case end in_function_type x p) d
   typed_as_sound n again EndOfTypes x first front p e m y enough is = record { tree = _; next = _; cost = _; reading = end_of_types; deep = omega arith }
   typed_as_sound n again NextType x first front p e m y enough is =
-      option_and_then_some _ (typed_as NextType (parse_type d x) (first, front) (state_at p e m)) y is (λ v turned rest.
+      option_and_then_some _ (type_list_as NextType (parse_type d x) (first, front) (state_at p e m)) y is (λ v turned rest.
       option_and_then_some _ (parse_type d x (state_at p e m)) v turned (λ z read made.
       let found = kinds x p e m z read in
       let i = found.within in
@@ -43,7 +43,7 @@ module _ (end : EncodingEnd) (in_function_type : Bool) (d : ℕ) (complete : Typ
 
   -- parameters, and the answer y is their list
   pub typed_params_sound : (case : ParamsCase) (x : Context) (front : Shape) (p : Position) (e m : ℕ) (y : Shape × ParserState)
-      → typed_params_as case end in_function_type (parse_type d x) front (state_at p e m) ≡ Some y → Found (ParamsAs case end in_function_type x p) (λ ts. listed_each true front (map shape_of ts)) d e m y
+      → params_as case end in_function_type (parse_type d x) front (state_at p e m) ≡ Some y → Found (ParamsAs case end in_function_type x p) (λ ts. listed_each true front (map shape_of ts)) d e m y
   typed_params_sound NoParams x front p e m y is =
       let w : Within (ParamsAs NoParams end in_function_type x p) d = record { tree = _; next = _; cost = _; reading = no_params; deep = omega arith } in
       record { within = w; is = met_is (typed_params_met end in_function_type d complete w.reading w.deep e m front) is }

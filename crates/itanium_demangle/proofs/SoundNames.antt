@@ -46,10 +46,10 @@ use Rattle.itanium_grammar.specs.Cases.{UnscopedCase, StdName, SubstitutionName,
 use Rattle.itanium_grammar.specs.Cases.{ArgsAttached, SegmentCase, EndOfSegments, ArgsSegment, NameSegment}
 use Rattle.itanium_reader.specs.Parser.{ParserState, after_turn, loop, ◌>>=◌, next_segment, substitution_as}
 use Rattle.itanium_reader.specs.Parser.{parse_substitution, template_param_as, parse_template_param, tag_as, tag_turn, parse_tags}
-use Rattle.itanium_reader.specs.Parser.{typed_params_as, ordinary_as, parse_ordinary, ctor_dtor_as, unqualified_as}
+use Rattle.itanium_reader.specs.Parser.{params_as, ordinary_as, parse_ordinary, ctor_dtor_as, unqualified_as}
 use Rattle.itanium_reader.specs.Parser.{parse_unqualified, first_as, fitting, attached_by, attached_as, template_as}
 use Rattle.itanium_reader.specs.Parser.{unscoped_as, segment_as, segment_turn, parse_segments, parse_nested, return_as}
-use Rattle.itanium_reader.specs.Parser.{signature_as, special_as, parse_special, encoding_by, thunk_by, at_symbol_end}
+use Rattle.itanium_reader.specs.Parser.{encoding_params_as, special_as, parse_special, encoding_by, thunk_by, at_symbol_end}
 use Rattle.itanium_reader.specs.Parser.{parse_thunk, encoding_as, parse_encoding, entity_as, parse_local, name_as}
 use Rattle.itanium_reader.specs.Parser.{parse_bare_name, parse_name, parse_args, parse_type}
 use Rattle.itanium_demangle.specs.Meaning.{state_at}
@@ -188,7 +188,7 @@ module _ (d : ℕ) (complete : TypesComplete d) (lists_are : ArgsComplete d) (ki
       let w : Within (OrdinaryAs UnnamedTypeName x p) d = record { tree = _; next = _; cost = _; reading = ordinary_unnamed_type found; deep = omega arith } in
       record { within = w; is = met_is (ordinary_met d lists_are complete w.reading w.deep e m) is })
   ordinary_sound LambdaName x p e m y is =
-      option_and_then_some _ (typed_params_as (params_case AtE (drop 2 p.rest)) AtE false (parse_type d (inside_lambda x)) (plain_shape (codes "{lambda(")) (state_at (skip 2 p) e m)) y is (λ z params ends.
+      option_and_then_some _ (params_as (params_case AtE (drop 2 p.rest)) AtE false (parse_type d (inside_lambda x)) (plain_shape (codes "{lambda(")) (state_at (skip 2 p) e m)) y is (λ z params ends.
       let listed = typed_params_sound AtE false d complete kinds (params_case AtE (drop 2 p.rest)) (inside_lambda x) (plain_shape (codes "{lambda(")) (skip 2 p) e m z params in
       let o = listed.within in
       let there = rw listed.is at ends in
@@ -396,10 +396,10 @@ return_sound d kinds SomeReturnType x p e m after is =
     record { next = i.next; cost = i.cost; reading = some_return_type i.reading; deep = i.deep; is = sym (same_Some _ _ left) ∙ ap (λ (y : Shape × ParserState). y.1) found.is })
 
 signature_sound : (d : ℕ) → TypesComplete d → TypesSound d → (case : EncodingParamsCase) (end : EncodingEnd) (x : Context) (t : Tree) (p : Position) (e m : ℕ) (y : Shape × ParserState)
-    → signature_as case end (parse_type d (inside_params end x)) (bare_of t) (state_at p e m) ≡ Some y → Within (EncodingParamsAs case end x t p) d
+    → encoding_params_as case end (parse_type d (inside_params end x)) (bare_of t) (state_at p e m) ≡ Some y → Within (EncodingParamsAs case end x t p) d
 signature_sound d complete kinds NoEncodingParams end x t p e m y is = record { tree = _; next = _; cost = _; reading = no_encoding_params; deep = omega arith }
 signature_sound d complete kinds SomeEncodingParams end x t p e m y is =
-    option_and_then_some _ (typed_params_as (params_case end p.rest) end false (parse_type d (inside_params end x)) (params_opened (bare_shape t)) (state_at p e m)) y is (λ z params _.
+    option_and_then_some _ (params_as (params_case end p.rest) end false (parse_type d (inside_params end x)) (params_opened (bare_shape t)) (state_at p e m)) y is (λ z params _.
     let i = (typed_params_sound end false d complete kinds (params_case end p.rest) (inside_params end x) (params_opened (bare_shape t)) p e m z params).within in
     record { tree = _; next = _; cost = _; reading = some_encoding_params i.reading; deep = i.deep })
 

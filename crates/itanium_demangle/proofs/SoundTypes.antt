@@ -24,7 +24,7 @@ use Rattle.itanium_grammar.specs.Cases.{SubstitutionType, UnreadableType, NameTy
 use Rattle.itanium_grammar.specs.Cases.{FunctionCase, ExternFunction, PlainFunction, AttachedCase, NoneAttached}
 use Rattle.itanium_grammar.specs.Cases.{ArgsAttached}
 use Rattle.itanium_reader.specs.Parser.{ParserState, parse_source, parse_template_param, saved_template_param, parse_substitution}
-use Rattle.itanium_reader.specs.Parser.{attached_by, type_attached_as, typed_params_as, function_as, parse_function}
+use Rattle.itanium_reader.specs.Parser.{attached_by, type_attached_as, params_as, function_as, parse_function}
 use Rattle.itanium_reader.specs.Parser.{cv_as, vendor_as, type_as, parse_name, parse_args, parse_type}
 use Rattle.itanium_demangle.specs.Meaning.{state_at}
 use Rattle.itanium_demangle.proofs.Shapes.{one_more}
@@ -66,7 +66,7 @@ module _ (d : ℕ) (complete : TypesComplete d) (kinds : TypesSound d) where
       let i = found.within in
       let there = rw found.is at more in
       option_and_then_some _ (opening_step (shape_of i.tree)) y there (λ opened begun follows.
-      option_and_then_some _ (typed_params_as (params_case AtE i.next.rest) AtE true (parse_type d x) opened (state_at i.next (e + i.cost.count) (max m i.cost.peak))) y follows (λ v params _.
+      option_and_then_some _ (params_as (params_case AtE i.next.rest) AtE true (parse_type d x) opened (state_at i.next (e + i.cost.count) (max m i.cost.peak))) y follows (λ v params _.
       let o = (typed_params_sound AtE true d complete kinds (params_case AtE i.next.rest) x opened i.next (e + i.cost.count) (max m i.cost.peak) v params).within in
       let plain = plain_sound (shape_of i.tree) opened begun in
       record { tree = _; next = _; cost = _; reading = function case i.reading o.reading plain; deep = omega (arith, i.deep, o.deep) })))

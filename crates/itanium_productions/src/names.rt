@@ -241,17 +241,18 @@ pub(crate) fn read_nested_name(reader: &mut Reader, depth: usize, context: Conte
     Ok(())
 }
 
-/// Reads `<prefix> E`. Before each further segment the prefix that was read so far is saved as a component, unless it
-/// is a single `St` or `<substitution>`. The whole isn't saved: in the ABI the last segment is outside of the
-/// `<prefix>`. The grammar says the same in another way: it saves after each segment, and removes the last component
-/// at the `E`. `candidate` says whether the prefix in `found` is to be saved if a segment follows. Most segments are
-/// `<source-name>`s, so the loop tests that case first.
+/// Reads all segments of a `<nested-name>`, and its `E`. Before each further segment, what was read so far is saved as
+/// a component, unless it is a single `St` or `<substitution>`. `candidate` says whether it is to be saved then. The
+/// whole isn't saved: in the ABI the last segment is outside of the `<prefix>`. The grammar says the same in another
+/// way: it saves after each segment, and removes the last component at the `E`. In `N1A1B1CE` both save `A` and
+/// `A::B`, and the grammar also saves `A::B::C` and removes it again. Most segments are `<source-name>`s, so the loop
+/// tests that case first.
 #[tactic(auto, using(itanium_reader::proofs::Rules::segments))]
 #[cycle(reader)]
 #[inline(always)]
 pub(crate) fn read_prefix(reader: &mut Reader, depth: usize, context: Context) -> ReadResult
     requires count_fits { CountFits 2 (state reader.old) }
-    ensures reads { Gives result reader.new (spec.parse_after_quals
+    ensures reads { Gives result reader.new (spec.parse_prefix
         (spec.unqualified_name depth context) (spec.parse_args depth context true) context (state reader.old)) }
     ensures run { OnOk result (IsRun reader.old.buffer.value reader.new.buffer.value) }
     ensures bounds { TakesSome 1 result (state reader.old) (state reader.new) }

@@ -300,7 +300,7 @@ pub(crate) fn read_params(
 ) -> ReadResult
     requires count_fits { CountFits 2 (state reader.old) }
     requires living { IsLiving reader.old.buffer.value list }
-    ensures reads { Gives result reader.new (spec.typed_params_as (params_case end reader.old.rest.now) end
+    ensures reads { Gives result reader.new (spec.params_as (params_case end reader.old.rest.now) end
         in_function_type (spec.parse_type depth context) (shape reader.old.buffer.value list) (state reader.old)) }
     ensures run { OnOk result (IsRun reader.old.buffer.value reader.new.buffer.value) }
     ensures bounds { MayTakeNone 2 result (state reader.old) (state reader.new) }

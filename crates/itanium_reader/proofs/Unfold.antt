@@ -35,7 +35,7 @@ use Rattle.itanium_reader.specs.Parser.{past_initializer, substitution_as, parse
 use Rattle.itanium_reader.specs.Parser.{template_param_as, parse_template_param, tag_turn, unqualified_as, parse_unqualified}
 use Rattle.itanium_reader.specs.Parser.{ordinary_as, untagged_as, in_parent, parse_tags, parse_source, parse_source_in}
 use Rattle.itanium_reader.specs.Parser.{goes_on, first_as, loop, after_turn, tag_as}
-use Rattle.itanium_reader.specs.Parser.{parse_segments, parse_after_quals, with_quals, parse_nested}
+use Rattle.itanium_reader.specs.Parser.{parse_segments, parse_prefix, with_quals, parse_nested}
 use Rattle.itanium_reader.specs.Parser.{name_as, qualified_by, parse_bare_name, parse_name, encoding_as, parse_encoding}
 use Rattle.itanium_reader.specs.Parser.{entity_as, parse_local, primary_by, parse_primary, special_by, parse_special}
 use Rattle.itanium_reader.specs.Parser.{thunk_words, thunk_front, thunk_by, parse_thunk, expression_as, parse_expression, parse_argument}
@@ -340,7 +340,7 @@ no_signature x s = refl
 
 -- the qualifiers of a <nested-name> are read in front of the rest
 pub nested_opens : (unqualified : ParsesName) (args : Parses Shape) (x : Context) (s : ParserState) → parse_nested unqualified args x s
-    ≡ (parse_after_quals unqualified args x (with_rest (past_name_quals s.rest) s) >>= with_quals (name_quals s.rest))
+    ≡ (parse_prefix unqualified args x (with_rest (past_name_quals s.rest) s) >>= with_quals (name_quals s.rest))
 unfolding parse_nested
 nested_opens unqualified args x s = then_named (first_as (first_case (past_name_quals s.rest)) unqualified x (with_rest (past_name_quals s.rest) s))
   where
@@ -353,10 +353,10 @@ nested_opens unqualified args x s = then_named (first_as (first_case (past_name_
 
 -- where there are none, the rest is read at once
 pub nested_plain : (unqualified : ParsesName) (args : Parses Shape) (x : Context) (s : ParserState) → past_name_quals s.rest ≡ s.rest → name_quals s.rest ≡ no_quals
-    → parse_nested unqualified args x s ≡ (parse_after_quals unqualified args x s >>= with_quals no_quals)
+    → parse_nested unqualified args x s ≡ (parse_prefix unqualified args x s >>= with_quals no_quals)
 nested_plain unqualified args x s rest quals =
-    nested_opens unqualified args x s ∙ ap (λ bytes. parse_after_quals unqualified args x (with_rest bytes s) >>= with_quals (name_quals s.rest)) rest
-    ∙ ap (λ q. parse_after_quals unqualified args x s >>= with_quals q) quals
+    nested_opens unqualified args x s ∙ ap (λ bytes. parse_prefix unqualified args x (with_rest bytes s) >>= with_quals (name_quals s.rest)) rest
+    ∙ ap (λ q. parse_prefix unqualified args x s >>= with_quals q) quals
 
 -- a call that hands on why what it called has stopped: then the whole isn't parsed either
 pub stops : (after : Reader) {inner whole : Option (Shape × ParserState)} (e : Stop) → Gives (Err e) after inner → (inner ≡ None → whole ≡ None) → Gives (Err e) after whole

@@ -218,16 +218,16 @@ next_item list = Some (goes_on (false, list.0), list.1)
 
 -- one more item of a list, with what stands in front of it, or the list's E. A list that is too long already isn't read
 -- on
-abbrev pub list_as : ArgumentListCase → (Shape → ParserState → ParserState) → Parses Shape → Bool × Shape
+abbrev pub argument_list_as : ArgumentListCase → (Shape → ParserState → ParserState) → Parses Shape → Bool × Shape
     → Parses (Turn (Bool × Shape) Shape)
-list_as EndOfArguments add_argument item so_far s = Some (ends so_far.1, skip 1 s)
-list_as NextArgument add_argument item so_far s =
+argument_list_as EndOfArguments add_argument item so_far s = Some (ends so_far.1, skip 1 s)
+argument_list_as NextArgument add_argument item so_far s =
     item s >>= λ next. fitting (listed_more so_far.0 so_far.1 next.0, add_argument next.0 next.1) >>= next_item
 
 -- one turn of the loop over arguments: the next bytes select the case
 unfoldable pub list_turn : (Shape → ParserState → ParserState) → Parses Shape → Bool × Shape
     → Parses (Turn (Bool × Shape) Shape)
-list_turn add_argument item so_far s = list_as (argument_list_case s.rest) add_argument item so_far s
+list_turn add_argument item so_far s = argument_list_as (argument_list_case s.rest) add_argument item so_far s
 
 -- an item that goes nowhere but into its list
 abbrev pub add_nowhere : Shape → ParserState → ParserState
@@ -235,24 +235,24 @@ add_nowhere item s = s
 
 -- one more type of a list, with what stands in front of it, or its end, which isn't taken. A list that is too long
 -- already isn't read on
-abbrev pub typed_as : TypeListCase → Parses Shape → Bool × Shape → Parses (Turn (Bool × Shape) Shape)
-typed_as EndOfTypes type so_far s = Some (ends so_far.1, s)
-typed_as NextType type so_far s =
+abbrev pub type_list_as : TypeListCase → Parses Shape → Bool × Shape → Parses (Turn (Bool × Shape) Shape)
+type_list_as EndOfTypes type so_far s = Some (ends so_far.1, s)
+type_list_as NextType type so_far s =
     type s >>= λ next. fitting (listed_more so_far.0 so_far.1 next.0, next.1) >>= next_item
 
 -- one turn of the loop over types: the next bytes select the case
 unfoldable pub typed_turn : EncodingEnd → Bool → Parses Shape → Bool × Shape
     → Parses (Turn (Bool × Shape) Shape)
-typed_turn end in_function_type type so_far s = typed_as (type_list_case end in_function_type s.rest) type so_far s
+typed_turn end in_function_type type so_far s = type_list_as (type_list_case end in_function_type s.rest) type so_far s
 
 -- types up to this end, or of a function type to a <ref-qualifier> in front of its E, put onto a list
 abbrev pub parse_typed : EncodingEnd → Bool → Parses Shape → Shape → Parses Shape
 parse_typed end in_function_type type list s = parse_loop (typed_turn end in_function_type type) (true, list) s
 
 -- such parameters, put onto a list: v right before the end stands for none
-abbrev pub typed_params_as : ParamsCase → EncodingEnd → Bool → Parses Shape → Shape → Parses Shape
-typed_params_as NoParams end in_function_type type list s = Some (list, skip 1 s)
-typed_params_as SomeParams end in_function_type type list s = parse_typed end in_function_type type list s
+abbrev pub params_as : ParamsCase → EncodingEnd → Bool → Parses Shape → Shape → Parses Shape
+params_as NoParams end in_function_type type list s = Some (list, skip 1 s)
+params_as SomeParams end in_function_type type list s = parse_typed end in_function_type type list s
 
 -- what is after the parameters of a lambda
 abbrev pub lambda_end : Shape → Parses Shape
@@ -261,7 +261,7 @@ lambda_end list s = ordinal (drop 1 s.rest) >>= λ found. Some (lambda_closed fo
 -- <closure-type-name> after its Ul
 abbrev pub parse_lambda : Parses Shape → Parses Shape
 parse_lambda type s =
-    typed_params_as (params_case AtE s.rest) AtE false type (plain_shape (codes "{lambda(")) s >>= λ list.
+    params_as (params_case AtE s.rest) AtE false type (plain_shape (codes "{lambda(")) s >>= λ list.
     lambda_end list.0 list.1
 
 -- <unnamed-type-name> after its Ut
@@ -401,8 +401,8 @@ abbrev pub ParsesBareName : Type 0
 ParsesBareName = Parses (Shape × Quals)
 
 -- what is after the qualifiers of a <nested-name>
-abbrev pub parse_after_quals : ParsesName → Parses Shape → Context → Parses Shape
-parse_after_quals unqualified args x s =
+abbrev pub parse_prefix : ParsesName → Parses Shape → Context → Parses Shape
+parse_prefix unqualified args x s =
     first_as (first_case s.rest) unqualified x s >>= λ first.
     parse_segments unqualified args (first_is_candidate (first_case s.rest)) first.0 (past_initializer first.1)
 
@@ -428,17 +428,17 @@ return_as NoReturnType type s = Some s
 return_as SomeReturnType type s = dropped (type s)
 
 -- the parameters of an encoding after its name, or none: and then the qualifiers that waited
-abbrev pub signature_as : EncodingParamsCase → EncodingEnd → Parses Shape → Shape × Quals → Parses Shape
-signature_as NoEncodingParams end param name s = Some (with_name_qualifiers name.0 name.1 true, s)
-signature_as SomeEncodingParams end param name s =
-    typed_params_as (params_case end s.rest) end false param (params_opened name.0) s >>= λ list.
+abbrev pub encoding_params_as : EncodingParamsCase → EncodingEnd → Parses Shape → Shape × Quals → Parses Shape
+encoding_params_as NoEncodingParams end param name s = Some (with_name_qualifiers name.0 name.1 true, s)
+encoding_params_as SomeEncodingParams end param name s =
+    params_as (params_case end s.rest) end false param (params_opened name.0) s >>= λ list.
     Some (params_closed name.1 list.0, list.1)
 
 -- what is after the name of an encoding: its return type by the first parser, its parameters by the second
 abbrev pub encoding_end : EncodingEnd → Parses Shape → Parses Shape → Shape × Quals → Parses Shape
 encoding_end end type param name s =
     return_as (return_case end name.0.templ name.0.ctor s.rest) type s >>= λ after.
-    signature_as (encoding_params_case end after.rest) end param name after
+    encoding_params_as (encoding_params_case end after.rest) end param name after
 
 -- the words of a name's own qualifiers are shown inside a local name, so also of its entity
 abbrev pub shows_words : NameCase → Bool → Bool
@@ -665,7 +665,7 @@ function_end front quals list s =
 -- what is after what a function returns, where that is plain
 abbrev pub function_params : Parses Shape → Quals → Shape → Parses Shape
 function_params type quals ret s =
-    opening_step ret >>= λ opened. typed_params_as (params_case AtE s.rest) AtE true type opened s >>= λ list.
+    opening_step ret >>= λ opened. params_as (params_case AtE s.rest) AtE true type opened s >>= λ list.
     function_end (text_len ret) quals list.0 list.1
 
 -- <function-type>, by what it begins with

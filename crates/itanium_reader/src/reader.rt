@@ -361,7 +361,7 @@ impl<'a> Reader<'a> {
         Ok(())
     }
 
-    /// Begins a list of template arguments, and opens a scope if `opens` is true.
+    /// Opens a scope for a list of template arguments if `opens` is true, and does nothing otherwise.
     pub fn open_scope_if(&mut self, opens: bool) -> Result<(), AllocError>
         ensures state { OnOk result (state self.new ≡ spec.open_scope_if opens (state self.old)) }
         ensures more { OnOk result (length (scopes self.old.buffer.value) ≤ length (scopes self.new.buffer.value)) }

@@ -7,7 +7,7 @@ use Rattle.std.proofs.lemmas.Bool.{false≢true}
 use Rattle.symfilter_engine.specs.declared.fault.FilterFault.{FilterFault}
 use Rattle.symfilter_engine.specs.declared.fault.FilterFault.TheVariants.{Read, Write, Memory}
 use Rattle.symfilter_engine.specs.declared.symbols.Printing.{Printing}
-use Rattle.symfilter_engine.specs.declared.symbols.Replacement.{Replacement}
+use Rattle.symfilter_engine.specs.declared.symbols.ReplaceOptions.{ReplaceOptions}
 use Rattle.symfilter_engine.specs.declared.symbols.Placement.{Placement}
 use Rattle.symfilter_engine.specs.declared.symbols.Placement.TheVariants.{Lines, Words}
 use Rattle.symfilter_engine.specs.Fault.{IsReadOutcome, IsWriteOutcome, IsRunOutcome}
@@ -26,9 +26,9 @@ ended_filtered : (placement : Placement) (all lines rest : List ℕ) (n : ℕ) (
     → FiltersUpTo placement lines [] t t' → lines ≡ take n all → rest ≡ drop n all → FiltersUpTo placement all rest t t'
 ended_filtered placement all lines rest n t t' so_far lines_are rest_is =
     record {
-      lines = so_far.lines;
+      whole = so_far.whole;
       text = so_far.text;
-      given_is = sym (take-append-drop n all) ∙ ap (λ l. l ++ drop n all) (sym lines_are ∙ so_far.given_is ∙ append-nil so_far.lines) ∙ ap (λ l. so_far.lines ++ l) (sym rest_is);
+      given_is = sym (take-append-drop n all) ∙ ap (λ l. l ++ drop n all) (sym lines_are ∙ so_far.given_is ∙ append-nil so_far.whole) ∙ ap (λ l. so_far.whole ++ l) (sym rest_is);
       filtered = so_far.filtered;
       written = so_far.written;
     }
@@ -66,7 +66,7 @@ whole_written : (placement : Placement) (read left : List ℕ) (s s' t t' : Opti
     → FiltersWhole placement s s' t t'
 whole_written (Lines printing) read left s s' t t' consumed so_far =
     record {
-      lines = so_far.lines;
+      whole = so_far.whole;
       left = left;
       consumed = subst (Consumes s s') so_far.given_is consumed;
       text = so_far.text;
@@ -80,7 +80,7 @@ written_but : (placement : Placement) (mid_word : Bool) (read left : List ℕ) (
     → (mid_word ≡ true → left ≡ []) → AreKept placement left → WritesAllButKept placement s s' t t'
 written_but (Lines printing) mid_word read left s s' t t' consumed so_far none kept =
     record {
-      lines = so_far.lines;
+      whole = so_far.whole;
       line = left;
       consumed = subst (Consumes s s') so_far.given_is consumed;
       unended = kept;
@@ -113,7 +113,7 @@ none_copied placement left source sink left_is =
     record {
       read = [];
       consumed = Consumes-nil source;
-      none = λ _. left_is;
+      mid_word_keeps_none = λ _. left_is;
       written = subst (λ l. WritesChunkUpTo placement false [] l false sink sink) (sym left_is) (none_written placement [] sink);
     }
 
@@ -132,7 +132,7 @@ still_kept placement kept end old new s s' are more within =
 -- no byte was kept where a word goes on
 pub kept_none : (placement : Placement) (mid_word : Bool) (kept : ℕ) (old : List ℕ) (s s' t t' : Option (List ℕ)) → CopiesUpTo placement mid_word (take kept old) s s' t t' → kept ≤ length old
     → mid_word ≡ true → kept ≡ 0
-kept_none placement mid_word kept old s s' t t' so_far within is = omega (arith, length-take-le kept old within, ap length (so_far.none is))
+kept_none placement mid_word kept old s s' t t' so_far within is = omega (arith, length-take-le kept old within, ap length (so_far.mid_word_keeps_none is))
 
 -- one turn more
 pub turn_copied : (placement : Placement) (mid_word after : Bool) (kept end : ℕ) (old new rest left : List ℕ) (s s' s'' t t' t'' : Option (List ℕ))
@@ -143,7 +143,7 @@ turn_copied placement mid_word after kept end old new rest left s s' s'' t t' t'
     (record {
       read = so_far.read ++ more.piece;
       consumed = Consumes-trans s s' s'' so_far.read more.piece so_far.consumed more.consumed;
-      none = none;
+      mid_word_keeps_none = none;
       written = piece_written placement mid_word after so_far.read more.piece (take kept old) left t t' t'' so_far.written
           (subst (λ l. WritesChunkUpTo placement mid_word l left after t' t'') more.chunk written);
     })
@@ -181,7 +181,7 @@ end_copied placement mid_word kept end old new s s' s'' t t' so_far more within 
       read = so_far.read;
       consumed = subst (Consumes s s'') (ap (λ l. so_far.read ++ l) none ∙ append-nil so_far.read)
           (Consumes-trans s s' s'' so_far.read more.piece so_far.consumed more.consumed);
-      none = so_far.none;
+      mid_word_keeps_none = so_far.mid_word_keeps_none;
       written = so_far.written;
     })
 
@@ -199,11 +199,11 @@ read_fault placement mid_word left s s' s'' t t' so_far keeps =
 pub read_put : (placement : Placement) (mid_word : Bool) (left : List ℕ) (s s' s'' t t' : Option (List ℕ)) → CopiesUpTo placement mid_word left s s' t t' → AreKept placement left → Keeps s' s''
     → WritesAllButKept placement s s'' t t'
 read_put placement mid_word left s s' s'' t t' so_far kept keeps =
-    written_but placement mid_word so_far.read left s s'' t t' (Consumes-kept s s' s'' so_far.read so_far.consumed keeps) so_far.written so_far.none kept
+    written_but placement mid_word so_far.read left s s'' t t' (Consumes-kept s s' s'' so_far.read so_far.consumed keeps) so_far.written so_far.mid_word_keeps_none kept
 
 -- whole lines or words, if any byte is kept
 whole_copied : (placement : Placement) (mid_word : Bool) (left : List ℕ) (s s' t t' : Option (List ℕ)) → CopiesUpTo placement mid_word left s s' t t' → 0 < length left → FiltersWhole placement s s' t t'
-whole_copied placement true left s s' t t' so_far some = absurd (omega (arith, some, ap length (so_far.none refl)))
+whole_copied placement true left s s' t t' so_far some = absurd (omega (arith, some, ap length (so_far.mid_word_keeps_none refl)))
 whole_copied placement false left s s' t t' so_far some = whole_written placement so_far.read left s s' t t' so_far.consumed so_far.written
 
 -- an allocation for more capacity failed
@@ -211,7 +211,7 @@ pub read_refused : (placement : Placement) (mid_word : Bool) (kept : ℕ) (old :
     → Keeps s' s'' → kept ≡ length old → 0 < length old → FiltersWhole placement s s'' t t'
 read_refused placement mid_word kept old s s' s'' t t' so_far keeps full some =
     whole_copied placement mid_word (take kept old) s s'' t t'
-    (record { read = so_far.read; consumed = Consumes-kept s s' s'' so_far.read so_far.consumed keeps; none = so_far.none; written = so_far.written })
+    (record { read = so_far.read; consumed = Consumes-kept s s' s'' so_far.read so_far.consumed keeps; mid_word_keeps_none = so_far.mid_word_keeps_none; written = so_far.written })
     (omega (arith, some, full, length-take-le kept old (omega (arith, full))))
 
 -- a source at its end has no byte left
@@ -232,20 +232,20 @@ all_read placement (Some given) (Some rest) t t' read consumes ends writes =
 pub last_copied : (placement : Placement) (mid_word : Bool) (left : List ℕ) (s s' t t' t'' : Option (List ℕ)) → CopiesUpTo placement mid_word left s s' t t' → IsAtEnd s'
     → WritesFiltered placement left t' t'' → IfSome s (λ given. WritesFiltered placement given t t'')
 last_copied placement mid_word left s s' t t' t'' so_far ends writes =
-    all_read placement s s' t t'' so_far.read so_far.consumed ends (last_written placement mid_word so_far.read left t t' t'' so_far.written so_far.none writes)
+    all_read placement s s' t t'' so_far.read so_far.consumed ends (last_written placement mid_word so_far.read left t t' t'' so_far.written so_far.mid_word_keeps_none writes)
 
 -- a fault came while it was written
 pub last_fault : (placement : Placement) (mid_word : Bool) (left : List ℕ) (s s' t t' t'' : Option (List ℕ)) → CopiesUpTo placement mid_word left s s' t t' → WritesBeginning placement left t' t''
     → FiltersBeginning placement s s' t t''
 last_fault placement mid_word left s s' t t' t'' so_far begins =
-    record { read = so_far.read; consumed = so_far.consumed; begins = last_begins placement mid_word so_far.read left t t' t'' so_far.written so_far.none begins }
+    record { read = so_far.read; consumed = so_far.consumed; begins = last_begins placement mid_word so_far.read left t t' t'' so_far.written so_far.mid_word_keeps_none begins }
 
 -- memory was refused for it
 pub last_refused : (placement : Placement) (mid_word : Bool) (left : List ℕ) (s s' t t' t'' : Option (List ℕ)) → CopiesUpTo placement mid_word left s s' t t' → 0 < length left → Keeps t' t''
     → FiltersWhole placement s s' t t''
 last_refused placement mid_word left s s' t t' t'' so_far some keeps =
     whole_copied placement mid_word left s s' t t''
-    (record { read = so_far.read; consumed = so_far.consumed; none = so_far.none; written = written_kept placement false mid_word so_far.read left t t' t'' so_far.written keeps }) some
+    (record { read = so_far.read; consumed = so_far.consumed; mid_word_keeps_none = so_far.mid_word_keeps_none; written = written_kept placement false mid_word so_far.read left t t' t'' so_far.written keeps }) some
 
 -- the outcome, as the two faults' clauses say it
 pub read_outcome : {T : Type 0} (r : Result T FilterFault) (source_failed sink_failed : Bool) → IsRunOutcome r source_failed sink_failed → IsErrOf r Read ↔ IsTrue source_failed
@@ -316,14 +316,14 @@ lines_some (Lines p) printing mid_word bytes n t t' is (left, filtered) = (
 lines_some (Words options) printing mid_word bytes n t t' is some = absurd (cc)
 
 -- the first word of a chunk was written as it is, with the byte after it, and no word goes on
-past_first : (options : Replacement) (mid_word after : Bool) (bytes rest : List ℕ) (n : ℕ) (t t' : Option (List ℕ)) → ContinuesTo options mid_word (take n bytes) (take n bytes) after → after ≡ false
+past_first : (options : ReplaceOptions) (mid_word after : Bool) (bytes rest : List ℕ) (n : ℕ) (t t' : Option (List ℕ)) → ContinuesTo options mid_word (take n bytes) (take n bytes) after → after ≡ false
     → rest ≡ drop n bytes → Appends t t' (take n bytes) → ReplacesUpTo options mid_word bytes rest false t t'
 past_first options mid_word after bytes rest n t t' leads outside rest_is writes =
     subst (λ l. ReplacesUpTo options mid_word bytes l false t t') (sym rest_is)
     (subst (λ a. ReplacesUpTo options mid_word bytes (drop n bytes) a t t') outside (front_passed options mid_word after bytes n t t' leads writes))
 
 -- the word that was kept stands in front after it: no byte was kept where a word goes on
-pub words_before : (placement : Placement) (options : Replacement) (mid_word : Bool) (bytes : List ℕ) (seen n : ℕ) → placement ≡ Words options → AreKept placement (take seen bytes)
+pub words_before : (placement : Placement) (options : ReplaceOptions) (mid_word : Bool) (bytes : List ℕ) (seen n : ℕ) → placement ≡ Words options → AreKept placement (take seen bytes)
     → (mid_word ≡ true → seen ≡ 0) → (mid_word ≡ false → n ≡ 0) → All IsWordByte (take seen (drop n bytes))
 words_before placement options true bytes seen n is kept none outside =
     subst (λ k. All IsWordByte (take k (drop n bytes))) (sym (none refl)) (All-nil IsWordByte)
@@ -331,7 +331,7 @@ words_before placement options false bytes seen n is kept none outside =
     subst (λ k. All IsWordByte (take seen (drop k bytes))) (sym (outside refl)) ((subst (λ s. AreKept s (take seen bytes)) is kept).word)
 
 -- whole words after it too
-pub words_passed : (options : Replacement) (mid_word after : Bool) (bytes rest : List ℕ) (n whole : ℕ) (t t' t'' : Option (List ℕ)) → ContinuesTo options mid_word (take n bytes) (take n bytes) after
+pub words_passed : (options : ReplaceOptions) (mid_word after : Bool) (bytes rest : List ℕ) (n whole : ℕ) (t t' t'' : Option (List ℕ)) → ContinuesTo options mid_word (take n bytes) (take n bytes) after
     → after ≡ false → rest ≡ drop n bytes → Appends t t' (take n bytes) → FiltersUpTo (Words options) (take whole rest) [] t' t''
     → ReplacesUpTo options mid_word bytes (drop whole rest) false t t''
 words_passed options mid_word after bytes rest n whole t t' t'' leads outside rest_is writes filtered =
@@ -339,14 +339,14 @@ words_passed options mid_word after bytes rest n whole t t' t'' leads outside re
     (front_replaced options false false rest (take whole rest) [] whole t' t'' (words_replaced options (take whole rest) [] t' t'' filtered) refl)
 
 -- a fault came while they were written
-pub words_fault : (options : Replacement) (mid_word after : Bool) (bytes rest : List ℕ) (n whole : ℕ) (t t' t'' : Option (List ℕ)) → ContinuesTo options mid_word (take n bytes) (take n bytes) after
+pub words_fault : (options : ReplaceOptions) (mid_word after : Bool) (bytes rest : List ℕ) (n whole : ℕ) (t t' t'' : Option (List ℕ)) → ContinuesTo options mid_word (take n bytes) (take n bytes) after
     → after ≡ false → rest ≡ drop n bytes → Appends t t' (take n bytes) → WritesBeginningOfAny (Words options) (take whole rest) t' t'' → ReplacesBeginningOfAny options mid_word bytes t t''
 words_fault options mid_word after bytes rest n whole t t' t'' leads outside rest_is writes begins =
     front_after options mid_word false bytes rest t t' t'' (past_first options mid_word after bytes rest n t t' leads outside rest_is writes)
     (words_front options rest (take whole rest) whole t' t'' begins refl)
 
 -- memory was refused for one of them
-pub words_refused : (options : Replacement) (mid_word after : Bool) (bytes rest : List ℕ) (n whole : ℕ) (t t' t'' : Option (List ℕ)) → ContinuesTo options mid_word (take n bytes) (take n bytes) after
+pub words_refused : (options : ReplaceOptions) (mid_word after : Bool) (bytes rest : List ℕ) (n whole : ℕ) (t t' t'' : Option (List ℕ)) → ContinuesTo options mid_word (take n bytes) (take n bytes) after
     → after ≡ false → rest ≡ drop n bytes → Appends t t' (take n bytes) → FiltersSome (Words options) (take whole rest) t' t'' → WritesSomeOfChunk (Words options) mid_word bytes t t''
 words_refused options mid_word after bytes rest n whole t t' t'' leads outside rest_is writes (left, filtered) = (
   left ++ drop whole rest,

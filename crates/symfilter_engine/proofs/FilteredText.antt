@@ -20,7 +20,7 @@ use Rattle.symfilter_engine.specs.Filtered.{IsBeginning, IsLineAnswer, answered,
 use Rattle.symfilter_engine.specs.Filtered.{WritesBeginning}
 use Rattle.symfilter_engine.specs.Progress.{AppendsReplaced, WritesBeginningOf, WritesWholeFiltered, WritesBeginningOfAny, FiltersUpTo}
 use Rattle.symfilter_engine.proofs.ReplacedText.{IsReplaced-append, whole_parted, whole-append, replaced_of}
-use Rattle.symfilter_engine.specs.declared.symbols.Replacement.{Replacement}
+use Rattle.symfilter_engine.specs.declared.symbols.ReplaceOptions.{ReplaceOptions}
 use Rattle.symfilter_engine.specs.declared.symbols.Printing.{Printing}
 
 -- lines after lines, where each is a symbol
@@ -148,14 +148,14 @@ last_begins placement printing line answer before after is some unended_line is_
     (writes.front, (answer, unended no_line some unended_line is_answer, (rest, writes.bytes_are)), writes.written)
 
 -- a last line was written replaced
-pub last_replaced : (placement : Placement) (options : Replacement) (line old output bytes : List ℕ) (before after : Option (List ℕ)) → placement ≡ Words options → old ≡ []
+pub last_replaced : (placement : Placement) (options : ReplaceOptions) (line old output bytes : List ℕ) (before after : Option (List ℕ)) → placement ≡ Words options → old ≡ []
     → AppendsReplaced options line old output → bytes ≡ output → Appends before after bytes → WritesFiltered placement line before after
 last_replaced placement options line old output bytes before after is none (text, replaced, output_is) bytes_are writes =
     subst (λ s. WritesFiltered s line before after) (sym is)
     (text, replaced, subst (Appends before after) (bytes_are ∙ output_is ∙ ap (λ l. l ++ text) none) writes)
 
 -- a front of its replaced text was written
-pub replaced_begins : (placement : Placement) (options : Replacement) (line old output bytes : List ℕ) (before after : Option (List ℕ)) → placement ≡ Words options → old ≡ []
+pub replaced_begins : (placement : Placement) (options : ReplaceOptions) (line old output bytes : List ℕ) (before after : Option (List ℕ)) → placement ≡ Words options → old ≡ []
     → AppendsReplaced options line old output → bytes ≡ output → WritesBeginningOf bytes before after → WritesBeginning placement line before after
 replaced_begins placement options line old output bytes before after is none (text, replaced, output_is) bytes_are (rest, writes) =
     subst (λ s. WritesBeginning s line before after) (sym is)
@@ -163,17 +163,17 @@ replaced_begins placement options line old output bytes before after is none (te
 
 -- nothing was given yet
 pub none_filtered : (placement : Placement) (given : List ℕ) (at : Option (List ℕ)) → FiltersUpTo placement given given at at
-none_filtered placement given at = record { lines = []; text = []; given_is = refl; filtered = no_lines placement; written = Appends-nil at }
+none_filtered placement given at = record { whole = []; text = []; given_is = refl; filtered = no_lines placement; written = Appends-nil at }
 
 -- lines of what was left were written too
 pub lines_filtered : (placement : Placement) (given rest : List ℕ) (n : ℕ) (before mid after : Option (List ℕ))
     → FiltersUpTo placement given rest before mid → WritesWholeFiltered placement (take n rest) mid after → FiltersUpTo placement given (drop n rest) before after
 lines_filtered placement given rest n before mid after so_far (text, filtered, writes) =
     record {
-      lines = so_far.lines ++ take n rest;
+      whole = so_far.whole ++ take n rest;
       text = so_far.text ++ text;
-      given_is = so_far.given_is ∙ ap (λ l. so_far.lines ++ l) (sym (take-append-drop n rest)) ∙ sym (append_assoc so_far.lines (take n rest) (drop n rest));
-      filtered = AreWholeFiltered-append placement so_far.lines so_far.text (take n rest) text so_far.filtered filtered;
+      given_is = so_far.given_is ∙ ap (λ l. so_far.whole ++ l) (sym (take-append-drop n rest)) ∙ sym (append_assoc so_far.whole (take n rest) (drop n rest));
+      filtered = AreWholeFiltered-append placement so_far.whole so_far.text (take n rest) text so_far.filtered filtered;
       written = Appends-trans before mid after so_far.text text so_far.written writes;
     }
 
@@ -182,7 +182,7 @@ pub next_unwritten : (placement : Placement) (given left : List ℕ) (before mid
     → FiltersUpTo placement given left before mid → Keeps mid after → FiltersUpTo placement given left before after
 next_unwritten placement given left before mid after so_far keeps =
     record {
-      lines = so_far.lines;
+      whole = so_far.whole;
       text = so_far.text;
       given_is = so_far.given_is;
       filtered = so_far.filtered;
@@ -194,9 +194,9 @@ pub lines_before : (placement : Placement) (given left rest : List ℕ) (before 
     → FiltersUpTo placement given left before after → FiltersUpTo placement (given ++ rest) (left ++ rest) before after
 lines_before placement given left rest before after so_far =
     record {
-      lines = so_far.lines;
+      whole = so_far.whole;
       text = so_far.text;
-      given_is = ap (λ l. l ++ rest) so_far.given_is ∙ append_assoc so_far.lines left rest;
+      given_is = ap (λ l. l ++ rest) so_far.given_is ∙ append_assoc so_far.whole left rest;
       filtered = so_far.filtered;
       written = so_far.written;
     }
@@ -206,7 +206,7 @@ pub filtered_begins : (placement : Placement) (given left : List ℕ) (before af
     → WritesBeginning placement given before after
 filtered_begins placement given left before after so_far = (
   so_far.text,
-  of_lines placement so_far.lines so_far.text given left so_far.text so_far.given_is so_far.filtered ([], sym (append-nil so_far.text)),
+  of_lines placement so_far.whole so_far.text given left so_far.text so_far.given_is so_far.filtered ([], sym (append-nil so_far.text)),
   so_far.written,
 )
 
@@ -231,10 +231,10 @@ pub piece_filtered : (placement : Placement) (given piece left left' : List ℕ)
     → FiltersUpTo placement (given ++ piece) left' before after
 piece_filtered placement given piece left left' before mid after so_far more =
     record {
-      lines = so_far.lines ++ more.lines;
+      whole = so_far.whole ++ more.whole;
       text = so_far.text ++ more.text;
-      given_is = ap (λ l. l ++ piece) so_far.given_is ∙ append_assoc so_far.lines left piece ∙ ap (λ l. so_far.lines ++ l) more.given_is ∙ sym (append_assoc so_far.lines more.lines left');
-      filtered = AreWholeFiltered-append placement so_far.lines so_far.text more.lines more.text so_far.filtered more.filtered;
+      given_is = ap (λ l. l ++ piece) so_far.given_is ∙ append_assoc so_far.whole left piece ∙ ap (λ l. so_far.whole ++ l) more.given_is ∙ sym (append_assoc so_far.whole more.whole left');
+      filtered = AreWholeFiltered-append placement so_far.whole so_far.text more.whole more.text so_far.filtered more.filtered;
       written = Appends-trans before mid after so_far.text more.text so_far.written more.written;
     }
 
@@ -244,7 +244,7 @@ pub WritesFiltered-append : (placement : Placement) (given left : List ℕ) (bef
 WritesFiltered-append placement given left before mid after so_far (text, filtered, writes) = (
   so_far.text ++ text,
   subst (λ l. IsFiltered placement l (so_far.text ++ text)) (sym so_far.given_is)
-      (IsFiltered-append placement so_far.lines so_far.text left text so_far.filtered filtered),
+      (IsFiltered-append placement so_far.whole so_far.text left text so_far.filtered filtered),
   Appends-trans before mid after so_far.text text so_far.written writes,
 )
 
@@ -260,8 +260,8 @@ pub piece_begins : (placement : Placement) (given piece left : List ℕ) (before
     → WritesBeginning placement (given ++ piece) before after
 piece_begins placement given piece left before mid after so_far (written, begins, writes) = (
   so_far.text ++ written,
-  subst (λ l. IsBeginning placement l (so_far.text ++ written)) (sym (ap (λ l. l ++ piece) so_far.given_is ∙ append_assoc so_far.lines left piece))
-      (IsBeginning-append placement so_far.lines so_far.text (left ++ piece) written so_far.filtered begins),
+  subst (λ l. IsBeginning placement l (so_far.text ++ written)) (sym (ap (λ l. l ++ piece) so_far.given_is ∙ append_assoc so_far.whole left piece))
+      (IsBeginning-append placement so_far.whole so_far.text (left ++ piece) written so_far.filtered begins),
   Appends-trans before mid after so_far.text written so_far.written writes,
 )
 
@@ -271,7 +271,7 @@ pub WritesBeginning-append : (placement : Placement) (given left : List ℕ) (be
 WritesBeginning-append placement given left before mid after so_far (written, begins, writes) = (
   so_far.text ++ written,
   subst (λ l. IsBeginning placement l (so_far.text ++ written)) (sym so_far.given_is)
-      (IsBeginning-append placement so_far.lines so_far.text left written so_far.filtered begins),
+      (IsBeginning-append placement so_far.whole so_far.text left written so_far.filtered begins),
   Appends-trans before mid after so_far.text written so_far.written writes,
 )
 

@@ -17,7 +17,7 @@ use Rattle.symfilter_engine.specs.Progress.{HasNone, IsFirst, EndsAt, HasPrefixN
 use Rattle.symfilter_engine.proofs.FilteredText.{AreLinesAnswered-append, AreWholeFiltered-append}
 use Rattle.symfilter_engine.proofs.ReplacedText.{unprefixed, whole-drop}
 use Rattle.symfilter_engine.proofs.LineAnswers.{other_line}
-use Rattle.symfilter_engine.specs.declared.symbols.Replacement.{Replacement}
+use Rattle.symfilter_engine.specs.declared.symbols.ReplaceOptions.{ReplaceOptions}
 use Rattle.symfilter_engine.specs.declared.symbols.Printing.{Printing}
 
 -- a byte is no line feed
@@ -74,7 +74,7 @@ pub whole_lines : (placement : Placement) (printing : Printing) (lines : List �
 whole_lines placement printing lines is whole = subst (λ s. AreWhole s lines) is whole
 
 -- so are words
-pub whole_words : (placement : Placement) (options : Replacement) (text : List ℕ) → placement ≡ Words options → AreWhole placement text → ends_word text ≡ false
+pub whole_words : (placement : Placement) (options : ReplaceOptions) (text : List ℕ) → placement ≡ Words options → AreWhole placement text → ends_word text ≡ false
 whole_words placement options text is whole = subst (λ s. AreWhole s text) is whole
 
 -- the first line with its line feed
@@ -112,12 +112,12 @@ more_ordinary printing lines len end first ends ordinary =
     )
 
 -- whole words without a prefix
-pub unprefixed_words : (placement : Placement) (options : Replacement) (text : List ℕ) → placement ≡ Words options → ends_word text ≡ false → HasPrefixNowhere text
+pub unprefixed_words : (placement : Placement) (options : ReplaceOptions) (text : List ℕ) → placement ≡ Words options → ends_word text ≡ false → HasPrefixNowhere text
     → AreWholeFiltered placement text text
 unprefixed_words placement options text is whole none = subst (λ s. AreWholeFiltered s text text) (sym is) (whole, unprefixed options text none)
 
 -- whole words were appended replaced
-pub block_appended : (options : Replacement) (text before after : List ℕ) → ends_word text ≡ false → AppendsReplaced options text before after → AppendsFiltered (Words options) text before after
+pub block_appended : (options : ReplaceOptions) (text before after : List ℕ) → ends_word text ≡ false → AppendsReplaced options text before after → AppendsFiltered (Words options) text before after
 block_appended options text before after whole (replaced, is_replaced, after_is) = (replaced, (whole, is_replaced), after_is)
 
 -- one line was appended

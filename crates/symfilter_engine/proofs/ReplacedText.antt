@@ -14,7 +14,7 @@ use Rattle.symfilter_engine.specs.Replaced.{is_word_byte, IsWordByte, begins_wor
 use Rattle.symfilter_engine.specs.Replaced.{past_prefix_chars, symbol_at, symbol_in, IsWordAnswer, answered, unanswered}
 use Rattle.symfilter_engine.specs.Replaced.{no_symbol, IsReplaced, no_byte, other, one_word}
 use Rattle.symfilter_engine.specs.Progress.{underscore, capital_z, HasPrefixNowhere, AreWordBytes, IsBoundary}
-use Rattle.symfilter_engine.specs.declared.symbols.Replacement.{Replacement}
+use Rattle.symfilter_engine.specs.declared.symbols.ReplaceOptions.{ReplaceOptions}
 
 ends_word-cons : (byte : ℕ) (bytes : List ℕ) → ends_word bytes ≡ true → ends_word (byte ∷ bytes) ≡ true
 ends_word-cons byte [] ends = absurd (false≢true ends)
@@ -56,7 +56,7 @@ next_after word [] rest ends next parted = parted (subst (λ l. ends_word l ≡ 
 next_after word (byte ∷ bytes) rest ends next parted = next
 
 -- bytes after bytes, where no word goes on
-pub IsReplaced-append : (options : Replacement) {first text rest more : List ℕ} → IsReplaced options first text → IsReplaced options rest more
+pub IsReplaced-append : (options : ReplaceOptions) {first text rest more : List ℕ} → IsReplaced options first text → IsReplaced options rest more
     → (ends_word first ≡ true → begins_word rest ≡ false) → IsReplaced options (first ++ rest) (text ++ more)
 IsReplaced-append options no_byte second parted = second
 IsReplaced-append options (other {byte = byte} {bytes = bytes} no_word first) second parted =
@@ -128,7 +128,7 @@ boundary_parted bytes n m inside boundary ends =
     begins_word-take m (drop n bytes) (begins_word-at (drop n bytes) ∙ ap is_word_byte after ∙ boundary some before)
 
 -- more bytes after a boundary
-pub more_replaced : (options : Replacement) (bytes text more : List ℕ) (n m : ℕ) → n ≤ length bytes → IsBoundary bytes n → IsReplaced options (take n bytes) text
+pub more_replaced : (options : ReplaceOptions) (bytes text more : List ℕ) (n m : ℕ) → n ≤ length bytes → IsBoundary bytes n → IsReplaced options (take n bytes) text
     → IsReplaced options (take m (drop n bytes)) more → IsReplaced options (take (n + m) bytes) (text ++ more)
 more_replaced options bytes text more n m inside boundary first second =
     subst (λ l. IsReplaced options l (text ++ more)) (sym (take-add n m bytes))
@@ -208,28 +208,28 @@ word_has_prefix : (strip : Bool) (word symbol : List ℕ) → symbol_in strip wo
 word_has_prefix strip word symbol is none = symbol_has_prefix strip (past_prefix_chars word) symbol is (no_prefix-drop (prefix_chars_len word) word none)
 
 -- what is written for a word: the word itself, where no prefix is in it
-record WordText (options : Replacement) (word : List ℕ) : Type 0 where
+record WordText (options : ReplaceOptions) (word : List ℕ) : Type 0 where
   answer : List ℕ
   is_answer : IsWordAnswer options word answer
   same : HasPrefixNowhere word → answer ≡ word
 
-symbol_text : (options : Replacement) (word symbol : List ℕ) → symbol_in options.strip word ≡ Some symbol → (found : Option (List ℕ)) → IsPrintedAs options.printing symbol found → WordText options word
+symbol_text : (options : ReplaceOptions) (word symbol : List ℕ) → symbol_in options.strip word ≡ Some symbol → (found : Option (List ℕ)) → IsPrintedAs options.printing symbol found → WordText options word
 symbol_text options word symbol is None none = record { answer = word; is_answer = unanswered is none; same = λ _. refl }
 symbol_text options word symbol is (Some text) has =
     record { answer = prefix_chars word ++ text; is_answer = answered is has; same = λ none. absurd (word_has_prefix options.strip word symbol is none) }
 
-word_text : (options : Replacement) (word : List ℕ) (found : Option (List ℕ)) → symbol_in options.strip word ≡ found → WordText options word
+word_text : (options : ReplaceOptions) (word : List ℕ) (found : Option (List ℕ)) → symbol_in options.strip word ≡ found → WordText options word
 word_text options word None is = record { answer = word; is_answer = no_symbol is; same = λ _. refl }
 word_text options word (Some symbol) is = let found = each_printed options.printing symbol in symbol_text options word symbol is found.0 found.1
 
 -- bytes have a replaced text: they themselves, where no prefix is in them
-record BytesText (options : Replacement) (bytes : List ℕ) : Type 0 where
+record BytesText (options : ReplaceOptions) (bytes : List ℕ) : Type 0 where
   text : List ℕ
   replaced : IsReplaced options bytes text
   same : HasPrefixNowhere bytes → text ≡ bytes
 
 -- a word, and what follows it
-after_word : (options : Replacement) (word bytes : List ℕ) → word ≢ [] → All IsWordByte word → begins_word bytes ≡ false → BytesText options bytes → BytesText options (word ++ bytes)
+after_word : (options : ReplaceOptions) (word bytes : List ℕ) → word ≢ [] → All IsWordByte word → begins_word bytes ≡ false → BytesText options bytes → BytesText options (word ++ bytes)
 after_word options word bytes some all next rest =
     let split = split_of word in
     let found = word_text options split.stem (symbol_in options.strip split.stem) refl in
@@ -246,15 +246,15 @@ after_word options word bytes some all next rest =
     }
 
 -- there may be no byte of the word yet
-after_front : (options : Replacement) (word bytes : List ℕ) → All IsWordByte word → begins_word bytes ≡ false → BytesText options bytes → BytesText options (word ++ bytes)
+after_front : (options : ReplaceOptions) (word bytes : List ℕ) → All IsWordByte word → begins_word bytes ≡ false → BytesText options bytes → BytesText options (word ++ bytes)
 after_front options [] bytes all next rest = rest
 after_front options (byte ∷ word) bytes all next rest = after_word options (byte ∷ word) bytes (λ e. cc) all next rest
 
-none_text : (options : Replacement) → BytesText options []
+none_text : (options : ReplaceOptions) → BytesText options []
 none_text options = record { text = []; replaced = no_byte; same = λ _. refl }
 
 -- the next byte is in the word, or none of words
-at_byte : (options : Replacement) (word bytes : List ℕ) (byte : ℕ) → All IsWordByte word → (t : Bool) → is_word_byte byte ≡ t
+at_byte : (options : ReplaceOptions) (word bytes : List ℕ) (byte : ℕ) → All IsWordByte word → (t : Bool) → is_word_byte byte ≡ t
     → (All IsWordByte (word ++ byte ∷ []) → BytesText options ((word ++ byte ∷ []) ++ bytes)) → BytesText options bytes
     → BytesText options (word ++ byte ∷ bytes)
 at_byte options word bytes byte all true is longer rest =
@@ -263,18 +263,18 @@ at_byte options word bytes byte all false is longer rest =
     after_front options word (byte ∷ bytes) all is
     (record { text = byte ∷ rest.text; replaced = other is rest.replaced; same = λ none. ap (λ l. byte ∷ l) (rest.same (no_prefix-right (byte ∷ []) bytes none)) })
 
-from_word : (options : Replacement) (word bytes : List ℕ) → All IsWordByte word → BytesText options (word ++ bytes)
+from_word : (options : ReplaceOptions) (word bytes : List ℕ) → All IsWordByte word → BytesText options (word ++ bytes)
 from_word options word [] all = after_front options word [] all refl (none_text options)
 from_word options word (byte ∷ bytes) all =
     at_byte options word bytes byte all (is_word_byte byte) refl (λ longer. from_word options (word ++ byte ∷ []) bytes longer)
     (from_word options [] bytes (All-nil IsWordByte))
 
 -- all bytes have a replaced text
-pub replaced_of : (options : Replacement) (bytes : List ℕ) → (text : List ℕ) × IsReplaced options bytes text
+pub replaced_of : (options : ReplaceOptions) (bytes : List ℕ) → (text : List ℕ) × IsReplaced options bytes text
 replaced_of options bytes = let found = from_word options [] bytes (All-nil IsWordByte) in (found.text, found.replaced)
 
 -- bytes without a prefix stay
-pub unprefixed : (options : Replacement) (bytes : List ℕ) → HasPrefixNowhere bytes → IsReplaced options bytes bytes
+pub unprefixed : (options : ReplaceOptions) (bytes : List ℕ) → HasPrefixNowhere bytes → IsReplaced options bytes bytes
 unprefixed options bytes none =
     let found = from_word options [] bytes (All-nil IsWordByte) in
     subst (IsReplaced options bytes) (found.same none) found.replaced

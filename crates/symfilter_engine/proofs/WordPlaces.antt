@@ -12,7 +12,7 @@ use Rattle.itanium_syntax.specs.Bytes.{is, is_between, is_digit, one_of, begins}
 use Rattle.symfilter_engine.specs.Replaced.{is_word_byte, IsWordByte, IsDot, ends_in_dot, prefix_chars_len, past_prefix_chars, symbol_in, IsWordAnswer, IsReplaced, no_byte, one_word}
 use Rattle.symfilter_engine.specs.Progress.{underscore, capital_z, HasNone, IsFirst, HasPrefixNowhere, IsFirstPrefix, AreWordBytes, IsBoundary, Extends, AppendsReplaced}
 use Rattle.symfilter_engine.proofs.ReplacedText.{no_prefix-left, more_replaced, unprefixed}
-use Rattle.symfilter_engine.specs.declared.symbols.Replacement.{Replacement}
+use Rattle.symfilter_engine.specs.declared.symbols.ReplaceOptions.{ReplaceOptions}
 
 -- no prefix ends before the place
 abbrev pub NoneUpTo : List ℕ → ℕ → Type 0
@@ -194,7 +194,7 @@ symbol_words strip word symbol is all =
     ]
 
 -- a word, and what is written for it
-pub word_replaced : (options : Replacement) (word answer : List ℕ) (stem : ℕ) → 0 < length word → All IsWordByte word → All IsDot (drop stem word)
+pub word_replaced : (options : ReplaceOptions) (word answer : List ℕ) (stem : ℕ) → 0 < length word → All IsWordByte word → All IsDot (drop stem word)
     → ends_in_dot (take stem word) ≡ false → IsWordAnswer options (take stem word) answer → IsReplaced options word (answer ++ drop stem word)
 word_replaced options word answer stem some all dotted undotted is_answer =
     let whole : take stem word ++ drop stem word ≡ word = take-append-drop stem word in
@@ -204,13 +204,13 @@ word_replaced options word answer stem some all dotted undotted is_answer =
     (one_word (drop stem word) nonempty (All-same IsWordByte (take stem word ++ drop stem word) word whole all) dotted undotted is_answer refl no_byte))
 
 -- the word itself
-pub word_stays : (options : Replacement) (word : List ℕ) (stem : ℕ) → 0 < length word → All IsWordByte word → All IsDot (drop stem word)
+pub word_stays : (options : ReplaceOptions) (word : List ℕ) (stem : ℕ) → 0 < length word → All IsWordByte word → All IsDot (drop stem word)
     → ends_in_dot (take stem word) ≡ false → IsWordAnswer options (take stem word) (take stem word) → IsReplaced options word word
 word_stays options word stem some all dotted undotted is_answer =
     subst (IsReplaced options word) (take-append-drop stem word) (word_replaced options word (take stem word) stem some all dotted undotted is_answer)
 
 -- after bytes without a prefix a word was replaced too
-pub turn_replaced : (options : Replacement) (text old before mid after : List ℕ) (done more start end : ℕ) → end ≤ length text → done ≤ start → start ≤ done + more → start ≤ end
+pub turn_replaced : (options : ReplaceOptions) (text old before mid after : List ℕ) (done more start end : ℕ) → end ≤ length text → done ≤ start → start ≤ done + more → start ≤ end
     → IsBoundary text done → IsBoundary text start → AppendsReplaced options (take done text) old before → HasPrefixNowhere (take more (drop done text))
     → mid ≡ before ++ take (start - done) (drop done text) → AppendsReplaced options (take (end - start) (drop start text)) mid after
     → AppendsReplaced options (take end text) old after
@@ -245,7 +245,7 @@ more_parts output text low mid high first second =
     ap (λ l. output ++ l) (sym (parts_joined text low mid high first second)) ∙ sym (append_assoc output (part text low mid) (part text mid high))
 
 -- one more word stays, and is yet to be appended
-pub stays_replaced : (options : Replacement) (text old output : List ℕ) (done from more start end : ℕ) → done ≤ from → from ≤ start → start ≤ from + more → start ≤ end
+pub stays_replaced : (options : ReplaceOptions) (text old output : List ℕ) (done from more start end : ℕ) → done ≤ from → from ≤ start → start ≤ from + more → start ≤ end
     → end ≤ length text → IsBoundary text from → IsBoundary text start → AppendsReplaced options (take from text) old (output ++ part text done from)
     → HasPrefixNowhere (take more (drop from text)) → IsReplaced options (part text start end) (part text start end)
     → AppendsReplaced options (take end text) old (output ++ part text done end)
@@ -275,7 +275,7 @@ answer_placed output text answer done start chars stem end first second third =
     ∙ sym (append_assoc output before ((front ++ answer) ++ dots))
 
 -- one more word is answered
-pub answer_replaced : (options : Replacement) (text old output answer after : List ℕ) (done from more start chars stem end : ℕ) → done ≤ from → from ≤ start → start ≤ from + more
+pub answer_replaced : (options : ReplaceOptions) (text old output answer after : List ℕ) (done from more start chars stem end : ℕ) → done ≤ from → from ≤ start → start ≤ from + more
     → start < end → end ≤ length text → IsBoundary text from → IsBoundary text start → AppendsReplaced options (take from text) old (output ++ part text done from)
     → HasPrefixNowhere (take more (drop from text)) → All IsWordByte (part text start end) → All IsDot (drop stem (part text start end))
     → ends_in_dot (take stem (part text start end)) ≡ false → chars ≤ stem → start + stem ≤ end
@@ -295,7 +295,7 @@ answer_replaced options text old output answer after done from more start chars 
     )
 
 -- the byte at a word's end is in no word, and stays
-pub end_past : (options : Replacement) (text old output : List ℕ) (done end past : ℕ) → done ≤ end → end ≤ length text → past ≡ min (end + 1) (length text)
+pub end_past : (options : ReplaceOptions) (text old output : List ℕ) (done end past : ℕ) → done ≤ end → end ≤ length text → past ≡ min (end + 1) (length text)
     → is_word_byte (get_or text end 0) ≡ false → AppendsReplaced options (take end text) old (output ++ part text done end)
     → AppendsReplaced options (take past text) old (output ++ part text done past)
 end_past options text old output done end past kept inside past_is ended (written, replaced, output_is) =
@@ -319,7 +319,7 @@ boundary_past text end past inside past_is ended some word =
     ]
 
 -- no prefix is left
-rest_replaced : (options : Replacement) (text old before after : List ℕ) (done : ℕ) → done ≤ length text → IsBoundary text done
+rest_replaced : (options : ReplaceOptions) (text old before after : List ℕ) (done : ℕ) → done ≤ length text → IsBoundary text done
     → AppendsReplaced options (take done text) old before → HasPrefixNowhere (take (length text - done) (drop done text))
     → after ≡ before ++ take (length text - done) (drop done text) → AppendsReplaced options text old after
 rest_replaced options text old before after done inside boundary (written, replaced, before_is) none after_is =
@@ -333,7 +333,7 @@ rest_replaced options text old before after done inside boundary (written, repla
 pub extended : (old output more after : List ℕ) → Extends old output → after ≡ output ++ more → Extends old after
 extended old output more after (front, output_is) after_is = (front ++ more, after_is ∙ ap (λ l. l ++ more) output_is ∙ append_assoc old front more)
 
-pub rest_appended : {T E : Type 0} (r : Result T E) (options : Replacement) (text old output after : List ℕ) (done from : ℕ) → done ≤ from → from ≤ length text → IsBoundary text from
+pub rest_appended : {T E : Type 0} (r : Result T E) (options : ReplaceOptions) (text old output after : List ℕ) (done from : ℕ) → done ≤ from → from ≤ length text → IsBoundary text from
     → AppendsReplaced options (take from text) old (output ++ part text done from) → HasPrefixNowhere (part text from (length text))
     → OnOk r (after ≡ output ++ part text done (length text)) → OnOk r (AppendsReplaced options text old after)
 rest_appended (Ok _) options text old output after done from kept inside boundary so_far none after_is =

@@ -14,10 +14,10 @@ use Rattle.symfilter_engine.specs.Progress.{AreWordBytes, StartsMidWord, Filters
 use Rattle.symfilter_engine.proofs.ReplacedText.{IsReplaced-append, whole_parted, whole-append, replaced_of, split_of}
 use Rattle.symfilter_engine.proofs.WordPlaces.{rest_of_word}
 use Rattle.symfilter_engine.proofs.PrefixChars.{stem_plain, plain_some}
-use Rattle.symfilter_engine.specs.declared.symbols.Replacement.{Replacement}
+use Rattle.symfilter_engine.specs.declared.symbols.ReplaceOptions.{ReplaceOptions}
 
 -- all bytes have a replaced text, also where a word goes on in them
-goes_at : (options : Replacement) (byte : ℕ) (bytes : List ℕ) (t : Bool) → is_word_byte byte ≡ t → ((text : List ℕ) × StartsMidWord options bytes text)
+goes_at : (options : ReplaceOptions) (byte : ℕ) (bytes : List ℕ) (t : Bool) → is_word_byte byte ≡ t → ((text : List ℕ) × StartsMidWord options bytes text)
     → (text : List ℕ) × StartsMidWord options (byte ∷ bytes) text
 goes_at options byte bytes true is rest = (
   byte ∷ rest.0,
@@ -48,7 +48,7 @@ goes_at options byte bytes false is rest =
     )
 
 -- no byte of the word
-not_gone_on : (options : Replacement) (bytes text : List ℕ) → begins_word bytes ≡ false → IsReplaced options bytes text → StartsMidWord options bytes text
+not_gone_on : (options : ReplaceOptions) (bytes text : List ℕ) → begins_word bytes ≡ false → IsReplaced options bytes text → StartsMidWord options bytes text
 not_gone_on options bytes text next replaced =
     record {
       word = [];
@@ -61,20 +61,20 @@ not_gone_on options bytes text next replaced =
       replaced = replaced;
     }
 
-goes_of : (options : Replacement) (bytes : List ℕ) → (text : List ℕ) × StartsMidWord options bytes text
+goes_of : (options : ReplaceOptions) (bytes : List ℕ) → (text : List ℕ) × StartsMidWord options bytes text
 goes_of options [] = ([], not_gone_on options [] [] refl no_byte)
 goes_of options (byte ∷ bytes) = goes_at options byte bytes (is_word_byte byte) refl (goes_of options bytes)
 
-replaced_in : (options : Replacement) (mid_word : Bool) (bytes : List ℕ) → (text : List ℕ) × IsReplacedFrom options mid_word bytes text
+replaced_in : (options : ReplaceOptions) (mid_word : Bool) (bytes : List ℕ) → (text : List ℕ) × IsReplacedFrom options mid_word bytes text
 replaced_in options true bytes = goes_of options bytes
 replaced_in options false bytes = replaced_of options bytes
 
-nothing_in : (options : Replacement) (mid_word : Bool) → IsReplacedFrom options mid_word [] []
+nothing_in : (options : ReplaceOptions) (mid_word : Bool) → IsReplacedFrom options mid_word [] []
 nothing_in options true = not_gone_on options [] [] refl no_byte
 nothing_in options false = no_byte
 
 -- what is left has one too, where no word goes on in it
-left_in : (options : Replacement) (mid_word : Bool) (left text : List ℕ) → (mid_word ≡ true → left ≡ []) → IsReplaced options left text → IsReplacedFrom options mid_word left text
+left_in : (options : ReplaceOptions) (mid_word : Bool) (left text : List ℕ) → (mid_word ≡ true → left ≡ []) → IsReplaced options left text → IsReplacedFrom options mid_word left text
 left_in options true left text none replaced = not_gone_on options left text (ap begins_word (none refl)) replaced
 left_in options false left text none replaced = replaced
 
@@ -83,7 +83,7 @@ none_before : (first second : List ℕ) → first ++ second ≡ [] → (first �
 none_before [] second none = (refl, none)
 none_before (byte ∷ bytes) second none = absurd (cc)
 
-leads_on : (options : Replacement) (mid_word mid after : Bool) (first text second more : List ℕ) → ContinuesTo options mid_word first text mid → ContinuesTo options mid second more after
+leads_on : (options : ReplaceOptions) (mid_word mid after : Bool) (first text second more : List ℕ) → ContinuesTo options mid_word first text mid → ContinuesTo options mid second more after
     → ContinuesTo options mid_word (first ++ second) (text ++ more) after
 leads_on options mid_word mid after first text second more one two =
     record {
@@ -91,25 +91,25 @@ leads_on options mid_word mid after first text second more one two =
           subst (λ l. IsReplacedFrom options mid_word l ((text ++ more) ++ end)) (sym (append_assoc first second rest))
           (subst (IsReplacedFrom options mid_word (first ++ (second ++ rest))) (sym (append_assoc text more end))
           (one.goes (second ++ rest) (more ++ end) (two.goes rest end replaced)));
-      ended = λ is. whole-append first second (two.ended is) (λ none. one.ended (two.none is none));
-      none = λ is all. let both = none_before first second all in one.none (two.none is both.1) both.0;
+      ended = λ is. whole-append first second (two.ended is) (λ none. one.ended (two.empty is none));
+      empty = λ is all. let both = none_before first second all in one.empty (two.empty is both.1) both.0;
     }
 
 -- no bytes yet
-pub none_leads : (options : Replacement) → ContinuesTo options false [] [] false
-none_leads options = record { goes = λ rest more replaced. replaced; ended = λ _. refl; none = λ _ _. refl }
+pub none_leads : (options : ReplaceOptions) → ContinuesTo options false [] [] false
+none_leads options = record { goes = λ rest more replaced. replaced; ended = λ _. refl; empty = λ _ _. refl }
 
 -- whole words
-whole_leads : (options : Replacement) (words text : List ℕ) → ends_word words ≡ false → IsReplaced options words text → ContinuesTo options false words text false
+whole_leads : (options : ReplaceOptions) (words text : List ℕ) → ends_word words ≡ false → IsReplaced options words text → ContinuesTo options false words text false
 whole_leads options words text whole replaced =
     record {
       goes = λ rest more next. IsReplaced-append options replaced next (whole_parted words rest whole);
       ended = λ _. whole;
-      none = λ _ _. refl;
+      empty = λ _ _. refl;
     }
 
 -- a word whose front shows no symbol stays
-word_kept : (options : Replacement) (front rest bytes text : List ℕ) → All IsWordByte front → may_hold_symbol options.strip front ≡ false → All IsWordByte rest
+word_kept : (options : ReplaceOptions) (front rest bytes text : List ℕ) → All IsWordByte front → may_hold_symbol options.strip front ≡ false → All IsWordByte rest
     → begins_word bytes ≡ false → IsReplaced options bytes text → IsReplaced options ((front ++ rest) ++ bytes) ((front ++ rest) ++ text)
 word_kept options front rest bytes text all plain more next replaced =
     let word : List ℕ = front ++ rest in
@@ -120,7 +120,7 @@ word_kept options front rest bytes text all plain more next replaced =
     (one_word split.dots some (All-same IsWordByte (split.stem ++ split.dots) word back (All-append IsWordByte front rest all more)) split.dotted split.undotted
     (no_symbol (stem_plain options.strip front rest split.stem split.dots plain split.word_is)) next replaced)
 
-plain_leads : (options : Replacement) (word : List ℕ) → All IsWordByte word → may_hold_symbol options.strip word ≡ false → ContinuesTo options false word word true
+plain_leads : (options : ReplaceOptions) (word : List ℕ) → All IsWordByte word → may_hold_symbol options.strip word ≡ false → ContinuesTo options false word word true
 plain_leads options word all plain =
     record {
       goes = λ rest more goes.
@@ -130,11 +130,11 @@ plain_leads options word all plain =
           (subst (IsReplaced options ((word ++ goes.word) ++ goes.more)) (append_assoc word goes.word goes.more_text)
           (word_kept options word goes.word goes.more goes.more_text all plain goes.all goes.next goes.replaced))));
       ended = λ is. absurd (false≢true (sym is));
-      none = λ is _. absurd (false≢true (sym is));
+      empty = λ is _. absurd (false≢true (sym is));
     }
 
 -- more bytes of it
-pub on_leads : (options : Replacement) (word : List ℕ) → All IsWordByte word → ContinuesTo options true word word true
+pub on_leads : (options : ReplaceOptions) (word : List ℕ) → All IsWordByte word → ContinuesTo options true word word true
 on_leads options word all =
     record {
       goes = λ rest more goes.
@@ -149,11 +149,11 @@ on_leads options word all =
             replaced = goes.replaced;
           };
       ended = λ is. absurd (false≢true (sym is));
-      none = λ is _. absurd (false≢true (sym is));
+      empty = λ is _. absurd (false≢true (sym is));
     }
 
 -- its last bytes, and the byte after it
-past_leads : (options : Replacement) (word : List ℕ) (byte : ℕ) → All IsWordByte word → is_word_byte byte ≡ false → ContinuesTo options true (word ++ byte ∷ []) (word ++ byte ∷ []) false
+past_leads : (options : ReplaceOptions) (word : List ℕ) (byte : ℕ) → All IsWordByte word → is_word_byte byte ≡ false → ContinuesTo options true (word ++ byte ∷ []) (word ++ byte ∷ []) false
 past_leads options word byte all end =
     record {
       goes = λ rest more replaced.
@@ -168,22 +168,22 @@ past_leads options word byte all end =
             replaced = other end replaced;
           };
       ended = λ _. whole-append word (byte ∷ []) end (λ e. absurd (cc));
-      none = λ _ all_none. absurd (let both = none_before word (byte ∷ []) all_none in let e = both.1 in cc);
+      empty = λ _ all_none. absurd (let both = none_before word (byte ∷ []) all_none in let e = both.1 in cc);
     }
 
 -- the first word of bytes in which it goes on, and the byte after it
-pub first_leads : (options : Replacement) (bytes : List ℕ) (end : ℕ) → end < length bytes → AreWordBytes bytes 0 end → is_word_byte (get_or bytes end 0) ≡ false
+pub first_leads : (options : ReplaceOptions) (bytes : List ℕ) (end : ℕ) → end < length bytes → AreWordBytes bytes 0 end → is_word_byte (get_or bytes end 0) ≡ false
     → ContinuesTo options true (take (end + 1) bytes) (take (end + 1) bytes) false
 first_leads options bytes end mid_word word ended =
     subst (λ l. ContinuesTo options true l l false) (sym (take_more bytes end 0 mid_word))
     (past_leads options (take end bytes) (get_or bytes end 0) (rest_of_word bytes end (omega (arith, mid_word)) word) ended)
 
 -- nothing was given yet
-pub none_replaced : (options : Replacement) (given : List ℕ) (at : Option (List ℕ)) → ReplacesUpTo options false given given false at at
+pub none_replaced : (options : ReplaceOptions) (given : List ℕ) (at : Option (List ℕ)) → ReplacesUpTo options false given given false at at
 none_replaced options given at = record { done = []; text = []; given_is = refl; leads = none_leads options; written = Appends-nil at }
 
 -- more of what was left was replaced
-pub replaced_on : (options : Replacement) (mid_word mid after : Bool) (given left left' : List ℕ) (t t' t'' : Option (List ℕ)) → ReplacesUpTo options mid_word given left mid t t'
+pub replaced_on : (options : ReplaceOptions) (mid_word mid after : Bool) (given left left' : List ℕ) (t t' t'' : Option (List ℕ)) → ReplacesUpTo options mid_word given left mid t t'
     → ReplacesUpTo options mid left left' after t' t'' → ReplacesUpTo options mid_word given left' after t t''
 replaced_on options mid_word mid after given left left' t t' t'' one two =
     record {
@@ -195,7 +195,7 @@ replaced_on options mid_word mid after given left left' t t' t'' one two =
     }
 
 -- more was given
-pub given_more : (options : Replacement) (mid_word after : Bool) (given left piece : List ℕ) (t t' : Option (List ℕ)) → ReplacesUpTo options mid_word given left after t t'
+pub given_more : (options : ReplaceOptions) (mid_word after : Bool) (given left piece : List ℕ) (t t' : Option (List ℕ)) → ReplacesUpTo options mid_word given left after t t'
     → ReplacesUpTo options mid_word (given ++ piece) (left ++ piece) after t t'
 given_more options mid_word after given left piece t t' so_far =
     record {
@@ -207,37 +207,37 @@ given_more options mid_word after given left piece t t' so_far =
     }
 
 -- whole words were written
-pub words_replaced : (options : Replacement) (given left : List ℕ) (t t' : Option (List ℕ)) → FiltersUpTo (Words options) given left t t' → ReplacesUpTo options false given left false t t'
+pub words_replaced : (options : ReplaceOptions) (given left : List ℕ) (t t' : Option (List ℕ)) → FiltersUpTo (Words options) given left t t' → ReplacesUpTo options false given left false t t'
 words_replaced options given left t t' so_far =
     record {
-      done = so_far.lines;
+      done = so_far.whole;
       text = so_far.text;
       given_is = so_far.given_is;
-      leads = whole_leads options so_far.lines so_far.text so_far.filtered.0 so_far.filtered.1;
+      leads = whole_leads options so_far.whole so_far.text so_far.filtered.0 so_far.filtered.1;
       written = so_far.written;
     }
 
 -- a front of the bytes was replaced
-pub front_replaced : (options : Replacement) (mid_word after : Bool) (bytes front left : List ℕ) (n : ℕ) (t t' : Option (List ℕ)) → ReplacesUpTo options mid_word front left after t t' → front ≡ take n bytes
+pub front_replaced : (options : ReplaceOptions) (mid_word after : Bool) (bytes front left : List ℕ) (n : ℕ) (t t' : Option (List ℕ)) → ReplacesUpTo options mid_word front left after t t' → front ≡ take n bytes
     → ReplacesUpTo options mid_word bytes (left ++ drop n bytes) after t t'
 front_replaced options mid_word after bytes front left n t t' so_far front_is =
     subst (λ l. ReplacesUpTo options mid_word l (left ++ drop n bytes) after t t') (ap (λ l. l ++ drop n bytes) front_is ∙ take-append-drop n bytes)
     (given_more options mid_word after front left (drop n bytes) t t' so_far)
 
 -- a word was passed on
-pub word_passed : (options : Replacement) (word : List ℕ) (t t' : Option (List ℕ)) → All IsWordByte word → may_hold_symbol options.strip word ≡ false → Appends t t' word
+pub word_passed : (options : ReplaceOptions) (word : List ℕ) (t t' : Option (List ℕ)) → All IsWordByte word → may_hold_symbol options.strip word ≡ false → Appends t t' word
     → ReplacesUpTo options false word [] true t t'
 word_passed options word t t' all plain writes =
     record { done = word; text = word; given_is = sym (append-nil word); leads = plain_leads options word all plain; written = writes }
 
 -- bytes that stay were written
-pub front_passed : (options : Replacement) (mid_word after : Bool) (bytes : List ℕ) (n : ℕ) (t t' : Option (List ℕ)) → ContinuesTo options mid_word (take n bytes) (take n bytes) after
+pub front_passed : (options : ReplaceOptions) (mid_word after : Bool) (bytes : List ℕ) (n : ℕ) (t t' : Option (List ℕ)) → ContinuesTo options mid_word (take n bytes) (take n bytes) after
     → Appends t t' (take n bytes) → ReplacesUpTo options mid_word bytes (drop n bytes) after t t'
 front_passed options mid_word after bytes n t t' leads writes =
     record { done = take n bytes; text = take n bytes; given_is = sym (take-append-drop n bytes); leads = leads; written = writes }
 
 -- a front of what the bytes lead to
-front_of : (options : Replacement) (mid_word after : Bool) (bytes text rest written : List ℕ) → ContinuesTo options mid_word bytes text after → IsBeginningOf written text
+front_of : (options : ReplaceOptions) (mid_word after : Bool) (bytes text rest written : List ℕ) → ContinuesTo options mid_word bytes text after → IsBeginningOf written text
     → (all : List ℕ) × IsReplacedFrom options mid_word (bytes ++ rest) all × IsBeginningOf written all
 front_of options mid_word after bytes text rest written leads is_front =
     let found = replaced_in options after rest in (
@@ -247,7 +247,7 @@ front_of options mid_word after bytes text rest written leads is_front =
     )
 
 -- a front of bytes that stay was written
-pub stay_front : (options : Replacement) (mid_word after : Bool) (bytes front : List ℕ) (n : ℕ) (t t' : Option (List ℕ)) → ContinuesTo options mid_word front front after → front ≡ take n bytes
+pub stay_front : (options : ReplaceOptions) (mid_word after : Bool) (bytes front : List ℕ) (n : ℕ) (t t' : Option (List ℕ)) → ContinuesTo options mid_word front front after → front ≡ take n bytes
     → WritesBeginningOf front t t' → ReplacesBeginningOfAny options mid_word bytes t t'
 stay_front options mid_word after bytes front n t t' leads front_is (left, writes) rest =
     let whole : bytes ++ rest ≡ front ++ (drop n bytes ++ rest) =
@@ -258,7 +258,7 @@ stay_front options mid_word after bytes front n t t' leads front_is (left, write
       writes.written,
     )
 
-pub word_front : (options : Replacement) (word : List ℕ) (t t' : Option (List ℕ)) → All IsWordByte word → may_hold_symbol options.strip word ≡ false → WritesBeginningOf word t t'
+pub word_front : (options : ReplaceOptions) (word : List ℕ) (t t' : Option (List ℕ)) → All IsWordByte word → may_hold_symbol options.strip word ≡ false → WritesBeginningOf word t t'
     → ReplacesBeginningOfAny options false word t t'
 word_front options word t t' all plain writes rest =
     let front = writes.1 in
@@ -266,7 +266,7 @@ word_front options word t t' all plain writes rest =
     (front.front, found, front.written)
 
 -- a beginning of what was left
-begins_after : (options : Replacement) (mid_word mid : Bool) (given left rest : List ℕ) (t t' t'' : Option (List ℕ)) → ReplacesUpTo options mid_word given left mid t t'
+begins_after : (options : ReplaceOptions) (mid_word mid : Bool) (given left rest : List ℕ) (t t' t'' : Option (List ℕ)) → ReplacesUpTo options mid_word given left mid t t'
     → ReplacesBeginning options mid (left ++ rest) t' t'' → ReplacesBeginning options mid_word (given ++ rest) t t''
 begins_after options mid_word mid given left rest t t' t'' so_far (written, (text, replaced, is_front), writes) = (
   so_far.text ++ written,
@@ -279,12 +279,12 @@ begins_after options mid_word mid given left rest t t' t'' so_far (written, (tex
   Appends-trans t t' t'' so_far.text written so_far.written writes,
 )
 
-pub front_after : (options : Replacement) (mid_word mid : Bool) (given left : List ℕ) (t t' t'' : Option (List ℕ)) → ReplacesUpTo options mid_word given left mid t t'
+pub front_after : (options : ReplaceOptions) (mid_word mid : Bool) (given left : List ℕ) (t t' t'' : Option (List ℕ)) → ReplacesUpTo options mid_word given left mid t t'
     → ReplacesBeginningOfAny options mid left t' t'' → ReplacesBeginningOfAny options mid_word given t t''
 front_after options mid_word mid given left t t' t'' so_far begins rest = begins_after options mid_word mid given left rest t t' t'' so_far (begins rest)
 
 -- a front of whole words, before other bytes
-pub words_front : (options : Replacement) (bytes words : List ℕ) (n : ℕ) (t t' : Option (List ℕ)) → WritesBeginningOfAny (Words options) words t t' → words ≡ take n bytes
+pub words_front : (options : ReplaceOptions) (bytes words : List ℕ) (n : ℕ) (t t' : Option (List ℕ)) → WritesBeginningOfAny (Words options) words t t' → words ≡ take n bytes
     → ReplacesBeginningOfAny options false bytes t t'
 words_front options bytes words n t t' begins words_are rest =
     let whole : words ++ (drop n bytes ++ rest) ≡ bytes ++ rest =
@@ -292,16 +292,16 @@ words_front options bytes words n t t' begins words_are rest =
     subst (λ l. ReplacesBeginning options false l t t') whole (begins (drop n bytes ++ rest))
 
 -- nothing is held back
-pub no_word_kept : (options : Replacement) (word : List ℕ) → word ≡ [] → IsKept options.strip word
+pub no_word_kept : (options : ReplaceOptions) (word : List ℕ) → word ≡ [] → IsKept options.strip word
 no_word_kept options word word_is = subst (IsKept options.strip) (sym word_is) (record { word = All-nil IsWordByte; may_hold = refl })
 
 -- whole words were written of what was read
-pub whole_words : (options : Replacement) (read left : List ℕ) (s s' t t' : Option (List ℕ)) → Consumes s s' read → ReplacesUpTo options false read left false t t'
+pub whole_words : (options : ReplaceOptions) (read left : List ℕ) (s s' t t' : Option (List ℕ)) → Consumes s s' read → ReplacesUpTo options false read left false t t'
     → FiltersWhole (Words options) s s' t t'
 whole_words options read left s s' t t' consumed replaced =
     let leads = replaced.leads in
     record {
-      lines = replaced.done;
+      whole = replaced.done;
       left = left;
       consumed = subst (Consumes s s') replaced.given_is consumed;
       text = replaced.text;
@@ -314,7 +314,7 @@ whole_words options read left s s' t t' consumed replaced =
     }
 
 -- the replaced text of what was done
-done_replaced : (options : Replacement) (mid_word : Bool) (bytes text : List ℕ) → ContinuesTo options false bytes text mid_word → IsReplaced options bytes text
+done_replaced : (options : ReplaceOptions) (mid_word : Bool) (bytes text : List ℕ) → ContinuesTo options false bytes text mid_word → IsReplaced options bytes text
 done_replaced options mid_word bytes text leads =
     subst (λ l. IsReplaced options l text) (append-nil bytes)
     (subst (IsReplaced options (bytes ++ [])) (append-nil text) (leads.goes [] [] (nothing_in options mid_word)))
@@ -325,7 +325,7 @@ held_begins true done word ended none ends = none refl
 held_begins false done word ended none ends = absurd (false≢true (sym (ended refl) ∙ ends))
 
 -- the source gave these bytes, and all were written but those held back
-pub all_but_kept : (options : Replacement) (mid_word : Bool) (read word : List ℕ) (s s' t t' : Option (List ℕ)) → Consumes s s' read → ReplacesUpTo options false read word mid_word t t'
+pub all_but_kept : (options : ReplaceOptions) (mid_word : Bool) (read word : List ℕ) (s s' t t' : Option (List ℕ)) → Consumes s s' read → ReplacesUpTo options false read word mid_word t t'
     → (mid_word ≡ true → word ≡ []) → IsKept options.strip word → ReplacesAllButKept options s s' t t'
 all_but_kept options mid_word read word s s' t t' consumed replaced none kept =
     record {
@@ -340,7 +340,7 @@ all_but_kept options mid_word read word s s' t t' consumed replaced none kept =
     }
 
 -- what is written stays a beginning
-pub replaced_begun : (options : Replacement) (mid_word : Bool) (read word : List ℕ) (t t' : Option (List ℕ)) → ReplacesUpTo options false read word mid_word t t'
+pub replaced_begun : (options : ReplaceOptions) (mid_word : Bool) (read word : List ℕ) (t t' : Option (List ℕ)) → ReplacesUpTo options false read word mid_word t t'
     → WritesBeginning (Words options) read t t'
 replaced_begun options mid_word read word t t' replaced =
     let found = replaced_in options mid_word word in (
@@ -354,7 +354,7 @@ replaced_begun options mid_word read word t t' replaced =
     )
 
 -- the last word was written too
-pub last_on : (options : Replacement) (mid_word : Bool) (read word : List ℕ) (t t' t'' : Option (List ℕ)) → ReplacesUpTo options false read word mid_word t t'
+pub last_on : (options : ReplaceOptions) (mid_word : Bool) (read word : List ℕ) (t t' t'' : Option (List ℕ)) → ReplacesUpTo options false read word mid_word t t'
     → (mid_word ≡ true → word ≡ []) → WritesFiltered (Words options) word t' t'' → WritesFiltered (Words options) read t t''
 last_on options mid_word read word t t' t'' replaced none (text, is_replaced, writes) = (
   replaced.text ++ text,
@@ -364,7 +364,7 @@ last_on options mid_word read word t t' t'' replaced none (text, is_replaced, wr
 )
 
 -- a beginning of it was
-pub last_begun : (options : Replacement) (mid_word : Bool) (read word : List ℕ) (t t' t'' : Option (List ℕ)) → ReplacesUpTo options false read word mid_word t t'
+pub last_begun : (options : ReplaceOptions) (mid_word : Bool) (read word : List ℕ) (t t' t'' : Option (List ℕ)) → ReplacesUpTo options false read word mid_word t t'
     → (mid_word ≡ true → word ≡ []) → WritesBeginning (Words options) word t' t'' → WritesBeginning (Words options) read t t''
 last_begun options mid_word read word t t' t'' replaced none (written, (text, is_replaced, is_front), writes) = (
   replaced.text ++ written,
@@ -378,7 +378,7 @@ last_begun options mid_word read word t t' t'' replaced none (written, (text, is
 )
 
 -- nothing more was written
-pub replaced_kept : (options : Replacement) (mid_word after : Bool) (given left : List ℕ) (t t' t'' : Option (List ℕ)) → ReplacesUpTo options mid_word given left after t t' → Keeps t' t''
+pub replaced_kept : (options : ReplaceOptions) (mid_word after : Bool) (given left : List ℕ) (t t' t'' : Option (List ℕ)) → ReplacesUpTo options mid_word given left after t t' → Keeps t' t''
     → ReplacesUpTo options mid_word given left after t t''
 replaced_kept options mid_word after given left t t' t'' replaced keeps =
     record {

@@ -2,7 +2,7 @@
 use Rattle.std.specs.Prelude.{◌≡◌, ◌≢◌, ℕ, ◌-◌, ◌<◌, List, [], ◌∷◌, ◌++◌, All, true, false, IsUtf8, Option, Some, None, length, slice_index}
 use Rattle.std.specs.Io.KnownBytes.{Appends, Consumes}
 use Rattle.symfilter_engine.specs.declared.symbols.Printing.{Printing}
-use Rattle.symfilter_engine.specs.declared.symbols.Replacement.{Replacement}
+use Rattle.symfilter_engine.specs.declared.symbols.ReplaceOptions.{ReplaceOptions}
 use Rattle.symfilter_engine.specs.declared.symbols.Placement.{Placement}
 use Rattle.symfilter_engine.specs.declared.symbols.Placement.TheVariants.{Lines, Words}
 use Rattle.symfilter_engine.specs.Printed.{IsPrintedAs}
@@ -59,8 +59,8 @@ AreWhole (Words options) bytes = ends_word bytes ≡ false
 
 -- whole lines or words, and their filtered text
 abbrev pub AreWholeFiltered : Placement → List ℕ → List ℕ → Type 0
-AreWholeFiltered (Lines printing) lines text = AreLinesAnswered printing lines text
-AreWholeFiltered (Words options) lines text = (ends_word lines ≡ false) × IsReplaced options lines text
+AreWholeFiltered (Lines printing) whole text = AreLinesAnswered printing whole text
+AreWholeFiltered (Words options) whole text = (ends_word whole ≡ false) × IsReplaced options whole text
 
 -- written is a front of the text
 abbrev pub IsBeginningOf : List ℕ → List ℕ → Type 0
@@ -91,28 +91,28 @@ pub record FiltersBeginning (placement : Placement)
 -- text of the former and nothing else
 pub record FiltersWhole (placement : Placement)
     (before after written_before written_after : Option (List ℕ)) : Type 0 where
-  pub lines : List ℕ
+  pub whole : List ℕ
   pub left : List ℕ
-  pub consumed : Consumes before after (lines ++ left)
+  pub consumed : Consumes before after (whole ++ left)
   pub text : List ℕ
-  pub filtered : AreWholeFiltered placement lines text
+  pub filtered : AreWholeFiltered placement whole text
   pub written : Appends written_before written_after text
 
 -- the source gave whole lines and a part of one more, where its bytes are known, and the sink got the filtered text
 -- of the whole lines and nothing else
 pub record FiltersAllButKept (printing : Printing)
     (before after written_before written_after : Option (List ℕ)) : Type 0 where
-  pub lines : List ℕ
+  pub whole : List ℕ
   pub line : List ℕ
-  pub consumed : Consumes before after (lines ++ line)
+  pub consumed : Consumes before after (whole ++ line)
   pub unended : HasNoLineFeed line
   pub text : List ℕ
-  pub filtered : AreLinesAnswered printing lines text
+  pub filtered : AreLinesAnswered printing whole text
   pub written : Appends written_before written_after text
 
 -- the source gave these bytes and then those that are held back, where its bytes are known, and the sink got the
 -- replaced text of the former and nothing else
-pub record ReplacesAllButKept (options : Replacement)
+pub record ReplacesAllButKept (options : ReplaceOptions)
     (before after written_before written_after : Option (List ℕ)) : Type 0 where
   pub given : List ℕ
   pub kept : List ℕ

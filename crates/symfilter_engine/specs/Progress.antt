@@ -1,7 +1,7 @@
 -- What has been written on the way.
 use Rattle.std.specs.Prelude.{◌≡◌, ◌≢◌, ℕ, suc, ◌-◌, ◌<◌, ◌≤◌, List, [], ◌++◌, All, Bool, true, false, Option, length, take, slice_index}
 use Rattle.std.specs.Io.KnownBytes.{Appends, Consumes, IsAtEnd}
-use Rattle.symfilter_engine.specs.declared.symbols.Replacement.{Replacement}
+use Rattle.symfilter_engine.specs.declared.symbols.ReplaceOptions.{ReplaceOptions}
 use Rattle.symfilter_engine.specs.declared.symbols.Placement.{Placement}
 use Rattle.symfilter_engine.specs.declared.symbols.Placement.TheVariants.{Lines, Words}
 use Rattle.symfilter_engine.specs.Filtered.{line_feed, HasNoLineFeed, AreWholeFiltered, IsBeginningOf, WritesBeginning, FiltersAllButKept, ReplacesAllButKept}
@@ -53,7 +53,7 @@ abbrev pub Extends : List ℕ → List ℕ → Type 0
 Extends before after = (more : List ℕ) × (after ≡ before ++ more)
 
 -- the replaced text of the bytes was appended
-abbrev pub AppendsReplaced : Replacement → List ℕ → List ℕ → List ℕ → Type 0
+abbrev pub AppendsReplaced : ReplaceOptions → List ℕ → List ℕ → List ℕ → Type 0
 AppendsReplaced options bytes before after =
     (text : List ℕ) × IsReplaced options bytes text × (after ≡ before ++ text)
 
@@ -67,32 +67,32 @@ pub record WritesUpTo (bytes rest : List ℕ) (before after : Option (List ℕ))
 abbrev pub WritesBeginningOf : List ℕ → Option (List ℕ) → Option (List ℕ) → Type 0
 WritesBeginningOf bytes before after = (rest : List ℕ) × WritesUpTo bytes rest before after
 
--- the filtered text of the lines was appended
+-- the filtered text of whole lines or words was appended
 abbrev pub AppendsFiltered : Placement → List ℕ → List ℕ → List ℕ → Type 0
-AppendsFiltered placement lines before after =
-    (text : List ℕ) × AreWholeFiltered placement lines text × (after ≡ before ++ text)
+AppendsFiltered placement whole before after =
+    (text : List ℕ) × AreWholeFiltered placement whole text × (after ≡ before ++ text)
 
--- whole lines of the bytes given were written filtered, and these bytes are left
+-- the filtered text of whole lines or words at the front of the bytes given was written, and these bytes are left
 pub record FiltersUpTo (placement : Placement) (given left : List ℕ) (before after : Option (List ℕ)) : Type 0 where
-  pub lines : List ℕ
+  pub whole : List ℕ
   pub text : List ℕ
-  pub given_is : given ≡ lines ++ left
-  pub filtered : AreWholeFiltered placement lines text
+  pub given_is : given ≡ whole ++ left
+  pub filtered : AreWholeFiltered placement whole text
   pub written : Appends before after text
 
--- whole lines of the bytes given were written filtered, and nothing of the next line
+-- the filtered text of whole lines or words at the front was written, and nothing of the next one
 abbrev pub FiltersSome : Placement → List ℕ → Option (List ℕ) → Option (List ℕ) → Type 0
 FiltersSome placement given before after = (left : List ℕ) × FiltersUpTo placement given left before after
 
--- the filtered text of these lines was written
+-- the filtered text of these whole lines or words was written
 abbrev pub WritesWholeFiltered : Placement → List ℕ → Option (List ℕ) → Option (List ℕ) → Type 0
-WritesWholeFiltered placement lines before after =
-    (text : List ℕ) × AreWholeFiltered placement lines text × Appends before after text
+WritesWholeFiltered placement whole before after =
+    (text : List ℕ) × AreWholeFiltered placement whole text × Appends before after text
 
--- whatever follows these lines, a beginning of the filtered text of all was written
+-- whatever follows these lines or words, a beginning of the filtered text of all was written
 abbrev pub WritesBeginningOfAny : Placement → List ℕ → Option (List ℕ) → Option (List ℕ) → Type 0
-WritesBeginningOfAny placement lines before after =
-    (rest : List ℕ) → WritesBeginning placement (lines ++ rest) before after
+WritesBeginningOfAny placement whole before after =
+    (rest : List ℕ) → WritesBeginning placement (whole ++ rest) before after
 
 -- The chunk has its first `kept` bytes as before, then what was read, up to `end`. If that is nothing, the input ends.
 pub record ReadsMore (kept end : ℕ) (old new : List ℕ) (before after : Option (List ℕ)) : Type 0 where
@@ -104,7 +104,7 @@ pub record ReadsMore (kept end : ℕ) (old new : List ℕ) (before after : Optio
   pub ended : end ≡ kept → IsAtEnd after
 
 -- `text` is the replaced text of `bytes`, which begin inside a word without a symbol. `word` is the rest of that word.
-pub record StartsMidWord (options : Replacement) (bytes text : List ℕ) : Type 0 where
+pub record StartsMidWord (options : ReplaceOptions) (bytes text : List ℕ) : Type 0 where
   pub word : List ℕ
   pub more : List ℕ
   pub more_text : List ℕ
@@ -115,39 +115,40 @@ pub record StartsMidWord (options : Replacement) (bytes text : List ℕ) : Type 
   pub replaced : IsReplaced options more more_text
 
 -- `text` is the replaced text of `bytes`. The truth value says whether they begin inside a word without a symbol.
-abbrev pub IsReplacedFrom : Replacement → Bool → List ℕ → List ℕ → Type 0
+abbrev pub IsReplacedFrom : ReplaceOptions → Bool → List ℕ → List ℕ → Type 0
 IsReplacedFrom options true bytes text = StartsMidWord options bytes text
 IsReplacedFrom options false bytes text = IsReplaced options bytes text
 
--- `text` is the replaced text of `bytes`. `mid_word`: the bytes begin inside a word without a symbol. `after`: such a
--- word continues after them.
-pub record ContinuesTo (options : Replacement) (mid_word : Bool) (bytes text : List ℕ) (after : Bool) : Type 0 where
+-- `text` is the replaced text of `bytes`. `mid_word`: the bytes begin inside a word without a symbol. `goes_on`: such
+-- a word continues after them.
+pub record ContinuesTo (options : ReplaceOptions) (mid_word : Bool) (bytes text : List ℕ) (goes_on : Bool)
+    : Type 0 where
   pub goes :
       (rest more : List ℕ)
-      → IsReplacedFrom options after rest more
+      → IsReplacedFrom options goes_on rest more
       → IsReplacedFrom options mid_word (bytes ++ rest) (text ++ more)
-  pub ended : after ≡ false → ends_word bytes ≡ false
-  pub none : after ≡ false → bytes ≡ [] → mid_word ≡ false
+  pub ended : goes_on ≡ false → ends_word bytes ≡ false
+  pub empty : goes_on ≡ false → bytes ≡ [] → mid_word ≡ false
 
--- The given bytes are `done ++ left`, and the replaced text of `done` was written. `mid_word` and `after` are those of
--- `ContinuesTo`, for `done`.
-pub record ReplacesUpTo (options : Replacement) (mid_word : Bool) (given left : List ℕ) (after : Bool)
-    (before_written after_written : Option (List ℕ)) : Type 0 where
+-- The given bytes are `done ++ left`, and the replaced text of `done` was written. `mid_word` and `goes_on` are those
+-- of `ContinuesTo`, for `done`.
+pub record ReplacesUpTo (options : ReplaceOptions) (mid_word : Bool) (given left : List ℕ) (goes_on : Bool)
+    (written_before written_after : Option (List ℕ)) : Type 0 where
   pub done : List ℕ
   pub text : List ℕ
   pub given_is : given ≡ done ++ left
-  pub leads : ContinuesTo options mid_word done text after
-  pub written : Appends before_written after_written text
+  pub leads : ContinuesTo options mid_word done text goes_on
+  pub written : Appends written_before written_after text
 
 -- A beginning of the replaced text of the given bytes was written. `mid_word` is that of `ContinuesTo`.
-abbrev pub ReplacesBeginning : Replacement → Bool → List ℕ → Option (List ℕ) → Option (List ℕ) → Type 0
+abbrev pub ReplacesBeginning : ReplaceOptions → Bool → List ℕ → Option (List ℕ) → Option (List ℕ) → Type 0
 ReplacesBeginning options mid_word given before after =
     (written : List ℕ)
     × ((text : List ℕ) × IsReplacedFrom options mid_word given text × IsBeginningOf written text)
     × Appends before after written
 
 -- For all bytes `rest` it holds that a beginning of the replaced text of `given ++ rest` was written.
-abbrev pub ReplacesBeginningOfAny : Replacement → Bool → List ℕ → Option (List ℕ) → Option (List ℕ) → Type 0
+abbrev pub ReplacesBeginningOfAny : ReplaceOptions → Bool → List ℕ → Option (List ℕ) → Option (List ℕ) → Type 0
 ReplacesBeginningOfAny options mid_word given before after =
     (rest : List ℕ) → ReplacesBeginning options mid_word (given ++ rest) before after
 
@@ -158,12 +159,12 @@ AreKept (Lines printing) bytes = HasNoLineFeed bytes
 AreKept (Words options) bytes = IsKept options.strip bytes
 
 -- The given bytes end in `left`, and the filtered text of those in front of `left` was written. In lines these are
--- whole lines, and `mid_word` and `after` say nothing. In words `mid_word` and `after` are those of `ReplacesUpTo`.
+-- whole lines, and `mid_word` and `goes_on` say nothing. In words `mid_word` and `goes_on` are those of `ReplacesUpTo`.
 abbrev pub WritesChunkUpTo : Placement → Bool → List ℕ → List ℕ → Bool → Option (List ℕ) → Option (List ℕ) → Type 0
-WritesChunkUpTo (Lines printing) mid_word given left after before_written after_written =
-    FiltersUpTo (Lines printing) given left before_written after_written
-WritesChunkUpTo (Words options) mid_word given left after before_written after_written =
-    ReplacesUpTo options mid_word given left after before_written after_written
+WritesChunkUpTo (Lines printing) mid_word given left goes_on written_before written_after =
+    FiltersUpTo (Lines printing) given left written_before written_after
+WritesChunkUpTo (Words options) mid_word given left goes_on written_before written_after =
+    ReplacesUpTo options mid_word given left goes_on written_before written_after
 
 -- The given bytes begin with whole lines or words, and the filtered text of these was written, and nothing else.
 abbrev pub WritesSomeOfChunk : Placement → Bool → List ℕ → Option (List ℕ) → Option (List ℕ) → Type 0
@@ -183,7 +184,7 @@ pub record CopiesUpTo (placement : Placement) (mid_word : Bool) (left : List ℕ
     (before after written_before written_after : Option (List ℕ)) : Type 0 where
   pub read : List ℕ
   pub consumed : Consumes before after read
-  pub none : mid_word ≡ true → left ≡ []
+  pub mid_word_keeps_none : mid_word ≡ true → left ≡ []
   pub written : WritesChunkUpTo placement false read left mid_word written_before written_after
 
 -- The filtered text of all bytes that were read was written, except for the last ones, which may be kept (`AreKept`).

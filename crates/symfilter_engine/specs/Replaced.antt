@@ -1,7 +1,7 @@
 -- The replaced text of a list of bytes: symbols in words are replaced by what is printed for them.
 use Rattle.std.specs.Prelude.{◌≡◌, ◌≢◌, ℕ, List, [], ◌∷◌, ◌++◌, All, Bool, false, ◌&&◌, ◌||◌, Option, Some, None, IsTrue, is_some, nat_lt, codes, length, take, drop, if◌then◌else◌}
 use Rattle.itanium_syntax.specs.Bytes.{is, is_between, is_digit, one_of, begins, begins_one_of}
-use Rattle.symfilter_engine.specs.declared.symbols.Replacement.{Replacement}
+use Rattle.symfilter_engine.specs.declared.symbols.ReplaceOptions.{ReplaceOptions}
 use Rattle.symfilter_engine.specs.Printed.{IsPrintedAs}
 
 -- a byte of words: an ASCII letter, a digit, `_`, `$` or `.`
@@ -57,7 +57,7 @@ abbrev pub symbol_in : Bool → List ℕ → Option (List ℕ)
 symbol_in strip word = symbol_at strip (past_prefix_chars word)
 
 -- a word without the dots at its end, and what is written for it
-pub data IsWordAnswer (options : Replacement) (word : List ℕ) : List ℕ → Type 0 where
+pub data IsWordAnswer (options : ReplaceOptions) (word : List ℕ) : List ℕ → Type 0 where
   -- its prefix characters stay, and something is printed for its symbol
   answered : {symbol text : List ℕ}
       → symbol_in options.strip word ≡ Some symbol
@@ -82,7 +82,7 @@ pub record IsKept (strip : Bool) (bytes : List ℕ) : Type 0 where
   pub may_hold : IsTrue (may_hold_symbol strip bytes)
 
 -- bytes, and their replaced text
-pub data IsReplaced (options : Replacement) : List ℕ → List ℕ → Type 0 where
+pub data IsReplaced (options : ReplaceOptions) : List ℕ → List ℕ → Type 0 where
   -- there are none
   no_byte : IsReplaced options [] []
   -- a byte that is in no word stays, and more bytes follow

@@ -1,7 +1,7 @@
 //! Copies the input to the output in chunks, and filters it on the way.
 ghost use Rattle.std.specs.Prelude.{◌≡◌, ◌<◌, ◌≤◌, true, false, [], length, take, drop, IsErrOf, IfOk, IfSome, Some, OnOk, OnErr};
 ghost use Rattle.std.specs.Io.KnownBytes.{Keeps};
-ghost use Rattle.symfilter_engine.specs.declared.symbols.Replacement.{Replacement};
+ghost use Rattle.symfilter_engine.specs.declared.symbols.ReplaceOptions.{ReplaceOptions};
 ghost use Rattle.symfilter_engine.specs.Fault.{IsRunOutcome, IsReadOutcome, IsWriteOutcome};
 ghost use Rattle.symfilter_engine.specs.Filtered.{FiltersBeginning, FiltersWhole, WritesFiltered};
 ghost use Rattle.symfilter_engine.specs.Progress.{AreKept, WritesChunkUpTo, ContinuesTo, ReadsMore, WritesAllButKept, WritesChunkBeginning, WritesSomeOfChunk};
@@ -114,12 +114,12 @@ fn write_chunk<W: Sink>(
     requires not_failed { W.failed sink.old ≡ false }
     requires within { kept ≤ length bytes.now }
     requires kept { AreKept placement (take kept bytes.now) }
-    requires none { mid_word ≡ true → kept ≡ 0 }
+    requires mid_word_keeps_none { mid_word ≡ true → kept ≡ 0 }
     ensures outcome { IsWriteOutcome result (W.failed sink.new) }
     ensures in_time { W.called_late sink.new ≡ W.called_late sink.old }
     ensures bound { IfOk result (λ written. written.0 ≤ length bytes.now) }
     ensures kept { IfOk result (λ written. AreKept placement (drop written.0 bytes.now)) }
-    ensures none { IfOk result (λ written. written.1 ≡ true → drop written.0 bytes.now ≡ []) }
+    ensures mid_word_keeps_none { IfOk result (λ written. written.1 ≡ true → drop written.0 bytes.now ≡ []) }
     ensures ok { IfOk result (λ written. WritesChunkUpTo placement mid_word bytes.now
         (drop written.0 bytes.now) written.1 (W.taken sink.old) (W.taken sink.new)) }
     ensures err { OnErr result (WritesChunkBeginning placement mid_word bytes.now
@@ -158,7 +158,7 @@ fn rest_of_word(mid_word: bool, bytes: &[u8]) -> (usize, bool)
     ensures bound { result.0 ≤ length bytes.now }
     ensures outside { mid_word ≡ false → result.0 ≡ 0 }
     ensures goes_on { result.1 ≡ true → result.0 ≡ length bytes.now }
-    ensures leads { (options : Replacement) →
+    ensures leads { (options : ReplaceOptions) →
         ContinuesTo options mid_word (take result.0 bytes.now) (take result.0 bytes.now) result.1 }
 {
     if !mid_word {

@@ -18,8 +18,8 @@ use std::alloc::Global;
 /// Returns at the first fault, and calls neither source nor sink after it. The fault is `Read` if the source has
 /// failed, `Write` if the sink has failed, and `Memory` if an allocation has failed. What was written is then a
 /// beginning of the filtered text: after `Read` the text of all whole lines that were read, and after `Memory` that of
-/// some whole lines. After `Memory` the output ends right before the line whose allocation failed. The code does so;
-/// no clause says it.
+/// some whole lines. The clause `memory` says that the output ends between two lines then. That it ends right before
+/// the line whose allocation failed isn't proved.
 pub fn filter<R: Source, W: Sink>(
     alloc: Global,
     source: &mut R,
@@ -57,8 +57,8 @@ pub fn filter<R: Source, W: Sink>(
 /// Returns at the first fault, and calls neither source nor sink after it. The fault is `Read` if the source has
 /// failed, `Write` if the sink has failed, and `Memory` if an allocation has failed. What was written is then a
 /// beginning of the filtered text: after `Read` the text of all whole lines that were read, and after `Memory` that of
-/// some whole lines. After `Memory` the output ends right before the line whose allocation failed. The code does so;
-/// no clause says it.
+/// some whole lines. The clause `memory` says that the output ends between two lines then. That it ends right before
+/// the line whose allocation failed isn't proved.
 pub fn filter_with<R: Source, W: Sink>(
     alloc: Global,
     printing: Printing,

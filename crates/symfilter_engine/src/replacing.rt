@@ -6,7 +6,7 @@ ghost use Rattle.symfilter_engine.specs.Filtered.{FiltersBeginning, FiltersWhole
 use super::chunks::filter_chunks;
 use super::fault::FilterFault;
 use super::streams::{Sink, Source};
-use super::symbols::{Placement, Replacement};
+use super::symbols::{Placement, ReplaceOptions};
 use std::alloc::Global;
 
 /// Reads to the end, and writes the replaced text: each symbol in a word is replaced by its demangled name or its
@@ -21,7 +21,7 @@ use std::alloc::Global;
 /// the text of all but the word that is kept, and after `Memory` that of some whole words.
 pub fn replace<R: Source, W: Sink>(
     alloc: Global,
-    options: Replacement,
+    options: ReplaceOptions,
     source: &mut R,
     sink: &mut W,
 ) -> Result<(), FilterFault>

@@ -18,7 +18,7 @@ pub enum Printing {
 
 /// How symbols in words are replaced.
 #[derive(Clone, Copy, Debug, PartialEq, Eq)]
-pub struct Replacement {
+pub struct ReplaceOptions {
     /// Whether one more underscore may stand in front of a symbol, and is dropped.
     pub strip: bool,
     /// What replaces a symbol.
@@ -31,7 +31,7 @@ pub(crate) enum Placement {
     /// A whole line may be a symbol.
     Lines(Printing),
     /// A symbol may be in a word, after the word's prefix characters.
-    Words(Replacement),
+    Words(ReplaceOptions),
 }
 
 /// Reads a symbol. Afterwards the demangler has the text that is printed for the symbol, or no text if the symbol is

@@ -5,7 +5,7 @@ ghost use Rattle.symfilter_engine.specs.Replaced.{IsWordByte, IsDot, ends_in_dot
 ghost use Rattle.symfilter_engine.specs.Progress.{AppendsReplaced, Extends};
 
 use super::prefixes::first_prefix;
-use super::symbols::{Replacement, prepare_for};
+use super::symbols::{ReplaceOptions, prepare_for};
 use super::word_bounds::{word_end, word_start};
 use growing_text::Text;
 use itanium_demangle::Demangler;
@@ -83,7 +83,7 @@ pub(crate) fn may_hold_symbol(strip: bool, bytes: &[u8]) -> bool
 fn word_answer<'a>(
     alloc: Global,
     demangler: &'a mut Demangler,
-    options: Replacement,
+    options: ReplaceOptions,
     word: &'a [u8],
 ) -> Result<Option<(usize, &'a str)>, AllocError>
     requires { All IsWordByte word.now }
@@ -104,10 +104,10 @@ fn word_answer<'a>(
 }
 
 /// Appends the text with its symbols replaced. Returns an error if an allocation fails; then a part may be appended.
-fn append_each_word(
+fn append_words_or_part(
     alloc: Global,
     demangler: &mut Demangler,
-    options: Replacement,
+    options: ReplaceOptions,
     text: &[u8],
     output: &mut Text,
 ) -> Result<(), AllocError>
@@ -133,11 +133,11 @@ fn append_each_word(
     output.add(&text[done..])
 }
 
-/// Appends the text with its symbols replaced. Returns an error if an allocation fails; then nothing is appended.
+/// Does what `append_words_or_part` does. If that fails, removes the part that was appended, and returns the error.
 pub(crate) fn append_words(
     alloc: Global,
     demangler: &mut Demangler,
-    options: Replacement,
+    options: ReplaceOptions,
     text: &[u8],
     output: &mut Text,
 ) -> Result<(), AllocError>
@@ -145,7 +145,7 @@ pub(crate) fn append_words(
     ensures err { OnErr result (output.new ≡ output.old) }
 {
     let len = output.len();
-    match append_each_word(alloc, demangler, options, text, output) {
+    match append_words_or_part(alloc, demangler, options, text, output) {
         Ok(()) => Ok(()),
         Err(error) => {
             output.truncate(len);

@@ -1,8 +1,8 @@
 //! Writes whole lines or words, and a last line or word.
 //!
-//! If lines are symbols, each call takes whole lines. If words hold symbols, each call takes whole words, that is,
-//! text that ends in a byte that is no word byte. The parameters that have either are called `whole`. Ordinary text is
-//! written as it is: a line that doesn't begin with an underscore, or text that has no `_Z`.
+//! A parameter `whole` ends at a boundary: after a line feed for `Placement::Lines`, and after a byte that is in no
+//! word for `Placement::Words`. Ordinary text is written as it is: a line that doesn't begin with an underscore, or
+//! text that has no `_Z`.
 ghost use Rattle.std.specs.Prelude.{◌≡◌, ◌<◌, ◌≤◌, [], false, length, take, drop, IsTrue, IsErrOf, IsUtf8, IfOk, OnOk, OnErr};
 ghost use Rattle.std.specs.Io.KnownBytes.{Keeps};
 ghost use Rattle.symfilter_engine.specs.Fault.{IsWriteOutcome};
@@ -17,7 +17,7 @@ use super::fault::FilterFault;
 use super::output::write_all;
 use super::prefixes::ordinary_words_len;
 use super::streams::Sink;
-use super::symbols::{Placement, Printing, Replacement, prepare_for};
+use super::symbols::{Placement, Printing, ReplaceOptions, prepare_for};
 use super::word_bounds::{whole_words_len, word_end};
 use super::words::append_words;
 use growing_text::Text;
@@ -162,7 +162,7 @@ fn block_len(text: &[u8], most: usize) -> usize
 fn append_block(
     alloc: Global,
     demangler: &mut Demangler,
-    options: Replacement,
+    options: ReplaceOptions,
     text: &[u8],
     output: &mut Text,
 ) -> Result<usize, AllocError>

@@ -101,7 +101,7 @@ saved_so_far candidate r = spec.save_if candidate (shape r.buffer.value r.found)
 
 abbrev pub invariant-names::read_prefix-loop-reader : goal.invariant-names::read_prefix-loop-reader
 invariant-names::read_prefix-loop-reader l = record {
-  reads : LoopSoFar (spec.parse_after_quals (spec.unqualified_name l.depth l.context)
+  reads : LoopSoFar (spec.parse_prefix (spec.unqualified_name l.depth l.context)
       (spec.parse_args l.depth l.context true) l.context (state l.fn.reader))
       (spec.segment_turn (spec.unqualified_name l.depth l.context) (spec.parse_args l.depth l.context true))
       (l.candidate, shape l.reader.buffer.value l.reader.found) (spec.past_initializer (saved_so_far l.candidate l.reader));
@@ -210,7 +210,7 @@ decreases-args::read_argument_pack-loop-reader l = length l.reader.rest.now
 
 abbrev pub invariant-types::read_params-loop-list : goal.invariant-types::read_params-loop-list
 invariant-types::read_params-loop-list l = record {
-  reads : LoopSoFar (spec.typed_params_as (params_case l.end l.fn.reader.rest.now) l.end l.in_function_type (spec.parse_type l.depth l.context)
+  reads : LoopSoFar (spec.params_as (params_case l.end l.fn.reader.rest.now) l.end l.in_function_type (spec.parse_type l.depth l.context)
       (shape l.fn.reader.buffer.value l.fn.list) (state l.fn.reader))
       (spec.typed_turn l.end l.in_function_type (spec.parse_type l.depth l.context)) (l.first, shape l.reader.buffer.value l.list) (state l.reader);
   living : IsLiving l.reader.buffer.value l.list;

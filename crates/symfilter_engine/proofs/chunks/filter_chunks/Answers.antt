@@ -45,8 +45,8 @@ write_chunk-requires-clause-kept g c =
     subst (λ l. AreKept c.args.placement (take kept (take end l))) (sym c.deref-in-chunks.ensures.value)
     (still_kept c.args.placement kept end _ _ _ _ c.chunks.invariant.kept c.in_ok-end.ensures.ok c.chunks.invariant.within)
 
-pub write_chunk-requires-clause-none : goal.write_chunk-requires-clause-none
-write_chunk-requires-clause-none g c = kept_none c.args.placement _ _ _ _ _ _ _ c.chunks.invariant.so_far c.chunks.invariant.within
+pub write_chunk-requires-clause-mid_word_keeps_none : goal.write_chunk-requires-clause-mid_word_keeps_none
+write_chunk-requires-clause-mid_word_keeps_none g c = kept_none c.args.placement _ _ _ _ _ _ _ c.chunks.invariant.so_far c.chunks.invariant.within
 
 pub returns-in_err-done-clause-err : goal.returns-in_err-done-clause-err
 returns-in_err-done-clause-err g c =
@@ -90,7 +90,7 @@ chunks-preserved g c =
       kept = subst (AreKept c.args.placement) (ap (λ l. drop done (take end l)) same ∙ sym moved) c.in_ok-done.ensures.kept;
       so_far = turn_copied c.args.placement c.chunks.mid_word after c.chunks.kept end _ all _ (drop done (take end all)) _ _ _ _ _ _ c.chunks.invariant.so_far c.in_ok-end.ensures.ok
           (subst (λ l. WritesChunkUpTo c.args.placement c.chunks.mid_word (take end l) (drop done (take end l)) after (g.W.Sink.taken c.chunks.sink) (g.W.Sink.taken c.write_chunk.new.sink)) same c.in_ok-done.ensures.ok)
-          moved (λ is. ap (λ l. drop done (take end l)) (sym same) ∙ c.in_ok-done.ensures.none is);
+          moved (λ is. ap (λ l. drop done (take end l)) (sym same) ∙ c.in_ok-done.ensures.mid_word_keeps_none is);
     }
 
 pub returns-in_err-end-clause-outcome : goal.returns-in_err-end-clause-outcome

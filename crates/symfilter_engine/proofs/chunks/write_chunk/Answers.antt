@@ -36,7 +36,7 @@ pub whole_words_len-whole-requires-clause-before : goal.whole_words_len-whole-re
 whole_words_len-whole-requires-clause-before g c =
     let first = c.rest_of_word-first in
     subst (λ l. All IsWordByte (take c.args.kept l)) (sym (take_rest c.args.bytes.now first.result.0))
-    (words_before c.args.placement c.in-Words.options c.args.mid_word c.args.bytes.now c.args.kept first.result.0 c.in-Words.is c.requires.kept c.requires.none first.ensures.outside)
+    (words_before c.args.placement c.in-Words.options c.args.mid_word c.args.bytes.now c.args.kept first.result.0 c.in-Words.is c.requires.kept c.requires.mid_word_keeps_none first.ensures.outside)
 
 pub returns-in_err-write_whole-in-Words-clause-err : goal.returns-in_err-write_whole-in-Words-clause-err
 returns-in_err-write_whole-in-Words-clause-err g c =
@@ -109,8 +109,8 @@ returns-in_ok-write_all-in-Words-2-clause-ok g c =
 pub returns-then-goes_on-clause-kept : goal.returns-then-goes_on-clause-kept
 returns-then-goes_on-clause-kept g c = grind (arith, common_steps)
 
-pub returns-then-goes_on-clause-none : goal.returns-then-goes_on-clause-none
-returns-then-goes_on-clause-none g c = grind (arith, common_steps)
+pub returns-then-goes_on-clause-mid_word_keeps_none : goal.returns-then-goes_on-clause-mid_word_keeps_none
+returns-then-goes_on-clause-mid_word_keeps_none g c = grind (arith, common_steps)
 
 pub returns-then-may_hold_symbol-clause-kept : goal.returns-then-may_hold_symbol-clause-kept
 returns-then-may_hold_symbol-clause-kept g c = grind (arith, common_steps)
@@ -121,8 +121,8 @@ returns-then-may_hold_symbol-clause-memory g c = grind (arith, common_steps)
 pub returns-in_ok-write_whole-in-Lines-clause-ok : goal.returns-in_ok-write_whole-in-Lines-clause-ok
 returns-in_ok-write_whole-in-Lines-clause-ok g c = grind (arith, common_steps)
 
-pub returns-in_ok-write_all-in-Words-2-clause-none : goal.returns-in_ok-write_all-in-Words-2-clause-none
-returns-in_ok-write_all-in-Words-2-clause-none g c = grind (arith, common_steps)
+pub returns-in_ok-write_all-in-Words-2-clause-mid_word_keeps_none : goal.returns-in_ok-write_all-in-Words-2-clause-mid_word_keeps_none
+returns-in_ok-write_all-in-Words-2-clause-mid_word_keeps_none g c = grind (arith, common_steps)
 
 pub returns-in_ok-write_all-in-Words-2-clause-memory : goal.returns-in_ok-write_all-in-Words-2-clause-memory
 returns-in_ok-write_all-in-Words-2-clause-memory g c = grind (arith, common_steps)

@@ -4,7 +4,7 @@ use Rattle.std.proofs.lemmas.List.{length-take-le}
 use Rattle.std.proofs.lemmas.List.Elements.{All-take}
 use Rattle.symfilter_engine.specs.Replaced.{IsWordByte, IsWordAnswer, no_byte}
 use Rattle.symfilter_engine.proofs.WordPlaces.{words_joined, some_word, word_slice, word_stays, part, part_len, stays_replaced, answer_replaced, extended, rest_appended, no_prefix-rest, end_past, boundary_past}
-use Rattle.symfilter_engine.proofs.words.append_each_word.Goals as goal
+use Rattle.symfilter_engine.proofs.words.append_words_or_part.Goals as goal
 
 pub loop-more-init : goal.loop-more-init
 loop-more-init c = record {

@@ -1,6 +1,6 @@
 use Rattle.std.proofs.Common.{◌-◌, ◌≤◌, ◌++◌, length, take, drop}
 use Rattle.symfilter_engine.specs.Progress.{IsBoundary, Extends, AppendsReplaced}
-use Rattle.symfilter_engine.proofs.words.append_each_word.Given as goal
+use Rattle.symfilter_engine.proofs.words.append_words_or_part.Given as goal
 
 abbrev pub invariant-loop-more : goal.invariant-loop-more
 invariant-loop-more l =
