@@ -47,7 +47,7 @@ pub(crate) fn torn_len(pieces: &PieceList, block: Block) -> usize
     requires ordered { All (λ p. p.from_byte ≤ p.to_byte) pieces.now }
 {
     let mut n: usize = 0;
-    for i in pieces.count_by(block.low)..pieces.len() {
+    for i in pieces.count_ending_by(block.low)..pieces.len() {
         let piece = pieces.piece_at(i);
         if is_torn(piece, block) {
             n = n.saturating_add(piece.text_len());
@@ -72,7 +72,7 @@ fn spill_torn_of(
     ensures long { length pieces.new ≡ length pieces.old }
     ensures apart { OnOk result (All (IsApart block.low block.from block.end) pieces.new) }
 {
-    let first = pieces.count_by(block.low);
+    let first = pieces.count_ending_by(block.low);
     for i in first..pieces.len() {
         let mut piece = pieces.piece_at(i);
         if is_torn(piece, block) {

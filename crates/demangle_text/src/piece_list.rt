@@ -76,7 +76,7 @@ impl PieceList {
 
     // Returns how many of the first pieces stay where they are if all after the byte `low` of the output is moved.
     #[inline(always)]
-    pub(crate) fn count_by(&self, low: usize) -> usize
+    pub(crate) fn count_ending_by(&self, low: usize) -> usize
         ensures within { result ≤ length self.now }
         ensures ends { AllWithin (EndsBy low) self.now 0 result }
     {
@@ -154,7 +154,7 @@ impl PieceList {
         requires fits { dest + (block.end - block.from) < 2 ^ 64 }
         ensures value { self.new ≡ map (carried block.low block.from dest) self.old }
     {
-        let first = self.count_by(block.low);
+        let first = self.count_ending_by(block.low);
         let mut reach = self.reach(first);
         for i in first..self.count {
             let mut piece = self.entries[i].piece;

@@ -9,9 +9,9 @@ use Rattle.itanium_syntax.specs.Scalars.{source_name, index_of, ordinal}
 use Rattle.itanium_syntax.specs.Abbreviations.{abbreviation_of}
 use Rattle.itanium_syntax.specs.Offsets.{thunk_offsets, past_base_offset}
 use Rattle.itanium_syntax.specs.Specials.{special_case}
-use Rattle.itanium_syntax.specs.Names.{source_text, name_case, unscoped_case, first_case, segment_case}
+use Rattle.itanium_syntax.specs.Names.{source_text, name_case, unscoped_case, first_segment_case, segment_case}
 use Rattle.itanium_syntax.specs.Names.{unqualified_case, ordinary_case, tag_case, substitution_case, past_internal}
-use Rattle.itanium_syntax.specs.Names.{past_name_quals, first_is_candidate}
+use Rattle.itanium_syntax.specs.Names.{past_name_quals, first_segment_is_candidate}
 use Rattle.itanium_syntax.specs.Args.{attached_case}
 use Rattle.itanium_syntax.proofs.Fronts.{initializer_after, after_drop, source_takes, after-le}
 use Rattle.itanium_grammar.specs.Tree.{Tree, bare_shape, own_quals, plain_text, abbreviation, ctor_dtor_of, tagged_with, with_args, trees, shape_of}
@@ -40,7 +40,7 @@ use Rattle.itanium_grammar.specs.Cases.{EntityCase, StringLiteralEntity, Default
 use Rattle.itanium_grammar.specs.Cases.{SubstitutionCase, AbbreviationSubstitution, ComponentSubstitution, TagCase}
 use Rattle.itanium_grammar.specs.Cases.{NoTag, NextTag, UnqualifiedCase, ConstructorName, DestructorName, OrdinaryName}
 use Rattle.itanium_grammar.specs.Cases.{OrdinaryCase, SourceName, UnnamedTypeName, LambdaName, ConversionName}
-use Rattle.itanium_grammar.specs.Cases.{LiteralOperatorName, OperatorName, UnreadableName, FirstCase, TemplateParamFirst, StdFirst}
+use Rattle.itanium_grammar.specs.Cases.{LiteralOperatorName, OperatorName, UnreadableName, FirstSegmentCase, TemplateParamFirst, StdFirst}
 use Rattle.itanium_grammar.specs.Cases.{SubstitutionFirst, NameFirst, NameCase, NestedName, LocalName, UnscopedName}
 use Rattle.itanium_grammar.specs.Cases.{UnscopedCase, StdName, SubstitutionName, PlainName, AttachedCase, NoneAttached}
 use Rattle.itanium_grammar.specs.Cases.{ArgsAttached, SegmentCase, EndOfSegments, ArgsSegment, NameSegment}
@@ -237,7 +237,7 @@ module _ (d : ℕ) (complete : TypesComplete d) (lists_are : ArgsComplete d) (ki
           → Met text_len (parse_unqualified (parse_type d x) (parse_type d (inside_lambda x)) (option_map shape_of parent) (state_at p e m)) (reached shape_of t q c e m)
       whole a deep = unqualified_met d lists_are complete a deep e m
 
-  first_sound : (case : FirstCase) (x : Context) (p : Position) (e m : ℕ) (y : Shape × ParserState)
+  first_sound : (case : FirstSegmentCase) (x : Context) (p : Position) (e m : ℕ) (y : Shape × ParserState)
       → first_as case (parse_unqualified (parse_type d x) (parse_type d (inside_lambda x))) x (state_at p e m) ≡ Some y
       → Within (FirstAs case x p) d
   first_sound TemplateParamFirst x p e m y is =
@@ -366,15 +366,15 @@ module _ (d : ℕ) (complete : TypesComplete d) (lists_are : ArgsComplete d) (ki
   unfolding parse_nested
   nested_sound x p e m y is =
       let begun = with_rest (past_name_quals p.rest) p in
-      let case = first_case (past_name_quals p.rest) in
+      let case = first_segment_case (past_name_quals p.rest) in
       option_and_then_some _ (first_as case (parse_unqualified (parse_type d x) (parse_type d (inside_lambda x))) x (state_at begun e m)) y is (λ z first more.
       let i = first_sound d complete lists_are kinds case x begun e m z first in
       let is_z : z ≡ (shape_of i.tree, state_at i.next (e + i.cost.count) (max m i.cost.peak)) = met_is (first_met d lists_are complete i.reading i.deep e m) first in
       let there = rw is_z at more in
       option_and_then_some _ (parse_segments (parse_unqualified (parse_type d x) (parse_type d (inside_lambda x)))
-      (parse_args d x true) (first_is_candidate case) (shape_of i.tree)
+      (parse_args d x true) (first_segment_is_candidate case) (shape_of i.tree)
       (state_at (past_initializer i.next) (e + i.cost.count) (max m i.cost.peak))) y there (λ v rest _.
-      let o = (segments_sound (length (past_initializer i.next).rest + 1) x (first_is_candidate case) i.tree (past_initializer i.next) (e + i.cost.count) (max m i.cost.peak) v (omega arith) rest).within in
+      let o = (segments_sound (length (past_initializer i.next).rest + 1) x (first_segment_is_candidate case) i.tree (past_initializer i.next) (e + i.cost.count) (max m i.cost.peak) v (omega arith) rest).within in
       record { tree = _; next = o.next; cost = _; reading = nested i.reading o.reading; deep = omega (arith, i.deep, o.deep) }))
 
 -- the state that a return type leaves

@@ -4,10 +4,10 @@ use Rattle.demangle_quals.specs.declared.quals.Quals.{Quals}
 use Rattle.itanium_syntax.specs.declared.context.Context.{Context}
 use Rattle.itanium_syntax.specs.declared.numerals.Radix.TheVariants.{Decimal, Base36}
 use Rattle.itanium_grammar.specs.Cases.{EncodingEnd, EncodingCase, SpecialCase, PrimaryCase, ExpressionCase, NameCase, ReturnCase}
-use Rattle.itanium_grammar.specs.Cases.{EncodingParamsCase, EntityCase, UnscopedCase, AttachedCase, FirstCase, SegmentCase}
+use Rattle.itanium_grammar.specs.Cases.{EncodingParamsCase, EntityCase, UnscopedCase, AttachedCase, FirstSegmentCase, SegmentCase}
 use Rattle.itanium_grammar.specs.Cases.{UnqualifiedCase, OrdinaryCase, TagCase, SubstitutionCase, ArgumentListCase, ArgumentCase}
 use Rattle.itanium_grammar.specs.Cases.{TypeCase, CvCase, ParamsCase, TypeListCase}
-use Rattle.itanium_syntax.specs.Names.{first_case, segment_case, unqualified_case}
+use Rattle.itanium_syntax.specs.Names.{first_segment_case, segment_case, unqualified_case}
 use Rattle.itanium_syntax.specs.Args.{argument_list_case}
 use Rattle.itanium_syntax.specs.Types.{type_case, past_reference}
 use Rattle.itanium_syntax.proofs.Fronts.{IsAfter, Takes, after_none, after_drop, after_then, takes_then, after_takes}
@@ -134,7 +134,7 @@ mutual
   pub unqualified_takes : {x : Context} {parent : Option Tree} {p q : Position} {t : Tree} {c : Cost} → Unqualified x parent p t q c → Takes q.rest p.rest
   unqualified_takes (unqualified {p = p} a) = after_takes (internal_after p.rest) (unqualified_as_takes refl a)
 
-  pub first_takes : {case : FirstCase} {x : Context} {p q : Position} {t : Tree} {c : Cost} → first_case p.rest ≡ case → FirstAs case x p t q c → Takes q.rest p.rest
+  pub first_takes : {case : FirstSegmentCase} {x : Context} {p q : Position} {t : Tree} {c : Cost} → first_segment_case p.rest ≡ case → FirstAs case x p t q c → Takes q.rest p.rest
   first_takes form (template_param_first a) = template_param_takes a
   first_takes form (std_first {p = p}) = record { after = after_drop 2 p.rest; shorter = std_shorter p.rest form }
   first_takes form (substitution_first {p = p} a) = substitution_takes p a

@@ -5,7 +5,7 @@ use Rattle.std.proofs.Math.Seq.{take-append_seam}
 use Rattle.demangle_quals.specs.declared.quals.Quals.{Quals}
 use Rattle.itanium_syntax.specs.declared.context.Context.{Context}
 use Rattle.itanium_grammar.specs.Cases.{EncodingEnd, ArgumentListCase, ArgumentCase, AttachedCase, CvCase, EntityCase, ExpressionCase}
-use Rattle.itanium_grammar.specs.Cases.{FirstCase, OrdinaryCase, PrimaryCase, NameCase, ParamsCase, ReturnCase}
+use Rattle.itanium_grammar.specs.Cases.{FirstSegmentCase, OrdinaryCase, PrimaryCase, NameCase, ParamsCase, ReturnCase}
 use Rattle.itanium_grammar.specs.Cases.{SegmentCase, EncodingParamsCase, SpecialCase, SubstitutionCase, EncodingCase}
 use Rattle.itanium_grammar.specs.Cases.{TagCase, TypeCase, TypeListCase, UnqualifiedCase, UnscopedCase}
 use Rattle.itanium_grammar.specs.Tree.{Tree, Operand}
@@ -135,7 +135,7 @@ mutual
   unqualified_keeps : {x : Context} {parent : Option Tree} {p : Position} {t : Tree} {q : Position} {c : Cost} → Unqualified x parent p t q c → Keeps p.scopes q.scopes
   unqualified_keeps (unqualified a) = unqualified_as_keeps a
 
-  first_keeps : {case : FirstCase} {x : Context} {p : Position} {t : Tree} {q : Position} {c : Cost} → FirstAs case x p t q c → Keeps p.scopes q.scopes
+  first_keeps : {case : FirstSegmentCase} {x : Context} {p : Position} {t : Tree} {q : Position} {c : Cost} → FirstAs case x p t q c → Keeps p.scopes q.scopes
   first_keeps (template_param_first a) = template_param_keeps a
   first_keeps std_first = keeps_all _
   first_keeps (substitution_first a) = substitution_keeps a

@@ -5,10 +5,10 @@ use Rattle.std.proofs.lemmas.Option.{some_pair_parts, same_Some}
 use Rattle.demangle_quals.specs.declared.quals.Quals.{Quals}
 use Rattle.itanium_syntax.specs.declared.context.Context.{Context}
 use Rattle.itanium_grammar.specs.Cases.{EncodingEnd, AtE, EncodingCase, SpecialCase, PrimaryCase, ExpressionCase, NameCase, ReturnCase}
-use Rattle.itanium_grammar.specs.Cases.{EncodingParamsCase, EntityCase, UnscopedCase, AttachedCase, FirstCase, SegmentCase}
+use Rattle.itanium_grammar.specs.Cases.{EncodingParamsCase, EntityCase, UnscopedCase, AttachedCase, FirstSegmentCase, SegmentCase}
 use Rattle.itanium_grammar.specs.Cases.{UnqualifiedCase, OrdinaryCase, TagCase, SubstitutionCase, ArgumentListCase, ArgumentCase}
 use Rattle.itanium_grammar.specs.Cases.{TypeCase, CvCase, ParamsCase, TypeListCase}
-use Rattle.itanium_syntax.specs.Names.{segment_case, source_text, tag_case, past_name_quals, name_quals, first_is_candidate, first_case}
+use Rattle.itanium_syntax.specs.Names.{segment_case, source_text, tag_case, past_name_quals, name_quals, first_segment_is_candidate, first_segment_case}
 use Rattle.itanium_syntax.specs.Scalars.{ordinal, index_of}
 use Rattle.itanium_syntax.specs.declared.numerals.Radix.TheVariants.{Base36}
 use Rattle.itanium_syntax.specs.Context.{showing_words}
@@ -236,7 +236,7 @@ mutual
       → Unqualified x parent p t q c → Unqualified x parent p u r d → Same t u q r c d
   one_unqualified (unqualified a) (unqualified b) = one_unqualified_as a b
 
-  one_first : {case : FirstCase} {x : Context} {p q r : Position} {t u : Tree} {c d : Cost} → FirstAs case x p t q c → FirstAs case x p u r d
+  one_first : {case : FirstSegmentCase} {x : Context} {p q r : Position} {t u : Tree} {c d : Cost} → FirstAs case x p t q c → FirstAs case x p u r d
       → Same t u q r c d
   one_first (template_param_first a) (template_param_first b) =
       let same = one_template_param a b in record { tree = same.0; next = ap₂ save same.0 same.1; cost = ap saving same.1 }
@@ -247,7 +247,7 @@ mutual
   one_nested : {x : Context} {p q r : Position} {t u : Tree} {c d : Cost} → Nested x p t q c → Nested x p u r d → Same t u q r c d
   one_nested (nested {x = x} {p = p} a b) (nested {r = r} {u = v} {d = d} g h) =
       let first = one_first a g in
-      let candidate = first_is_candidate (first_case (past_name_quals p.rest)) in
+      let candidate = first_segment_is_candidate (first_segment_case (past_name_quals p.rest)) in
       let same = one_segment_as b (along (λ s o. SegmentsAs (segment_case o.rest) candidate x s o v r d) (sym first.tree) (ap past_initializer (sym first.next)) h) in
       record { tree = ap (λ n. nested_of n (name_quals p.rest) x.words_shown) same.tree; next = same.next; cost = ap₂ both first.cost same.cost }
 

@@ -23,7 +23,7 @@ use Rattle.itanium_grammar.specs.Cases.{FullEncoding, SpecialCase, TypeSpecial, 
 use Rattle.itanium_grammar.specs.Cases.{LocalName, UnscopedName, ReturnCase, NoReturnType, SomeReturnType}
 use Rattle.itanium_grammar.specs.Cases.{EncodingParamsCase, NoEncodingParams, SomeEncodingParams, EntityCase, StringLiteralEntity}
 use Rattle.itanium_grammar.specs.Cases.{DefaultArgumentEntity, NameEntity, UnscopedCase, StdName, SubstitutionName}
-use Rattle.itanium_grammar.specs.Cases.{PlainName, AttachedCase, NoneAttached, ArgsAttached, FirstCase, TemplateParamFirst}
+use Rattle.itanium_grammar.specs.Cases.{PlainName, AttachedCase, NoneAttached, ArgsAttached, FirstSegmentCase, TemplateParamFirst}
 use Rattle.itanium_grammar.specs.Cases.{StdFirst, SubstitutionFirst, NameFirst, SegmentCase, EndOfSegments, ArgsSegment}
 use Rattle.itanium_grammar.specs.Cases.{NameSegment, UnqualifiedCase, ConstructorName, DestructorName, OrdinaryName}
 use Rattle.itanium_grammar.specs.Cases.{OrdinaryCase, SourceName, UnnamedTypeName, LambdaName, ConversionName}
@@ -42,9 +42,9 @@ use Rattle.itanium_syntax.specs.Operators.{operator_here}
 use Rattle.itanium_syntax.specs.Abbreviations.{abbreviation_of}
 use Rattle.itanium_syntax.specs.Context.{opens_scope, inside_type, hiding_dots, inside_lambda, showing_words}
 use Rattle.itanium_syntax.specs.Context.{inside_encoding, inside_params}
-use Rattle.itanium_syntax.specs.Names.{name_case, unscoped_case, first_case, segment_case}
+use Rattle.itanium_syntax.specs.Names.{name_case, unscoped_case, first_segment_case, segment_case}
 use Rattle.itanium_syntax.specs.Names.{unqualified_case, ordinary_case, tag_case, past_internal, past_initializer_letter}
-use Rattle.itanium_syntax.specs.Names.{source_text, name_quals, past_name_quals, first_is_candidate, substitution_case}
+use Rattle.itanium_syntax.specs.Names.{source_text, name_quals, past_name_quals, first_segment_is_candidate, substitution_case}
 use Rattle.itanium_syntax.specs.Bytes.{begins}
 use Rattle.itanium_syntax.specs.Expressions.{is_external, primary_case, literal_value, expression_text, expression_case}
 use Rattle.itanium_syntax.specs.declared.offsets.ThunkOffsets.{ThunkOffsets}
@@ -377,7 +377,7 @@ mutual
         → Unqualified x parent p t q c
 
   -- the first segment of a <nested-name>
-  pub data FirstAs : FirstCase → Context → Position → Tree → Position → Cost → Type 0 where
+  pub data FirstAs : FirstSegmentCase → Context → Position → Tree → Position → Cost → Type 0 where
     -- <template-param>, which is saved
     template_param_first : {x : Context} {p q : Position} {t : Tree}
         → TemplateParam x p t q
@@ -397,9 +397,9 @@ mutual
   -- <nested-name> ::= N [<CV-qualifiers>] [<ref-qualifier>] <prefix> E | N H <prefix> E, after its N
   pub data Nested : Context → Position → Tree → Position → Cost → Type 0 where
     nested : {x : Context} {p q r : Position} {t u : Tree} {c d : Cost}
-        → FirstAs (first_case (past_name_quals p.rest)) x (with_rest (past_name_quals p.rest) p) t q c
+        → FirstAs (first_segment_case (past_name_quals p.rest)) x (with_rest (past_name_quals p.rest) p) t q c
         → SegmentsAs (segment_case (past_initializer q).rest)
-        (first_is_candidate (first_case (past_name_quals p.rest))) x t (past_initializer q) u r d
+        (first_segment_is_candidate (first_segment_case (past_name_quals p.rest))) x t (past_initializer q) u r d
         → Nested x p (nested_of u (name_quals p.rest) x.words_shown) r (both c d)
 
   -- after a <prefix> with the tree t: one more segment, or the E. If `candidate` is true, t was saved as a component

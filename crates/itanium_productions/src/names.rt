@@ -5,7 +5,7 @@ ghost use Rattle.std.specs.Prelude.{◌≡◌, ◌++◌, None, Some, IfOk, OnOk,
 ghost use Rattle.demangle_text.specs.State.{IsLiving, shape, IsRun, SameFrame, main_bytes};
 ghost use Rattle.demangle_text.specs.Shape.{text};
 ghost use Rattle.demangle_text.specs.Calls.{IsLast};
-ghost use Rattle.itanium_syntax.specs.Names.{ordinary_case, first_case, unscoped_case, first_is_candidate};
+ghost use Rattle.itanium_syntax.specs.Names.{ordinary_case, first_segment_case, unscoped_case, first_segment_is_candidate};
 ghost use Rattle.itanium_syntax.specs.Context.{inside_lambda};
 ghost use Rattle.itanium_grammar.specs.Cases.{OrdinaryName};
 ghost use Rattle.itanium_reader.specs.Parser as spec;
@@ -21,9 +21,9 @@ use itanium_syntax::args::{AttachedCase, attached_case};
 use itanium_syntax::context::Context;
 use itanium_syntax::encodings::EncodingEnd;
 use itanium_syntax::names::{
-    FirstCase, NameCase, OrdinaryCase, SegmentCase, UnqualifiedCase, UnscopedCase, begins_source,
-    first_case, name_case, name_quals, ordinary_case, segment_case, unqualified_case,
-    unscoped_case,
+    FirstSegmentCase, NameCase, OrdinaryCase, SegmentCase, UnqualifiedCase, UnscopedCase,
+    begins_source, first_segment_case, name_case, name_quals, ordinary_case, segment_case,
+    unqualified_case, unscoped_case,
 };
 
 /// Reads `<closure-type-name> ::= Ul <lambda-sig> E [<nonnegative number>] _`, after its `Ul`. The production is rare.
@@ -176,9 +176,10 @@ pub(crate) fn read_first_segment(
     context: Context,
 ) -> Result<bool, Stop>
     requires count_fits { CountFits 2 (state reader.old) }
-    ensures reads { GivesCandidate result reader.new (spec.first_as (first_case reader.old.rest.now)
+    ensures reads { GivesCandidate result reader.new (spec.first_as (first_segment_case reader.old.rest.now)
         (spec.unqualified_name depth context) context (state reader.old)) }
-    ensures candidate { IfOk result (λ candidate. candidate ≡ first_is_candidate (first_case reader.old.rest.now)) }
+    ensures candidate { IfOk result (λ candidate. candidate
+        ≡ first_segment_is_candidate (first_segment_case reader.old.rest.now)) }
     ensures run { OnOk result (IsRun reader.old.buffer.value reader.new.buffer.value) }
     ensures last { OnOk result (IsLast reader.new.buffer.value reader.new.found) }
     ensures bounds { TakesSome 0 result (state reader.old) (state reader.new) }
@@ -189,32 +190,32 @@ pub(crate) fn read_first_segment(
         reader.read_tags()?;
         return Ok(true);
     }
-    match first_case(reader.rest) {
-        FirstCase::TemplateParamFirst => {
+    match first_segment_case(reader.rest) {
+        FirstSegmentCase::TemplateParamFirst => {
             reader.read_template_param(context)?;
             reader.copy_found_to_end()?;
             Ok(true)
         }
-        FirstCase::StdFirst => {
+        FirstSegmentCase::StdFirst => {
             reader.skip(2);
             reader.found = reader.buffer.push(b"std")?;
             Ok(false)
         }
-        FirstCase::SubstitutionFirst => {
+        FirstSegmentCase::SubstitutionFirst => {
             reader.read_substitution()?;
             reader.copy_found_to_end()?;
             Ok(false)
         }
-        FirstCase::NameFirst => {
+        FirstSegmentCase::NameFirst => {
             read_unqualified_name(reader, depth, context)?;
             Ok(true)
         }
     }
 }
 
-/// Reads `<nested-name> ::= N [<CV-qualifiers>] [<ref-qualifier>] <prefix> E | N H <prefix> E`, after its `N`. Names
-/// inside the prefix overwrite `reader.quals`, so this name's own qualifiers are stored there after the prefix is
-/// read.
+/// Reads `<nested-name> ::= N [<CV-qualifiers>] [<ref-qualifier>] <prefix> E | N H <prefix> E`, after its `N`. Here
+/// `<prefix>` has all segments. Names inside them overwrite `reader.quals`, so this name's own qualifiers are stored
+/// there after the segments are read.
 #[tactic(auto, using(itanium_reader::proofs::Rules::nested_names))]
 #[cycle(reader)]
 #[inline(always)]
@@ -229,12 +230,12 @@ pub(crate) fn read_nested_name(reader: &mut Reader, depth: usize, context: Conte
     match name_quals(reader.rest) {
         // Most names have no qualifiers. This arm keeps none on the stack while the prefix is read.
         None => {
-            read_prefix(reader, depth, context)?;
+            read_segments(reader, depth, context)?;
             reader.quals = None;
         }
         Some((quals, rest)) => {
             reader.rest = rest;
-            read_prefix(reader, depth, context)?;
+            read_segments(reader, depth, context)?;
             reader.quals = Some(quals);
         }
     }
@@ -250,9 +251,9 @@ pub(crate) fn read_nested_name(reader: &mut Reader, depth: usize, context: Conte
 #[tactic(auto, using(itanium_reader::proofs::Rules::segments))]
 #[cycle(reader)]
 #[inline(always)]
-pub(crate) fn read_prefix(reader: &mut Reader, depth: usize, context: Context) -> ReadResult
+pub(crate) fn read_segments(reader: &mut Reader, depth: usize, context: Context) -> ReadResult
     requires count_fits { CountFits 2 (state reader.old) }
-    ensures reads { Gives result reader.new (spec.parse_prefix
+    ensures reads { Gives result reader.new (spec.parse_all_segments
         (spec.unqualified_name depth context) (spec.parse_args depth context true) context (state reader.old)) }
     ensures run { OnOk result (IsRun reader.old.buffer.value reader.new.buffer.value) }
     ensures bounds { TakesSome 1 result (state reader.old) (state reader.new) }

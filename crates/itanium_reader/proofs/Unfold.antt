@@ -16,9 +16,9 @@ use Rattle.itanium_syntax.specs.Scalars.{index_of, source_name}
 use Rattle.itanium_syntax.specs.Context.{opens_scope, inside_type, hiding_dots, inside_lambda, showing_words, inside_encoding, inside_params}
 use Rattle.itanium_syntax.specs.Names.{name_case, unqualified_case, tag_case, source_text}
 use Rattle.demangle_quals.specs.Quals.{no_quals}
-use Rattle.itanium_syntax.specs.Names.{ordinary_case, first_case, substitution_case}
+use Rattle.itanium_syntax.specs.Names.{ordinary_case, first_segment_case, substitution_case}
 use Rattle.itanium_syntax.specs.Calls.{begins_source}
-use Rattle.itanium_syntax.specs.Names.{past_internal, past_name_quals, name_quals, first_is_candidate}
+use Rattle.itanium_syntax.specs.Names.{past_internal, past_name_quals, name_quals, first_segment_is_candidate}
 use Rattle.itanium_syntax.specs.Expressions.{expression_case}
 use Rattle.itanium_syntax.specs.Encodings.{for_thunk, entity_case, begins_special, encoding_case}
 use Rattle.itanium_syntax.specs.Types.{type_case}
@@ -35,7 +35,7 @@ use Rattle.itanium_reader.specs.Parser.{past_initializer, substitution_as, parse
 use Rattle.itanium_reader.specs.Parser.{template_param_as, parse_template_param, tag_turn, unqualified_as, parse_unqualified}
 use Rattle.itanium_reader.specs.Parser.{ordinary_as, untagged_as, in_parent, parse_tags, parse_source, parse_source_in}
 use Rattle.itanium_reader.specs.Parser.{goes_on, first_as, loop, after_turn, tag_as}
-use Rattle.itanium_reader.specs.Parser.{parse_segments, parse_prefix, with_quals, parse_nested}
+use Rattle.itanium_reader.specs.Parser.{parse_segments, parse_all_segments, with_quals, parse_nested}
 use Rattle.itanium_reader.specs.Parser.{name_as, qualified_by, parse_bare_name, parse_name, encoding_as, parse_encoding}
 use Rattle.itanium_reader.specs.Parser.{entity_as, parse_local, primary_by, parse_primary, special_by, parse_special}
 use Rattle.itanium_reader.specs.Parser.{thunk_words, thunk_front, thunk_by, parse_thunk, expression_as, parse_expression, parse_argument}
@@ -305,12 +305,12 @@ outer_source_opens type param s h =
     placed_nowhere (Some name) = refl
 
 -- it is the whole of the first segment of a <nested-name> too
-pub first_named : (bytes : List ℕ) → begins_source bytes ≡ true → first_case bytes ≡ NameFirst
+pub first_named : (bytes : List ℕ) → begins_source bytes ≡ true → first_segment_case bytes ≡ NameFirst
 first_named [] h = cc
 first_named (b ∷ bytes) h = rw (no_letter b 84 h (omega arith), no_letter b 83 h (omega arith)) refl
 
 pub first_source_opens : (type param : Parses Shape) (x : Context) (s : ParserState) → begins_source s.rest ≡ true
-    → first_as (first_case s.rest) (parse_unqualified type param) x s
+    → first_as (first_segment_case s.rest) (parse_unqualified type param) x s
     ≡ ((parse_source s >>= λ name. parse_tags name.0 name.1) >>= λ name. Some (name.0, save name.0 name.1))
 first_source_opens type param x s h =
     let same = (source_case false s.rest h).0 in
@@ -340,12 +340,12 @@ no_signature x s = refl
 
 -- the qualifiers of a <nested-name> are read in front of the rest
 pub nested_opens : (unqualified : ParsesName) (args : Parses Shape) (x : Context) (s : ParserState) → parse_nested unqualified args x s
-    ≡ (parse_prefix unqualified args x (with_rest (past_name_quals s.rest) s) >>= with_quals (name_quals s.rest))
+    ≡ (parse_all_segments unqualified args x (with_rest (past_name_quals s.rest) s) >>= with_quals (name_quals s.rest))
 unfolding parse_nested
-nested_opens unqualified args x s = then_named (first_as (first_case (past_name_quals s.rest)) unqualified x (with_rest (past_name_quals s.rest) s))
+nested_opens unqualified args x s = then_named (first_as (first_segment_case (past_name_quals s.rest)) unqualified x (with_rest (past_name_quals s.rest) s))
   where
     later : Shape × ParserState → Option (Shape × ParserState)
-    later first = parse_segments unqualified args (first_is_candidate (first_case (past_name_quals s.rest))) first.0 (past_initializer first.1)
+    later first = parse_segments unqualified args (first_segment_is_candidate (first_segment_case (past_name_quals s.rest))) first.0 (past_initializer first.1)
 
     then_named : (first : Option (Shape × ParserState)) → (first >>= λ f. later f >>= with_quals (name_quals s.rest)) ≡ ((first >>= later) >>= with_quals (name_quals s.rest))
     then_named None = refl
@@ -353,10 +353,10 @@ nested_opens unqualified args x s = then_named (first_as (first_case (past_name_
 
 -- where there are none, the rest is read at once
 pub nested_plain : (unqualified : ParsesName) (args : Parses Shape) (x : Context) (s : ParserState) → past_name_quals s.rest ≡ s.rest → name_quals s.rest ≡ no_quals
-    → parse_nested unqualified args x s ≡ (parse_prefix unqualified args x s >>= with_quals no_quals)
+    → parse_nested unqualified args x s ≡ (parse_all_segments unqualified args x s >>= with_quals no_quals)
 nested_plain unqualified args x s rest quals =
-    nested_opens unqualified args x s ∙ ap (λ bytes. parse_prefix unqualified args x (with_rest bytes s) >>= with_quals (name_quals s.rest)) rest
-    ∙ ap (λ q. parse_prefix unqualified args x s >>= with_quals q) quals
+    nested_opens unqualified args x s ∙ ap (λ bytes. parse_all_segments unqualified args x (with_rest bytes s) >>= with_quals (name_quals s.rest)) rest
+    ∙ ap (λ q. parse_all_segments unqualified args x s >>= with_quals q) quals
 
 -- a call that hands on why what it called has stopped: then the whole isn't parsed either
 pub stops : (after : Reader) {inner whole : Option (Shape × ParserState)} (e : Stop) → Gives (Err e) after inner → (inner ≡ None → whole ≡ None) → Gives (Err e) after whole

@@ -116,11 +116,11 @@ MostSaved slack before after =
 pub record Growth (slack : ℕ) (before after : ParserState) : Type 0 where
   -- by at most one component for each byte that is taken, less the slack
   pub list : length after.saved + length after.rest + slack ≤ length before.saved + length before.rest
-  -- at any moment by at most one for each byte that was left, less the slack. Where there is a slack, one component
-  -- more may wait
+  -- at any moment by at most one for each byte that was left, less the slack. If there is a slack, one component more
+  -- may be in the table for a time
   pub most : MostSaved (slack - 1) before after
 
--- How it grows in a call. A run that fails keeps to the same most.
+-- How it grows in a call. If the call returns `Unreadable`, the peak keeps to the same bound.
 abbrev pub SavedBounds : {A : Type 0} → ℕ → Result A Stop → ParserState → ParserState → Type 0
 SavedBounds slack (Ok a) before after = Growth slack before after
 SavedBounds slack (Err Unreadable) before after = MostSaved (slack - 1) before after

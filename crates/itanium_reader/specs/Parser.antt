@@ -23,9 +23,9 @@ use Rattle.itanium_syntax.specs.Operators.{operator_here}
 use Rattle.itanium_syntax.specs.Abbreviations.{abbreviation_of}
 use Rattle.itanium_syntax.specs.Context.{opens_scope, inside_type, hiding_dots, inside_lambda, showing_words}
 use Rattle.itanium_syntax.specs.Context.{inside_encoding, inside_params}
-use Rattle.itanium_syntax.specs.Names.{name_case, unscoped_case, first_case, segment_case}
+use Rattle.itanium_syntax.specs.Names.{name_case, unscoped_case, first_segment_case, segment_case}
 use Rattle.itanium_syntax.specs.Names.{unqualified_case, ordinary_case, tag_case, past_internal, past_initializer_letter}
-use Rattle.itanium_syntax.specs.Names.{source_text, name_quals, past_name_quals, first_is_candidate, substitution_case}
+use Rattle.itanium_syntax.specs.Names.{source_text, name_quals, past_name_quals, first_segment_is_candidate, substitution_case}
 use Rattle.itanium_syntax.specs.Bytes.{begins}
 use Rattle.itanium_syntax.specs.Expressions.{is_external, primary_case, literal_value, expression_text, expression_case}
 use Rattle.itanium_syntax.specs.Offsets.{thunk_offsets, past_base_offset}
@@ -43,7 +43,7 @@ use Rattle.itanium_grammar.specs.Cases.{TemporarySpecial, ConstructionSpecial, T
 use Rattle.itanium_grammar.specs.Cases.{NestedName, LocalName, UnscopedName, ReturnCase, NoReturnType, SomeReturnType}
 use Rattle.itanium_grammar.specs.Cases.{EncodingParamsCase, NoEncodingParams, SomeEncodingParams, EntityCase, StringLiteralEntity}
 use Rattle.itanium_grammar.specs.Cases.{DefaultArgumentEntity, NameEntity, UnreadableEntity, UnscopedCase, StdName}
-use Rattle.itanium_grammar.specs.Cases.{SubstitutionName, PlainName, AttachedCase, NoneAttached, ArgsAttached, FirstCase}
+use Rattle.itanium_grammar.specs.Cases.{SubstitutionName, PlainName, AttachedCase, NoneAttached, ArgsAttached, FirstSegmentCase}
 use Rattle.itanium_grammar.specs.Cases.{TemplateParamFirst, StdFirst, SubstitutionFirst, NameFirst, SegmentCase}
 use Rattle.itanium_grammar.specs.Cases.{EndOfSegments, ArgsSegment, NameSegment, UnqualifiedCase, ConstructorName}
 use Rattle.itanium_grammar.specs.Cases.{DestructorName, OrdinaryName, OrdinaryCase, SourceName, UnnamedTypeName, LambdaName}
@@ -363,7 +363,7 @@ unscoped_as PlainName unqualified args s =
     unqualified None s >>= λ name. attached_as (attached_case name.1.rest) args name.0 name.1
 
 -- the first segment of a <nested-name>
-abbrev pub first_as : FirstCase → ParsesName → Context → Parses Shape
+abbrev pub first_as : FirstSegmentCase → ParsesName → Context → Parses Shape
 first_as TemplateParamFirst unqualified x s = saved_template_param x s
 first_as StdFirst unqualified x s = Some (plain_shape (codes "std"), skip 2 s)
 first_as SubstitutionFirst unqualified x s = parse_substitution s
@@ -401,10 +401,11 @@ abbrev pub ParsesBareName : Type 0
 ParsesBareName = Parses (Shape × Quals)
 
 -- what is after the qualifiers of a <nested-name>
-abbrev pub parse_prefix : ParsesName → Parses Shape → Context → Parses Shape
-parse_prefix unqualified args x s =
-    first_as (first_case s.rest) unqualified x s >>= λ first.
-    parse_segments unqualified args (first_is_candidate (first_case s.rest)) first.0 (past_initializer first.1)
+abbrev pub parse_all_segments : ParsesName → Parses Shape → Context → Parses Shape
+parse_all_segments unqualified args x s =
+    first_as (first_segment_case s.rest) unqualified x s >>= λ first.
+    parse_segments unqualified args (first_segment_is_candidate (first_segment_case s.rest))
+    first.0 (past_initializer first.1)
 
 -- a name with the qualifiers that were read in front of it
 abbrev pub with_quals : Quals → Shape × ParserState → Option ((Shape × Quals) × ParserState)
@@ -413,9 +414,10 @@ with_quals quals name = Some ((name.0, quals), name.1)
 -- what is after the N of a <nested-name>
 unfoldable pub parse_nested : ParsesName → Parses Shape → Context → ParsesBareName
 parse_nested unqualified args x s =
-    first_as (first_case (past_name_quals s.rest)) unqualified x (with_rest (past_name_quals s.rest) s) >>= λ first.
-    parse_segments unqualified args (first_is_candidate (first_case (past_name_quals s.rest))) first.0
-    (past_initializer first.1) >>= λ name.
+    first_as (first_segment_case (past_name_quals s.rest)) unqualified x
+    (with_rest (past_name_quals s.rest) s) >>= λ first.
+    parse_segments unqualified args (first_segment_is_candidate (first_segment_case (past_name_quals s.rest)))
+    first.0 (past_initializer first.1) >>= λ name.
     Some ((name.0, name_quals s.rest), name.1)
 
 -- what was parsed is dropped, but for what it saved and the scopes that it left

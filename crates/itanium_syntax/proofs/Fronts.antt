@@ -24,7 +24,7 @@ use Rattle.itanium_syntax.specs.Cases.{LiteralOperatorName, OperatorName, PackAr
 use Rattle.itanium_syntax.specs.Cases.{ArgsSegment, ConstructorName, DestructorName, ArgsAttached, EndOfArguments}
 use Rattle.itanium_syntax.specs.Cases.{BuiltinType, ArrayType, FunctionType, PointerToMemberType, PointerType, CvFunction}
 use Rattle.itanium_syntax.specs.Cases.{NoParams, EndOfTypes}
-use Rattle.itanium_syntax.specs.Names.{first_case, segment_case, unqualified_case, ordinary_case, past_internal, past_initializer_letter, past_name_quals}
+use Rattle.itanium_syntax.specs.Names.{first_segment_case, segment_case, unqualified_case, ordinary_case, past_internal, past_initializer_letter, past_name_quals}
 use Rattle.std.specs.Str.{is_utf8}
 use Rattle.std.specs.Prelude.{take}
 use Rattle.itanium_syntax.specs.Expressions.{value_len, literal_value, expression_case}
@@ -140,7 +140,7 @@ source_takes bytes found e = option_and_then_some _ (number bytes) found e (λ n
     let is : drop n.0 n.1 ≡ found.1 = ap (λ (f : List ℕ × List ℕ). f.1) parts.1 in
     takes_then (number_takes bytes n read) (record { count = n.0; is = sym is }))
 
-pub std_shorter : (bytes : List ℕ) → first_case bytes ≡ StdFirst → length (drop 2 bytes) < length bytes
+pub std_shorter : (bytes : List ℕ) → first_segment_case bytes ≡ StdFirst → length (drop 2 bytes) < length bytes
 std_shorter [] e = cc
 std_shorter (b ∷ bytes) _ = (takes_drop 2 (b ∷ bytes) (omega arith) (omega arith)).shorter
 

@@ -5,8 +5,8 @@ pub use Rattle.itanium_syntax.specs.declared.names.NameCase.{NameCase}
 pub use Rattle.itanium_syntax.specs.declared.names.NameCase.TheVariants.{NestedName, LocalName, UnscopedName}
 pub use Rattle.itanium_syntax.specs.declared.names.UnscopedCase.{UnscopedCase}
 pub use Rattle.itanium_syntax.specs.declared.names.UnscopedCase.TheVariants.{StdName, SubstitutionName, PlainName}
-pub use Rattle.itanium_syntax.specs.declared.names.FirstCase.{FirstCase}
-pub use Rattle.itanium_syntax.specs.declared.names.FirstCase.TheVariants.{TemplateParamFirst, StdFirst, SubstitutionFirst, NameFirst}
+pub use Rattle.itanium_syntax.specs.declared.names.FirstSegmentCase.{FirstSegmentCase}
+pub use Rattle.itanium_syntax.specs.declared.names.FirstSegmentCase.TheVariants.{TemplateParamFirst, StdFirst, SubstitutionFirst, NameFirst}
 pub use Rattle.itanium_syntax.specs.declared.names.SegmentCase.{SegmentCase}
 pub use Rattle.itanium_syntax.specs.declared.names.SegmentCase.TheVariants.{EndOfSegments, ArgsSegment, NameSegment}
 pub use Rattle.itanium_syntax.specs.declared.names.UnqualifiedCase.{UnqualifiedCase}

@@ -4,7 +4,7 @@ use Rattle.demangle_quals.specs.declared.quals.Quals.{Quals}
 use Rattle.demangle_quals.specs.Quals.{no_quals}
 use Rattle.itanium_syntax.specs.Bytes.{letter, begins, begins_between, begins_digit, past_letter}
 use Rattle.itanium_syntax.specs.Operators.{operator_here}
-use Rattle.itanium_syntax.specs.Cases.{NameCase, NestedName, LocalName, UnscopedName, UnscopedCase, StdName, SubstitutionName, PlainName, FirstCase}
+use Rattle.itanium_syntax.specs.Cases.{NameCase, NestedName, LocalName, UnscopedName, UnscopedCase, StdName, SubstitutionName, PlainName, FirstSegmentCase}
 use Rattle.itanium_syntax.specs.Cases.{TemplateParamFirst, StdFirst, SubstitutionFirst, NameFirst, SegmentCase}
 use Rattle.itanium_syntax.specs.Cases.{EndOfSegments, ArgsSegment, NameSegment, UnqualifiedCase, ConstructorName}
 use Rattle.itanium_syntax.specs.Cases.{DestructorName, OrdinaryName, OrdinaryCase, SourceName, UnnamedTypeName, LambdaName}
@@ -25,17 +25,17 @@ unscoped_case bytes =
     if begins (codes "S") bytes then SubstitutionName else PlainName
 
 -- the first segment of a <nested-name>
-abbrev pub first_case : List ℕ → FirstCase
-first_case bytes =
+abbrev pub first_segment_case : List ℕ → FirstSegmentCase
+first_segment_case bytes =
     if begins (codes "T") bytes then TemplateParamFirst else
     if begins (codes "St") bytes then StdFirst else
     if begins (codes "S") bytes then SubstitutionFirst else NameFirst
 
 -- whether the first segment of a <nested-name> is saved: all but `St` and a substitution are
-abbrev pub first_is_candidate : FirstCase → Bool
-first_is_candidate StdFirst = false
-first_is_candidate SubstitutionFirst = false
-first_is_candidate first = true
+abbrev pub first_segment_is_candidate : FirstSegmentCase → Bool
+first_segment_is_candidate StdFirst = false
+first_segment_is_candidate SubstitutionFirst = false
+first_segment_is_candidate first = true
 
 -- a later segment of a <nested-name>, or its end
 abbrev pub segment_case : List ℕ → SegmentCase

@@ -28,7 +28,7 @@ pub enum UnscopedCase {
 
 /// The cases of the first segment of a `<nested-name>`.
 #[derive(Clone, Copy)]
-pub enum FirstCase {
+pub enum FirstSegmentCase {
     TemplateParamFirst,
     StdFirst,
     SubstitutionFirst,
@@ -100,15 +100,15 @@ pub fn unscoped_case(bytes: &[u8]) -> UnscopedCase
 }
 
 /// Returns which first segment of a `<nested-name>` is next.
-pub fn first_case(bytes: &[u8]) -> FirstCase
-    ensures case { result ≡ spec.first_case bytes.now }
+pub fn first_segment_case(bytes: &[u8]) -> FirstSegmentCase
+    ensures case { result ≡ spec.first_segment_case bytes.now }
 {
     match bytes {
-        [b'1'..=b'9', ..] => FirstCase::NameFirst,
-        [b'T', ..] => FirstCase::TemplateParamFirst,
-        [b'S', b't', ..] => FirstCase::StdFirst,
-        [b'S', ..] => FirstCase::SubstitutionFirst,
-        _ => FirstCase::NameFirst,
+        [b'1'..=b'9', ..] => FirstSegmentCase::NameFirst,
+        [b'T', ..] => FirstSegmentCase::TemplateParamFirst,
+        [b'S', b't', ..] => FirstSegmentCase::StdFirst,
+        [b'S', ..] => FirstSegmentCase::SubstitutionFirst,
+        _ => FirstSegmentCase::NameFirst,
     }
 }
 

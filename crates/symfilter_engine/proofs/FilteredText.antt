@@ -18,7 +18,7 @@ use Rattle.symfilter_engine.specs.Filtered.{line_feed, HasNoLineFeed, AreLinesAn
 use Rattle.symfilter_engine.specs.Filtered.{one_more, IsAnswered, ended, unended, AreWholeFiltered, IsFiltered, IsBeginningOf}
 use Rattle.symfilter_engine.specs.Filtered.{IsBeginning, IsLineAnswer, answered, unanswered, not_utf8, WritesFiltered}
 use Rattle.symfilter_engine.specs.Filtered.{WritesBeginning}
-use Rattle.symfilter_engine.specs.Progress.{AppendsReplaced, WritesBeginningOf, WritesWholeFiltered, WritesBeginningOfAny, FiltersUpTo}
+use Rattle.symfilter_engine.specs.Progress.{AppendsReplaced, WritesFrontOfBytes, WritesWholeFiltered, WritesBeginningOfAny, FiltersUpTo}
 use Rattle.symfilter_engine.proofs.ReplacedText.{IsReplaced-append, whole_parted, whole-append, replaced_of}
 use Rattle.symfilter_engine.specs.declared.symbols.ReplaceOptions.{ReplaceOptions}
 use Rattle.symfilter_engine.specs.declared.symbols.Printing.{Printing}
@@ -142,7 +142,7 @@ last_unwritten placement line at =
 
 -- a front of it was written
 pub last_begins : (placement : Placement) (printing : Printing) (line answer : List ℕ) (before after : Option (List ℕ)) → placement ≡ Lines printing → line ≢ [] → HasNoLineFeed line → IsLineAnswer printing line answer
-    → WritesBeginningOf answer before after → WritesBeginning placement line before after
+    → WritesFrontOfBytes answer before after → WritesBeginning placement line before after
 last_begins placement printing line answer before after is some unended_line is_answer (rest, writes) =
     subst (λ s. WritesBeginning s line before after) (sym is)
     (writes.front, (answer, unended no_line some unended_line is_answer, (rest, writes.bytes_are)), writes.written)
@@ -156,7 +156,7 @@ last_replaced placement options line old output bytes before after is none (text
 
 -- a front of its replaced text was written
 pub replaced_begins : (placement : Placement) (options : ReplaceOptions) (line old output bytes : List ℕ) (before after : Option (List ℕ)) → placement ≡ Words options → old ≡ []
-    → AppendsReplaced options line old output → bytes ≡ output → WritesBeginningOf bytes before after → WritesBeginning placement line before after
+    → AppendsReplaced options line old output → bytes ≡ output → WritesFrontOfBytes bytes before after → WritesBeginning placement line before after
 replaced_begins placement options line old output bytes before after is none (text, replaced, output_is) bytes_are (rest, writes) =
     subst (λ s. WritesBeginning s line before after) (sym is)
     (writes.front, (text, replaced, (rest, sym (bytes_are ∙ output_is ∙ ap (λ l. l ++ text) none) ∙ writes.bytes_are)), writes.written)
@@ -215,7 +215,7 @@ pub lines_unwritten : (placement : Placement) (lines : List ℕ) (at : Option (L
 lines_unwritten placement lines at rest = last_unwritten placement (lines ++ rest) at
 
 -- a front of the text of the first lines was written
-pub lines_begin : (placement : Placement) (lines text : List ℕ) (n : ℕ) (before after : Option (List ℕ)) → AreWholeFiltered placement (take n lines) text → WritesBeginningOf text before after
+pub lines_begin : (placement : Placement) (lines text : List ℕ) (n : ℕ) (before after : Option (List ℕ)) → AreWholeFiltered placement (take n lines) text → WritesFrontOfBytes text before after
     → WritesBeginningOfAny placement lines before after
 lines_begin placement lines text n before after filtered (left, writes) rest = (
   writes.front,

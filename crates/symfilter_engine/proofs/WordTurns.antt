@@ -10,7 +10,7 @@ use Rattle.std.specs.Prelude.{All}
 use Rattle.symfilter_engine.specs.declared.symbols.Placement.TheVariants.{Words}
 use Rattle.symfilter_engine.specs.Replaced.{is_word_byte, IsWordByte, begins_word, ends_word, IsKept, may_hold_symbol, IsReplaced, no_byte, other, one_word, no_symbol}
 use Rattle.symfilter_engine.specs.Filtered.{IsBeginningOf, FiltersWhole, ReplacesAllButKept, WritesBeginning, WritesFiltered}
-use Rattle.symfilter_engine.specs.Progress.{AreWordBytes, StartsMidWord, FiltersUpTo, ReplacesUpTo, IsReplacedFrom, ContinuesTo, ReplacesBeginning, ReplacesBeginningOfAny, WritesBeginningOf, WritesBeginningOfAny}
+use Rattle.symfilter_engine.specs.Progress.{AreWordBytes, StartsMidWord, FiltersUpTo, ReplacesUpTo, IsReplacedFrom, ContinuesTo, ReplacesBeginning, ReplacesBeginningOfAny, WritesFrontOfBytes, WritesBeginningOfAny}
 use Rattle.symfilter_engine.proofs.ReplacedText.{IsReplaced-append, whole_parted, whole-append, replaced_of, split_of}
 use Rattle.symfilter_engine.proofs.WordPlaces.{rest_of_word}
 use Rattle.symfilter_engine.proofs.PrefixChars.{stem_plain, plain_some}
@@ -248,7 +248,7 @@ front_of options mid_word after bytes text rest written leads is_front =
 
 -- a front of bytes that stay was written
 pub stay_front : (options : ReplaceOptions) (mid_word after : Bool) (bytes front : List ℕ) (n : ℕ) (t t' : Option (List ℕ)) → ContinuesTo options mid_word front front after → front ≡ take n bytes
-    → WritesBeginningOf front t t' → ReplacesBeginningOfAny options mid_word bytes t t'
+    → WritesFrontOfBytes front t t' → ReplacesBeginningOfAny options mid_word bytes t t'
 stay_front options mid_word after bytes front n t t' leads front_is (left, writes) rest =
     let whole : bytes ++ rest ≡ front ++ (drop n bytes ++ rest) =
     ap (λ l. l ++ rest) (sym (take-append-drop n bytes) ∙ ap (λ l. l ++ drop n bytes) (sym front_is)) ∙ append_assoc front (drop n bytes) rest in
@@ -258,7 +258,7 @@ stay_front options mid_word after bytes front n t t' leads front_is (left, write
       writes.written,
     )
 
-pub word_front : (options : ReplaceOptions) (word : List ℕ) (t t' : Option (List ℕ)) → All IsWordByte word → may_hold_symbol options.strip word ≡ false → WritesBeginningOf word t t'
+pub word_front : (options : ReplaceOptions) (word : List ℕ) (t t' : Option (List ℕ)) → All IsWordByte word → may_hold_symbol options.strip word ≡ false → WritesFrontOfBytes word t t'
     → ReplacesBeginningOfAny options false word t t'
 word_front options word t t' all plain writes rest =
     let front = writes.1 in

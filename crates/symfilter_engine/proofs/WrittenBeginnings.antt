@@ -3,12 +3,12 @@ use Rattle.std.proofs.Common.{◌≡◌, ℕ, List, ◌++◌, Option, take, drop
 use Rattle.std.proofs.lemmas.List.{take-append-drop}
 use Rattle.std.proofs.KnownBytes.{Appends-trans}
 use Rattle.std.specs.Io.KnownBytes.{Appends}
-use Rattle.symfilter_engine.specs.Progress.{WritesUpTo}
+use Rattle.symfilter_engine.specs.Progress.{WritesBytesUpTo}
 
 -- a front of the rest was written too
 pub more_written : (bytes rest left : List ℕ) (count : ℕ) (before mid after : Option (List ℕ))
-    → WritesUpTo bytes rest before mid → left ≡ drop count rest → Appends mid after (take count rest)
-    → WritesUpTo bytes left before after
+    → WritesBytesUpTo bytes rest before mid → left ≡ drop count rest → Appends mid after (take count rest)
+    → WritesBytesUpTo bytes left before after
 more_written bytes rest left count before mid after so_far left_is more =
     record {
       front = so_far.front ++ take count rest;

@@ -58,14 +58,14 @@ AppendsReplaced options bytes before after =
     (text : List ℕ) × IsReplaced options bytes text × (after ≡ before ++ text)
 
 -- these bytes were written up to the rest
-pub record WritesUpTo (bytes rest : List ℕ) (before after : Option (List ℕ)) : Type 0 where
+pub record WritesBytesUpTo (bytes rest : List ℕ) (before after : Option (List ℕ)) : Type 0 where
   pub front : List ℕ
   pub bytes_are : bytes ≡ front ++ rest
   pub written : Appends before after front
 
 -- a front of these bytes was written
-abbrev pub WritesBeginningOf : List ℕ → Option (List ℕ) → Option (List ℕ) → Type 0
-WritesBeginningOf bytes before after = (rest : List ℕ) × WritesUpTo bytes rest before after
+abbrev pub WritesFrontOfBytes : List ℕ → Option (List ℕ) → Option (List ℕ) → Type 0
+WritesFrontOfBytes bytes before after = (rest : List ℕ) × WritesBytesUpTo bytes rest before after
 
 -- the filtered text of whole lines or words was appended
 abbrev pub AppendsFiltered : Placement → List ℕ → List ℕ → List ℕ → Type 0

@@ -71,8 +71,8 @@ pub data IsWordAnswer (options : ReplaceOptions) (word : List ℕ) : List ℕ �
   -- it stays, if it has no symbol
   no_symbol : symbol_in options.strip word ≡ None → IsWordAnswer options word word
 
--- a word that begins with these bytes may hold a symbol: it begins with one, or there are fewer than ten bytes. No more
--- than ten are needed to see that it doesn't.
+-- a word that begins with these bytes may hold a symbol: one follows its prefix characters, or there are fewer than
+-- ten bytes. No more than ten are needed to see that it doesn't.
 abbrev pub may_hold_symbol : Bool → List ℕ → Bool
 may_hold_symbol strip bytes = nat_lt (length bytes) 10 || is_some (symbol_in strip bytes)
 

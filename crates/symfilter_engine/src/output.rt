@@ -2,7 +2,7 @@
 ghost use Rattle.std.specs.Prelude.{◌≡◌, true, false, ◌<◌, OnOk, OnErr};
 ghost use Rattle.std.specs.Io.KnownBytes.{Appends};
 ghost use Rattle.symfilter_engine.specs.Fault.{IsWriteOutcome};
-ghost use Rattle.symfilter_engine.specs.Progress.{WritesBeginningOf};
+ghost use Rattle.symfilter_engine.specs.Progress.{WritesFrontOfBytes};
 
 use super::fault::FilterFault;
 use super::streams::{Failed, Sink};
@@ -14,7 +14,7 @@ pub(crate) fn write_all<W: Sink>(sink: &mut W, bytes: &[u8]) -> Result<(), Filte
     ensures in_time { W.called_late sink.new ≡ W.called_late sink.old }
     ensures ok { OnOk result (Appends (W.taken sink.old) (W.taken sink.new) bytes.now) }
     ensures fails { OnErr result (W.failed sink.new ≡ true) }
-    ensures err { OnErr result (WritesBeginningOf bytes.now (W.taken sink.old) (W.taken sink.new)) }
+    ensures err { OnErr result (WritesFrontOfBytes bytes.now (W.taken sink.old) (W.taken sink.new)) }
 {
     let mut rest = bytes;
     while !rest.is_empty() {

@@ -14,8 +14,9 @@ use std::alloc::Global;
 /// most one of `.`, `$` and `__imp_`. These prefix characters and the dots at the word's end stay. With `strip`, one
 /// more underscore may be in front of the symbol, and is dropped.
 ///
-/// Before each read, all that was read is written, except a last word that may hold a symbol. Such a word begins with
-/// a symbol, or has fewer than ten bytes. A line may have any length, since only such a word is kept.
+/// Before each read, all that was read is written, except a last word that may hold a symbol. In such a word a symbol
+/// follows the prefix characters, or it has fewer than ten bytes. A line may have any length, since only such a word is
+/// kept.
 ///
 /// The faults are those of `filter`, and what was written is a beginning of the replaced text. After `Read` that is
 /// the text of all but the word that is kept, and after `Memory` that of some whole words.

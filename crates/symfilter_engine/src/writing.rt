@@ -37,7 +37,7 @@ const LONG_LEN: usize = 16384;
 /// The most bytes whose words are replaced at once, unless the first word is longer.
 const BLOCK_LEN: usize = 8192;
 
-/// The first byte of each symbol.
+/// The first byte of each mangled symbol.
 const UNDERSCORE: u8 = b'_';
 
 const LINE_FEED: u8 = b'\n';

@@ -26,7 +26,7 @@ use Rattle.itanium_reader.specs.Outcome.{state, Gives, GivesCandidate}
 use Rattle.itanium_reader.specs.declared.stop.Stop.{Stop}
 use Rattle.itanium_reader.specs.declared.stop.Stop.TheVariants.{Unreadable, Memory}
 use Rattle.itanium_reader.proofs.Unfold.{first_source_opens}
-use Rattle.itanium_syntax.specs.Names.{first_case}
+use Rattle.itanium_syntax.specs.Names.{first_segment_case}
 use Rattle.itanium_syntax.specs.Calls.{begins_source}
 use Rattle.itanium_syntax.specs.declared.context.Context.{Context}
 use Rattle.std.proofs.Common.{Err, None}
@@ -42,7 +42,7 @@ use Rattle.itanium_reader.proofs.Turns.{pack_wide, typed_wide, items_wide}
 use Rattle.itanium_syntax.specs.Context.{inside_lambda}
 use Rattle.itanium_grammar.specs.Cases.{SegmentCase, ArgsSegment, NameSegment, EndOfSegments}
 use Rattle.itanium_syntax.specs.Names.{segment_case}
-use Rattle.itanium_productions.proofs.+reader.Goals.{names::read_prefix-in-ArgsSegment+in_ok-save_if-in-ArgsSegment+in_ok-read_template_args-in-ArgsSegment, names::read_prefix-in-NameSegment+in_ok-save_if-in-NameSegment+in_ok-read_segment-in-NameSegment}
+use Rattle.itanium_productions.proofs.+reader.Goals.{names::read_segments-in-ArgsSegment+in_ok-save_if-in-ArgsSegment+in_ok-read_template_args-in-ArgsSegment, names::read_segments-in-NameSegment+in_ok-save_if-in-NameSegment+in_ok-read_segment-in-NameSegment}
 use Rattle.itanium_reader.proofs.Rules.{buffers, types}
 use Rattle.itanium_grammar.specs.Tree.{worded_shape, construction_shape}
 use Rattle.itanium_productions.proofs.+reader.Goals as goal
@@ -257,8 +257,8 @@ encodings::read_entity-returns-in_ok-reader-in-DefaultArgumentEntity-clause-read
           (search rules),
     )
 
-pub names::read_prefix-returns-in_err-read_source_segment-clause-reads : goal.names::read_prefix-returns-in_err-read_source_segment-clause-reads
-names::read_prefix-returns-in_err-read_source_segment-clause-reads t c =
+pub names::read_segments-returns-in_err-read_source_segment-clause-reads : goal.names::read_segments-returns-in_err-read_source_segment-clause-reads
+names::read_segments-returns-in_err-read_source_segment-clause-reads t c =
     let type = spec.parse_type c.args.depth c.args.context in
     let param = spec.parse_type c.args.depth (inside_lambda c.args.context) in
     let args = spec.parse_args c.args.depth c.args.context true in
@@ -270,8 +270,8 @@ names::read_prefix-returns-in_err-read_source_segment-clause-reads t c =
     rw (e.1, e.2) (stops _ _ (c.in_err-read_source_segment.ensures {u = tt}).reads
     (λ none. segments_none _ _ c.loop-reader.invariant.reads case.0 (case.1 ∙ none)))
 
-pub names::read_prefix-returns-in_err-check_width-clause-reads : goal.names::read_prefix-returns-in_err-check_width-clause-reads
-names::read_prefix-returns-in_err-check_width-clause-reads t c =
+pub names::read_segments-returns-in_err-check_width-clause-reads : goal.names::read_segments-returns-in_err-check_width-clause-reads
+names::read_segments-returns-in_err-check_width-clause-reads t c =
     let type = spec.parse_type c.args.depth c.args.context in
     let param = spec.parse_type c.args.depth (inside_lambda c.args.context) in
     let args = spec.parse_args c.args.depth c.args.context true in
@@ -285,8 +285,8 @@ names::read_prefix-returns-in_err-check_width-clause-reads t c =
     rw (e.1, e.2) (too_long _ (shape new.buffer.value new.found) _ (c.in_err-check_width.ensures {u = tt}).fits
     (λ wide. segments_wide _ _ c.loop-reader.invariant.reads {next = shape new.buffer.value new.found} {mid = state new} case.0 (case.1 ∙ read.reads.1) wide))
 
-pub names::read_prefix-loop-reader-preserved-then-begins_source : goal.names::read_prefix-loop-reader-preserved-then-begins_source
-names::read_prefix-loop-reader-preserved-then-begins_source t c =
+pub names::read_segments-loop-reader-preserved-then-begins_source : goal.names::read_segments-loop-reader-preserved-then-begins_source
+names::read_segments-loop-reader-preserved-then-begins_source t c =
     let type = spec.parse_type c.args.depth c.args.context in
     let param = spec.parse_type c.args.depth (inside_lambda c.args.context) in
     let args = spec.parse_args c.args.depth c.args.context true in
@@ -307,8 +307,8 @@ names::read_prefix-loop-reader-preserved-then-begins_source t c =
       most = omega (arith, longer, read.saved.list, read.saved.most, c.loop-reader.invariant.list, c.loop-reader.invariant.most);
     }
 
-pub names::read_prefix-returns-in-EndOfSegments-clause-reads : goal.names::read_prefix-returns-in-EndOfSegments-clause-reads
-names::read_prefix-returns-in-EndOfSegments-clause-reads t c =
+pub names::read_segments-returns-in-EndOfSegments-clause-reads : goal.names::read_segments-returns-in-EndOfSegments-clause-reads
+names::read_segments-returns-in-EndOfSegments-clause-reads t c =
     (search rules, segments_end _ _ c.loop-reader.invariant.reads (search rules) (search rules) (search rules))
 
 -- a later segment is there, and this is read of it
@@ -321,8 +321,8 @@ is_later : (unqualified : spec.ParsesName) (args : spec.Parses Shape) (name : Sh
     → segment_case s.rest ≡ case → shape r.buffer.value r.found ≡ name → state r ≡ s → IsLater unqualified args name s read
 is_later unqualified args name s case r gives goes_on there same left = record { goes_on = λ ended. goes_on (sym there ∙ ended); gives = later_is unqualified args name s there same left ∙ gives }
 
-pub names::read_prefix-returns-in_err-read_template_args-in-ArgsSegment-clause-reads : goal.names::read_prefix-returns-in_err-read_template_args-in-ArgsSegment-clause-reads
-names::read_prefix-returns-in_err-read_template_args-in-ArgsSegment-clause-reads t c =
+pub names::read_segments-returns-in_err-read_template_args-in-ArgsSegment-clause-reads : goal.names::read_segments-returns-in_err-read_template_args-in-ArgsSegment-clause-reads
+names::read_segments-returns-in_err-read_template_args-in-ArgsSegment-clause-reads t c =
     let type = spec.parse_type c.args.depth c.args.context in
     let param = spec.parse_type c.args.depth (inside_lambda c.args.context) in
     let args = spec.parse_args c.args.depth c.args.context true in
@@ -335,8 +335,8 @@ names::read_prefix-returns-in_err-read_template_args-in-ArgsSegment-clause-reads
     (λ none. let later = is_later (spec.parse_unqualified type param) args name s ArgsSegment c.save_if.new.self none (λ ended. cc ended) (search rules) (search rules) (search rules) in
     segments_none _ _ c.loop-reader.invariant.reads later.goes_on later.gives))
 
-pub names::read_prefix-returns-in_err-read_segment-in-NameSegment-clause-reads : goal.names::read_prefix-returns-in_err-read_segment-in-NameSegment-clause-reads
-names::read_prefix-returns-in_err-read_segment-in-NameSegment-clause-reads t c =
+pub names::read_segments-returns-in_err-read_segment-in-NameSegment-clause-reads : goal.names::read_segments-returns-in_err-read_segment-in-NameSegment-clause-reads
+names::read_segments-returns-in_err-read_segment-in-NameSegment-clause-reads t c =
     let type = spec.parse_type c.args.depth c.args.context in
     let param = spec.parse_type c.args.depth (inside_lambda c.args.context) in
     let args = spec.parse_args c.args.depth c.args.context true in
@@ -349,8 +349,8 @@ names::read_prefix-returns-in_err-read_segment-in-NameSegment-clause-reads t c =
     (λ none. let later = is_later (spec.parse_unqualified type param) args name s NameSegment c.save_if-in-NameSegment.new.self none (λ ended. cc ended) (search rules) (search rules) (search rules) in
     segments_none _ _ c.loop-reader.invariant.reads later.goes_on later.gives))
 
-pub names::read_prefix-returns-in_err-check_width-2-clause-reads : goal.names::read_prefix-returns-in_err-check_width-2-clause-reads
-names::read_prefix-returns-in_err-check_width-2-clause-reads t c =
+pub names::read_segments-returns-in_err-check_width-2-clause-reads : goal.names::read_segments-returns-in_err-check_width-2-clause-reads
+names::read_segments-returns-in_err-check_width-2-clause-reads t c =
     let type = spec.parse_type c.args.depth c.args.context in
     let param = spec.parse_type c.args.depth (inside_lambda c.args.context) in
     let args = spec.parse_args c.args.depth c.args.context true in
@@ -359,9 +359,9 @@ names::read_prefix-returns-in_err-check_width-2-clause-reads t c =
     let s = spec.past_initializer (spec.save_if c.loop-reader.candidate name (state r)) in
     let m = c.match-segment_case.reader in
     let later : IsLater (spec.parse_unqualified type param) args name s (Some (shape m.buffer.value m.found, state m)) = elim c.match-segment_case.branch [
-      | names::read_prefix-in-ArgsSegment+in_ok-save_if-in-ArgsSegment+in_ok-read_template_args-in-ArgsSegment w ↦
+      | names::read_segments-in-ArgsSegment+in_ok-save_if-in-ArgsSegment+in_ok-read_template_args-in-ArgsSegment w ↦
           rw w.reader-is (is_later _ args name s ArgsSegment w.save_if.new.self (w.in_ok-read_template_args-in-ArgsSegment.ensures {u = tt}).reads.1 (λ ended. cc ended) (search rules) (search rules) (search rules))
-      | names::read_prefix-in-NameSegment+in_ok-save_if-in-NameSegment+in_ok-read_segment-in-NameSegment w ↦
+      | names::read_segments-in-NameSegment+in_ok-save_if-in-NameSegment+in_ok-read_segment-in-NameSegment w ↦
           rw w.reader-is (is_later _ args name s NameSegment w.save_if-in-NameSegment.new.self (w.in_ok-read_segment-in-NameSegment.ensures {u = tt}).reads.1 (λ ended. cc ended) (search rules) (search rules) (search rules))
     ] in
     let f = c.from_residual-in_err-check_width-2 in
@@ -369,8 +369,8 @@ names::read_prefix-returns-in_err-check_width-2-clause-reads t c =
     rw (e.1, e.2) (too_long _ (shape m.buffer.value m.found) _ (c.in_err-check_width-2.ensures {u = tt}).fits
     (λ wide. segments_wide _ _ c.loop-reader.invariant.reads {next = shape m.buffer.value m.found} {mid = state m} later.goes_on later.gives wide))
 
-pub names::read_prefix-loop-reader-preserved : goal.names::read_prefix-loop-reader-preserved
-names::read_prefix-loop-reader-preserved t c =
+pub names::read_segments-loop-reader-preserved : goal.names::read_segments-loop-reader-preserved
+names::read_segments-loop-reader-preserved t c =
     let type = spec.parse_type c.args.depth c.args.context in
     let param = spec.parse_type c.args.depth (inside_lambda c.args.context) in
     let args = spec.parse_args c.args.depth c.args.context true in
@@ -379,9 +379,9 @@ names::read_prefix-loop-reader-preserved t c =
     let s = spec.past_initializer (spec.save_if c.loop-reader.candidate name (state r)) in
     let m = c.match-segment_case.reader in
     let later : IsLater (spec.parse_unqualified type param) args name s (Some (shape m.buffer.value m.found, state m)) = elim c.match-segment_case.branch [
-      | names::read_prefix-in-ArgsSegment+in_ok-save_if-in-ArgsSegment+in_ok-read_template_args-in-ArgsSegment w ↦
+      | names::read_segments-in-ArgsSegment+in_ok-save_if-in-ArgsSegment+in_ok-read_template_args-in-ArgsSegment w ↦
           rw w.reader-is (is_later _ args name s ArgsSegment w.save_if.new.self (w.in_ok-read_template_args-in-ArgsSegment.ensures {u = tt}).reads.1 (λ ended. cc ended) (search rules) (search rules) (search rules))
-      | names::read_prefix-in-NameSegment+in_ok-save_if-in-NameSegment+in_ok-read_segment-in-NameSegment w ↦
+      | names::read_segments-in-NameSegment+in_ok-save_if-in-NameSegment+in_ok-read_segment-in-NameSegment w ↦
           rw w.reader-is (is_later _ args name s NameSegment w.save_if-in-NameSegment.new.self (w.in_ok-read_segment-in-NameSegment.ensures {u = tt}).reads.1 (λ ended. cc ended) (search rules) (search rules) (search rules))
     ] in
     let longer = length-append (saved m.buffer.value) (shape m.buffer.value m.found ∷ []) in
@@ -570,13 +570,13 @@ specials::read_construction-returns-clause-reads t c =
 
 -- a <source-name> is the first segment, and its tags aren't read
 first_untagged : (type param : spec.Parses Shape) (x : Context) (s : spec.ParserState) {name : Shape} {mid : spec.ParserState} → begins_source s.rest ≡ true
-    → spec.parse_source s ≡ Some (name, mid) → spec.parse_tags name mid ≡ None → spec.first_as (first_case s.rest) (spec.parse_unqualified type param) x s ≡ None
+    → spec.parse_source s ≡ Some (name, mid) → spec.parse_tags name mid ≡ None → spec.first_as (first_segment_case s.rest) (spec.parse_unqualified type param) x s ≡ None
 first_untagged type param x s begins read none = first_source_opens type param x s begins ∙ rw (read, none) refl
 
 -- a <source-name> with its tags is the first segment
 first_tagged : (type param : spec.Parses Shape) (x : Context) (s : spec.ParserState) {name found : Shape} {mid after : spec.ParserState} → begins_source s.rest ≡ true
     → spec.parse_source s ≡ Some (name, mid) → spec.parse_tags name mid ≡ Some (found, after)
-    → spec.first_as (first_case s.rest) (spec.parse_unqualified type param) x s ≡ Some (found, spec.save_if true found after)
+    → spec.first_as (first_segment_case s.rest) (spec.parse_unqualified type param) x s ≡ Some (found, spec.save_if true found after)
 first_tagged type param x s begins read tags = first_source_opens type param x s begins ∙ rw (read, tags) refl
 
 -- a first segment isn't read where what it calls isn't
@@ -685,20 +685,20 @@ names::read_first_segment-returns-in_ok-copy_found_to_end-in-TemplateParamFirst-
 pub names::read_first_segment-returns-in_ok-reader-in-StdFirst-clause-last : goal.names::read_first_segment-returns-in_ok-reader-in-StdFirst-clause-last
 names::read_first_segment-returns-in_ok-reader-in-StdFirst-clause-last t c = grind (arith, first_segments)
 
-pub names::read_nested_name-returns-in_err-read_prefix-in-None-clause-reads : goal.names::read_nested_name-returns-in_err-read_prefix-in-None-clause-reads
-names::read_nested_name-returns-in_err-read_prefix-in-None-clause-reads t c = grind (arith, nested_names)
+pub names::read_nested_name-returns-in_err-read_segments-in-None-clause-reads : goal.names::read_nested_name-returns-in_err-read_segments-in-None-clause-reads
+names::read_nested_name-returns-in_err-read_segments-in-None-clause-reads t c = grind (arith, nested_names)
 
-pub names::read_nested_name-returns-in_err-read_prefix-in-Some-clause-reads : goal.names::read_nested_name-returns-in_err-read_prefix-in-Some-clause-reads
-names::read_nested_name-returns-in_err-read_prefix-in-Some-clause-reads t c = grind (arith, nested_names)
+pub names::read_nested_name-returns-in_err-read_segments-in-Some-clause-reads : goal.names::read_nested_name-returns-in_err-read_segments-in-Some-clause-reads
+names::read_nested_name-returns-in_err-read_segments-in-Some-clause-reads t c = grind (arith, nested_names)
 
-pub names::read_nested_name-returns-in_ok-read_prefix-in-None-clause-reads : goal.names::read_nested_name-returns-in_ok-read_prefix-in-None-clause-reads
-names::read_nested_name-returns-in_ok-read_prefix-in-None-clause-reads t c = grind (arith, nested_names)
+pub names::read_nested_name-returns-in_ok-read_segments-in-None-clause-reads : goal.names::read_nested_name-returns-in_ok-read_segments-in-None-clause-reads
+names::read_nested_name-returns-in_ok-read_segments-in-None-clause-reads t c = grind (arith, nested_names)
 
-pub names::read_nested_name-returns-in_ok-read_prefix-in-Some-clause-reads : goal.names::read_nested_name-returns-in_ok-read_prefix-in-Some-clause-reads
-names::read_nested_name-returns-in_ok-read_prefix-in-Some-clause-reads t c = grind (arith, nested_names)
+pub names::read_nested_name-returns-in_ok-read_segments-in-Some-clause-reads : goal.names::read_nested_name-returns-in_ok-read_segments-in-Some-clause-reads
+names::read_nested_name-returns-in_ok-read_segments-in-Some-clause-reads t c = grind (arith, nested_names)
 
-pub names::read_prefix-loop-reader-init : goal.names::read_prefix-loop-reader-init
-names::read_prefix-loop-reader-init t c = grind (arith, common_steps)
+pub names::read_segments-loop-reader-init : goal.names::read_segments-loop-reader-init
+names::read_segments-loop-reader-init t c = grind (arith, common_steps)
 
 pub names::read_segment-returns-clause-reads : goal.names::read_segment-returns-clause-reads
 names::read_segment-returns-clause-reads t c = grind (arith, unqualified_names)

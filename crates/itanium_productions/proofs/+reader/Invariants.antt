@@ -92,16 +92,16 @@ decreases-types::read_type_attached l = listed l.depth
 abbrev pub decreases-names::read_unscoped_name : goal.decreases-names::read_unscoped_name
 decreases-names::read_unscoped_name l = argument l.depth
 
-abbrev pub decreases-names::read_prefix : goal.decreases-names::read_prefix
-decreases-names::read_prefix l = prefix l.depth
+abbrev pub decreases-names::read_segments : goal.decreases-names::read_segments
+decreases-names::read_segments l = prefix l.depth
 
 -- What was found, and the state once it is saved, where it isn't saved yet.
 abbrev saved_so_far : Bool → Reader → spec.ParserState
 saved_so_far candidate r = spec.save_if candidate (shape r.buffer.value r.found) (state r)
 
-abbrev pub invariant-names::read_prefix-loop-reader : goal.invariant-names::read_prefix-loop-reader
-invariant-names::read_prefix-loop-reader l = record {
-  reads : LoopSoFar (spec.parse_prefix (spec.unqualified_name l.depth l.context)
+abbrev pub invariant-names::read_segments-loop-reader : goal.invariant-names::read_segments-loop-reader
+invariant-names::read_segments-loop-reader l = record {
+  reads : LoopSoFar (spec.parse_all_segments (spec.unqualified_name l.depth l.context)
       (spec.parse_args l.depth l.context true) l.context (state l.fn.reader))
       (spec.segment_turn (spec.unqualified_name l.depth l.context) (spec.parse_args l.depth l.context true))
       (l.candidate, shape l.reader.buffer.value l.reader.found) (spec.past_initializer (saved_so_far l.candidate l.reader));
@@ -113,8 +113,8 @@ invariant-names::read_prefix-loop-reader l = record {
   most : (saved_so_far l.candidate l.reader).most_saved ≤ max (state l.fn.reader).most_saved (length (saved l.fn.reader.buffer.value) + length l.fn.reader.rest.now);
 }
 
-abbrev pub decreases-names::read_prefix-loop-reader : goal.decreases-names::read_prefix-loop-reader
-decreases-names::read_prefix-loop-reader l = length l.reader.rest.now
+abbrev pub decreases-names::read_segments-loop-reader : goal.decreases-names::read_segments-loop-reader
+decreases-names::read_segments-loop-reader l = length l.reader.rest.now
 
 abbrev pub decreases-names::read_nested_name : goal.decreases-names::read_nested_name
 decreases-names::read_nested_name l = nested l.depth

@@ -15,7 +15,7 @@ loop-i-init c = record {
   lie = c.requires.lie;
   shapes = refl;
   long = refl;
-  apart = within-apart c.args.pieces.now c.args.block.low c.args.block.from c.args.block.end c.count_by-first.result c.count_by-first.ensures.ends;
+  apart = within-apart c.args.pieces.now c.args.block.low c.args.block.from c.args.block.end c.count_ending_by-first.result c.count_ending_by-first.ensures.ends;
 }
 
 pub set-requires-clause-ends : goal.set-requires-clause-ends

@@ -5,7 +5,7 @@ use Rattle.std.specs.Prelude.{All}
 use Rattle.std.specs.Io.KnownBytes.{Appends}
 use Rattle.std.proofs.Common.{arith}
 use Rattle.std.proofs.lemmas.Grind.{common_steps}
-use Rattle.symfilter_engine.specs.Progress.{ReplacesUpTo, WritesChunkUpTo, WritesBeginningOf, WritesChunkBeginning, WritesSomeOfChunk}
+use Rattle.symfilter_engine.specs.Progress.{ReplacesUpTo, WritesChunkUpTo, WritesFrontOfBytes, WritesChunkBeginning, WritesSomeOfChunk}
 use Rattle.symfilter_engine.specs.Replaced.{IsWordByte, may_hold_symbol}
 use Rattle.symfilter_engine.proofs.FilteredText.{at_fault}
 use Rattle.symfilter_engine.proofs.Copied.{lines_front, lines_some, none_kept, words_before, words_passed, words_fault, words_refused}
@@ -83,7 +83,7 @@ returns-in_err-write_all-in-Words-2-clause-err g c =
     (words_passed c.in-Words.options c.args.mid_word first.result.1 bytes rest n whole _ _ _ (first.ensures.leads c.in-Words.options) c.if-goes_on.false
     (take_rest bytes n) c.in_ok-write_all-in-Words.ensures.ok c.in_ok-write_whole-in-Words.ensures.ok)
     (word_front c.in-Words.options (drop whole rest) _ _ c.whole_words_len-whole.ensures.word plain
-    (subst (λ l. WritesBeginningOf l (g.W.Sink.taken c.write_whole-in-Words.new.sink) (g.W.Sink.taken c.write_all-in-Words.new.sink)) same c.in_err-write_all-in-Words-2.ensures.err))))
+    (subst (λ l. WritesFrontOfBytes l (g.W.Sink.taken c.write_whole-in-Words.new.sink) (g.W.Sink.taken c.write_all-in-Words.new.sink)) same c.in_err-write_all-in-Words-2.ensures.err))))
 
 pub returns-in_ok-write_all-in-Words-2-clause-kept : goal.returns-in_ok-write_all-in-Words-2-clause-kept
 returns-in_ok-write_all-in-Words-2-clause-kept g c = none_kept c.args.placement _ (drop-length c.args.bytes.now)

@@ -1,5 +1,5 @@
 use Rattle.std.proofs.Common.{◌≡◌, false, length}
-use Rattle.symfilter_engine.specs.Progress.{WritesUpTo}
+use Rattle.symfilter_engine.specs.Progress.{WritesBytesUpTo}
 use Rattle.symfilter_engine.proofs.output.write_all.Given as goal
 
 abbrev pub invariant-loop-rest : goal.invariant-loop-rest
@@ -7,7 +7,7 @@ invariant-loop-rest g l =
     record {
       not_failed : g.W.Sink.failed l.sink ≡ false;
       in_time : g.W.Sink.called_late l.sink ≡ g.W.Sink.called_late l.fn.sink;
-      so_far : WritesUpTo l.bytes l.rest (g.W.Sink.taken l.fn.sink) (g.W.Sink.taken l.sink);
+      so_far : WritesBytesUpTo l.bytes l.rest (g.W.Sink.taken l.fn.sink) (g.W.Sink.taken l.sink);
     }
 
 abbrev pub decreases-loop-rest : goal.decreases-loop-rest

@@ -1,6 +1,6 @@
 use Rattle.std.proofs.Common.{subst, arith}
 use Rattle.std.proofs.lemmas.Grind.{common_steps}
-use Rattle.symfilter_engine.specs.Progress.{WritesBeginningOf}
+use Rattle.symfilter_engine.specs.Progress.{WritesFrontOfBytes}
 use Rattle.symfilter_engine.proofs.FilteredText.{at_fault, lines_unwritten, lines_begin}
 use Rattle.symfilter_engine.proofs.writing.write_next.Goals as goal
 
@@ -17,7 +17,7 @@ returns-in_err-len-clause-err g c = at_fault _ (lines_unwritten c.args.placement
 pub returns-in_err-write_all-2-clause-err : goal.returns-in_err-write_all-2-clause-err
 returns-in_err-write_all-2-clause-err g c =
     at_fault _ (lines_begin c.args.placement c.args.whole.now _ c.in_ok-len.len _ _ c.in_ok-len.ensures.filtered
-    (subst (λ l. WritesBeginningOf l (g.W.Sink.taken c.args.sink.now) (g.W.Sink.taken c.write_all-2.new.sink)) c.as_slice.ensures.value c.in_err-write_all-2.ensures.err))
+    (subst (λ l. WritesFrontOfBytes l (g.W.Sink.taken c.args.sink.now) (g.W.Sink.taken c.write_all-2.new.sink)) c.as_slice.ensures.value c.in_err-write_all-2.ensures.err))
 
 pub returns-clause-ok : goal.returns-clause-ok
 returns-clause-ok g c = grind (arith, common_steps)

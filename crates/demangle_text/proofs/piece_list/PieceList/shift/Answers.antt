@@ -37,13 +37,13 @@ loop-i-init c =
     let xs = c.self.inside.entries.items in
     let ps = pieces_of xs in
     let count = c.self.inside.count in
-    let first = c.count_by-first.result in
+    let first = c.count_ending_by-first.result in
     let capacity : count ≤ length ps = omega (arith, c.self.invariant.within, c.self.invariant.capacity) in
-    let within : first ≤ count = omega (arith, c.count_by-first.ensures.within, ap length c.self.view_is, length-take-le count ps capacity) in
+    let within : first ≤ count = omega (arith, c.count_ending_by-first.ensures.within, ap length c.self.view_is, length-take-le count ps capacity) in
     let front : (low : ℕ) → AllWithin (EndsBy low) c.args.self.now 0 first → AllWithin (EndsBy low) ps 0 first =
     λ low h k d a b. subst (EndsBy low) (ap (λ v. get_or v k d) (sym c.self.view_is) ∙ get_or-take count ps k d (omega (arith, b, within))) (h k d a b) in
     record {
-      value = over_start c.args.block.low c.args.block.from c.args.dest ps first (front _ c.count_by-first.ensures.ends);
+      value = over_start c.args.block.low c.args.block.from c.args.dest ps first (front _ c.count_ending_by-first.ensures.ends);
       reached = reached-fewer ps (reaches_of xs) count first within c.self.invariant;
       ends = front _ c.reach-reach.ensures.ends;
       long = refl;
@@ -138,7 +138,7 @@ all c =
     let count = c.self.inside.count in
     let ps = pieces_of c.self.inside.entries.items in
     let capacity : count ≤ length ps = omega (arith, c.self.invariant.within, c.self.invariant.capacity) in
-    let within : c.count_by-first.result ≤ count = omega (arith, c.count_by-first.ensures.within, ap length c.self.view_is, length-take-le count ps capacity) in
+    let within : c.count_ending_by-first.result ≤ count = omega (arith, c.count_ending_by-first.ensures.within, ap length c.self.view_is, length-take-le count ps capacity) in
     omega (arith, c.loop-i-test.false, c.loop-i.auto.i-end within)
 
 pub invariant_of-self : goal.invariant_of-self

@@ -1,5 +1,5 @@
 use Rattle.std.proofs.Common.{◌≤◌, length}
-use Rattle.demangle_text.proofs.piece_list.PieceList.count_by.Given as goal
+use Rattle.demangle_text.proofs.piece_list.PieceList.count_ending_by.Given as goal
 
 abbrev pub invariant-loop-n : goal.invariant-loop-n
 invariant-loop-n l = record { within : l.n ≤ length l.self }
