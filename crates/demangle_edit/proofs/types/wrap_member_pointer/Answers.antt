@@ -1,5 +1,4 @@
-use Rattle.std.proofs.Common.{rules, ◌≡◌, ◌++◌, ◌-◌, ℕ, List, Some, None, codes, ap, ◌∙◌, refl, arith}
-use Rattle.std.proofs.lemmas.Grind.{elements}
+use Rattle.std.proofs.Common.{rules, ◌≡◌, ◌++◌, ◌-◌, ℕ, List, Some, None, codes, ap, ◌∙◌, refl}
 use Rattle.demangle_text.specs.declared.pieces.Kind.TheVariants.{Function}
 use Rattle.demangle_text.specs.Shape.{text, text_len, plain_shape, gap_after}
 use Rattle.demangle_text.specs.Calls.{front_text, kind_of}
@@ -81,75 +80,3 @@ returns-in_ok-append-in-None-clause-shape c =
 pub returns-in_ok-append-in-None-clause-in_place : goal.returns-in_ok-append-in-None-clause-in_place
 returns-in_ok-append-in-None-clause-in_place c = λ e.
     JoinsInPlace-trans _ _ _ _ _ _ _ c.in_ok-begun-in-None.ensures.edit c.in_ok-begun-in-None.ensures.in_place (StaysInPlace-edit _ _ _ _ _ c.in_ok-append-in-None.ensures.edit_of)
-
-pub returns-in_err-begun-in-None : goal.returns-in_err-begun-in-None
-returns-in_err-begun-in-None c = grind arith
-
-pub append-requires : goal.append-requires
-append-requires c = grind arith
-
-pub returns-in_err-append-in-None : goal.returns-in_err-append-in-None
-returns-in_err-append-in-None c = grind arith
-
-pub cut_declarator-requires : goal.cut_declarator-requires
-cut_declarator-requires c = grind arith
-
-pub len-after_len-requires : goal.len-after_len-requires
-len-after_len-requires c = grind arith
-
-pub bytes-requires : goal.bytes-requires
-bytes-requires c = grind arith
-
-pub join-requires : goal.join-requires
-join-requires c = grind arith
-
-pub returns-in_err-begun-in-Some-Function : goal.returns-in_err-begun-in-Some-Function
-returns-in_err-begun-in-Some-Function c = grind arith
-
-pub join-requires-in-Some-Function : goal.join-requires-in-Some-Function
-join-requires-in-Some-Function c = grind arith
-
-pub returns-in_err-joined-in-Some-Function : goal.returns-in_err-joined-in-Some-Function
-returns-in_err-joined-in-Some-Function c = grind arith
-
-pub close-requires : goal.close-requires
-close-requires c = grind arith
-
-pub returns-in_err-whole-in-Some-Function : goal.returns-in_err-whole-in-Some-Function
-returns-in_err-whole-in-Some-Function c = grind arith
-
-pub len-requires : goal.len-requires
-len-requires c = grind arith
-
-pub overflow_sub-at : goal.overflow_sub-at
-overflow_sub-at c = grind (arith, elements)
-
-pub overflow_sub-from : goal.overflow_sub-from
-overflow_sub-from c = grind (arith, elements)
-
-pub overflow_sub-from-in-Some-Function : goal.overflow_sub-from-in-Some-Function
-overflow_sub-from-in-Some-Function c = grind (arith, elements)
-
-pub declare_group-declared-requires-clause-living : goal.declare_group-declared-requires-clause-living
-declare_group-declared-requires-clause-living c = grind arith
-
-pub declare_group-declared-requires-clause-plain : goal.declare_group-declared-requires-clause-plain
-declare_group-declared-requires-clause-plain c = grind arith
-
-pub declare_group-declared-requires-clause-within : goal.declare_group-declared-requires-clause-within
-declare_group-declared-requires-clause-within c = grind arith
-
-pub with_flags-requires : goal.with_flags-requires
-with_flags-requires c = grind arith
-
-pub returns-in_ok-append-in-None-clause-edit : goal.returns-in_ok-append-in-None-clause-edit
-returns-in_ok-append-in-None-clause-edit c = grind arith
-
-pub returns-in_ok-append-in-None-clause-appends : goal.returns-in_ok-append-in-None-clause-appends
-returns-in_ok-append-in-None-clause-appends c = grind arith
-
-pub returns-in_ok-whole-in-Some-Function-clause-in_place : goal.returns-in_ok-whole-in-Some-Function-clause-in_place
-returns-in_ok-whole-in-Some-Function-clause-in_place c = grind arith
-
-pub returns-in-Some-Array : goal.returns-in-Some-Array
-returns-in-Some-Array c = grind arith

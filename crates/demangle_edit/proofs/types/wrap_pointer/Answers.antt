@@ -8,18 +8,3 @@ returns-in-None-clause-cut_main c = grind (arith, declarators, laws)
 
 pub returns-in-None-clause-cut_stands : goal.returns-in-None-clause-cut_stands
 returns-in-None-clause-cut_stands c = grind (arith, declarators, laws)
-
-pub returns-in_err-collapsed-in-Left : goal.returns-in_err-collapsed-in-Left
-returns-in_err-collapsed-in-Left c = grind arith
-
-pub returns-in_err-collapsed-in-Right : goal.returns-in_err-collapsed-in-Right
-returns-in_err-collapsed-in-Right c = grind arith
-
-pub returns-in-Some : goal.returns-in-Some
-returns-in-Some c = grind arith
-
-pub returns-in-Some-2 : goal.returns-in-Some-2
-returns-in-Some-2 c = grind arith
-
-pub returns-in-None-2 : goal.returns-in-None-2
-returns-in-None-2 c = grind arith

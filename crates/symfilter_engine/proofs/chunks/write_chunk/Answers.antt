@@ -3,8 +3,6 @@ use Rattle.std.proofs.lemmas.List.{take_rest, drop-drop}
 use Rattle.std.proofs.Math.Seq.{drop-length}
 use Rattle.std.specs.Prelude.{All}
 use Rattle.std.specs.Io.KnownBytes.{Appends}
-use Rattle.std.proofs.Common.{arith}
-use Rattle.std.proofs.lemmas.Grind.{common_steps}
 use Rattle.symfilter_engine.specs.Progress.{ReplacesUpTo, WritesChunkUpTo, WritesFrontOfBytes, WritesChunkBeginning, WritesSomeOfChunk}
 use Rattle.symfilter_engine.specs.Replaced.{IsWordByte, may_hold_symbol}
 use Rattle.symfilter_engine.proofs.FilteredText.{at_fault}
@@ -105,24 +103,3 @@ returns-in_ok-write_all-in-Words-2-clause-ok g c =
     (take_rest bytes n) c.in_ok-write_all-in-Words.ensures.ok c.in_ok-write_whole-in-Words.ensures.ok)
     (word_passed c.in-Words.options (drop whole rest) _ _ c.whole_words_len-whole.ensures.word plain
     (subst (Appends (g.W.Sink.taken c.write_whole-in-Words.new.sink) (g.W.Sink.taken c.write_all-in-Words.new.sink)) same c.in_ok-write_all-in-Words-2.ensures.ok))))
-
-pub returns-then-goes_on-clause-kept : goal.returns-then-goes_on-clause-kept
-returns-then-goes_on-clause-kept g c = grind (arith, common_steps)
-
-pub returns-then-goes_on-clause-mid_word_keeps_none : goal.returns-then-goes_on-clause-mid_word_keeps_none
-returns-then-goes_on-clause-mid_word_keeps_none g c = grind (arith, common_steps)
-
-pub returns-then-may_hold_symbol-clause-kept : goal.returns-then-may_hold_symbol-clause-kept
-returns-then-may_hold_symbol-clause-kept g c = grind (arith, common_steps)
-
-pub returns-then-may_hold_symbol-clause-memory : goal.returns-then-may_hold_symbol-clause-memory
-returns-then-may_hold_symbol-clause-memory g c = grind (arith, common_steps)
-
-pub returns-in_ok-write_whole-in-Lines-clause-ok : goal.returns-in_ok-write_whole-in-Lines-clause-ok
-returns-in_ok-write_whole-in-Lines-clause-ok g c = grind (arith, common_steps)
-
-pub returns-in_ok-write_all-in-Words-2-clause-mid_word_keeps_none : goal.returns-in_ok-write_all-in-Words-2-clause-mid_word_keeps_none
-returns-in_ok-write_all-in-Words-2-clause-mid_word_keeps_none g c = grind (arith, common_steps)
-
-pub returns-in_ok-write_all-in-Words-2-clause-memory : goal.returns-in_ok-write_all-in-Words-2-clause-memory
-returns-in_ok-write_all-in-Words-2-clause-memory g c = grind (arith, common_steps)
