@@ -123,6 +123,16 @@ pub group_fits : (front gap class after all : List ℕ) (len n k : ℕ) → all 
 group_fits front gap class after all len n k is by_len by_n by_k =
     omega (arith, by_len, by_n, by_k, ap length is, length-append {A = ℕ})
 
+-- so no difference of these lengths is negative
+pub after_fits : (k n len : ℕ) → k + 5 + n ≤ len → n ≤ len
+after_fits k n len h = omega (arith, h)
+
+pub opening_fits : (k n len : ℕ) → k + 5 + n ≤ len → 5 ≤ len - n
+opening_fits k n len h = omega (arith, h)
+
+pub class_fits : (k n len : ℕ) → k + 5 + n ≤ len → k ≤ len - n - 5
+class_fits k n len h = omega (arith, h)
+
 -- the class joined to what stands before the group, and what stands after it joined to both
 pub member_joined : (old mid one two : Buffer) (m : Mark) (front class after begun whole : Piece) (opening : List ℕ)
     → Opens old mid m → IsEdit mid one → IsLiving old front → IsLiving old class → IsLiving old after

@@ -193,6 +193,34 @@ fn cut_declarator(buf: &Buffer, piece: Piece) -> (Piece, Piece)
     (buf.own(front), buf.own(after))
 }
 
+// Makes a pointer to a member function: the class and `::*` go into a new group.
+fn wrap_member_function(
+    buf: &mut Buffer,
+    class: Piece,
+    member: Piece,
+) -> Result<Piece, AllocError>
+    requires class { IsLiving buf.old class }
+    requires member { IsLiving buf.old member }
+    requires function { kind_of (shape buf.old member).form ≡ Some Kind.Function }
+    ensures shape { IfOk result (λ p. Lives buf.new p (member_pointer_shape (shape buf.old class) (shape buf.old member))) }
+    ensures edit { OnOk result (IsEdit buf.old buf.new) }
+    ensures appends { IfOk result (λ p. AppendsPiece buf.old buf.new p) }
+{
+    let (templ, ctor) = (buf.templ(member), buf.ctor(member));
+    let class_len = buf.len(class);
+    let (front, after) = cut_declarator(buf, member);
+    let after_len = buf.len(after);
+    let opening = Buffer::group_opening(buf.bytes(front));
+    let mark = buf.open();
+    let begun = buf.join(front, opening, class)?;
+    let joined = buf.join(begun, b"::*)", after)?;
+    let whole = buf.close(mark, joined)?;
+    let at = buf.len(whole) - after_len;
+    let from = at - 5 - class_len;
+    let declared = buf.declare_group(whole, Kind::Function, from, at);
+    Ok(buf.with_flags(declared, templ, ctor))
+}
+
 /// Makes a pointer to a member of the class: adds the class and `::*`. They go to the end of a plain text, after a
 /// space unless the text ends in a space or `(`. For a function they go into a new group. The flags are those of the
 /// member.
@@ -222,21 +250,7 @@ pub fn wrap_member_pointer(
             let begun = append_piece(buf, member, gap, class)?;
             Ok(Some(buf.append(begun, b"::*")?))
         }
-        Some(Kind::Function) => {
-            let (templ, ctor) = (buf.templ(member), buf.ctor(member));
-            let class_len = buf.len(class);
-            let (front, after) = cut_declarator(buf, member);
-            let after_len = buf.len(after);
-            let opening = Buffer::group_opening(buf.bytes(front));
-            let mark = buf.open();
-            let begun = buf.join(front, opening, class)?;
-            let joined = buf.join(begun, b"::*)", after)?;
-            let whole = buf.close(mark, joined)?;
-            let at = buf.len(whole) - after_len;
-            let from = at - 5 - class_len;
-            let declared = buf.declare_group(whole, Kind::Function, from, at);
-            Ok(Some(buf.with_flags(declared, templ, ctor)))
-        }
+        Some(Kind::Function) => Ok(Some(wrap_member_function(buf, class, member)?)),
         Some(Kind::Array) => Ok(None),
     }
 }

@@ -1,70 +1,12 @@
-use Rattle.std.proofs.Common.{rules, ◌≡◌, ◌++◌, ◌-◌, ℕ, List, Some, None, codes, ap, ◌∙◌, refl}
+use Rattle.std.proofs.Common.{rules, ◌≡◌, Some, None, ◌∙◌}
 use Rattle.demangle_text.specs.declared.pieces.Kind.TheVariants.{Function}
-use Rattle.demangle_text.specs.Shape.{text, text_len, plain_shape, gap_after}
-use Rattle.demangle_text.specs.Calls.{front_text, kind_of}
+use Rattle.demangle_text.specs.Shape.{text}
+use Rattle.demangle_text.specs.Calls.{kind_of}
 use Rattle.demangle_text.specs.State.{shape}
 use Rattle.demangle_edit.proofs.Declarators.{plain_form}
-use Rattle.demangle_edit.proofs.Members.{member_found, plain_member, function_member, member_pointer_after, member_joined, member_pointer_shape_is, opens_at, opens_before, closes_at}
-use Rattle.demangle_text.proofs.Laws.{StaysInPlace-edit, JoinsInPlace-trans, IsEdit-keeps, KeepsAll-closed, Opens-edit, AppendsPiece-closed, AppendsPiece-named}
+use Rattle.demangle_edit.proofs.Members.{member_found, plain_member, function_member, member_pointer_after}
+use Rattle.demangle_text.proofs.Laws.{StaysInPlace-edit, JoinsInPlace-trans}
 use Rattle.demangle_edit.proofs.types.wrap_member_pointer.Goals as goal
-
--- the class stands in a group
-pub declare_group-declared-requires-clause-opens : goal.declare_group-declared-requires-clause-opens
-declare_group-declared-requires-clause-opens c =
-    let is = c.in_ok-whole-in-Some-Function.ensures.shape.shape_is
-    ∙ member_joined _ _ _ _ _ _ _ _ _ _ _ c.open-mark.ensures.opens c.in_ok-begun-in-Some-Function.ensures.edit c.cut_declarator.ensures.front.living c.requires.class c.cut_declarator.ensures.after.living
-    (c.group_opening-opening.ensures.value ∙ ap (λ (v : List ℕ). gap_after v ++ codes "(") c.bytes.ensures.value) c.in_ok-begun-in-Some-Function.ensures.shape.shape_is c.in_ok-joined-in-Some-Function.ensures.shape.shape_is in
-    opens_at _ _ _ _ _ c.len.result c.len-after_len.result c.len-class_len.result (ap text is) c.len.ensures.value c.len-after_len.ensures.value c.len-class_len.ensures.value
-
-pub declare_group-declared-requires-clause-closes : goal.declare_group-declared-requires-clause-closes
-declare_group-declared-requires-clause-closes c =
-    let is = c.in_ok-whole-in-Some-Function.ensures.shape.shape_is
-    ∙ member_joined _ _ _ _ _ _ _ _ _ _ _ c.open-mark.ensures.opens c.in_ok-begun-in-Some-Function.ensures.edit c.cut_declarator.ensures.front.living c.requires.class c.cut_declarator.ensures.after.living
-    (c.group_opening-opening.ensures.value ∙ ap (λ (v : List ℕ). gap_after v ++ codes "(") c.bytes.ensures.value) c.in_ok-begun-in-Some-Function.ensures.shape.shape_is c.in_ok-joined-in-Some-Function.ensures.shape.shape_is in
-    let buf = c.args.buf.now in
-    let front = text (shape buf c.cut_declarator.result.0) in
-    closes_at (front ++ (gap_after front ++ codes "(")) (text (shape buf c.args.class)) (text (shape buf c.cut_declarator.result.1)) _ c.len.result c.len-after_len.result (ap text is) c.len.ensures.value c.len-after_len.ensures.value
-
-pub declare_group-declared-requires-clause-ordered : goal.declare_group-declared-requires-clause-ordered
-declare_group-declared-requires-clause-ordered c =
-    let is = c.in_ok-whole-in-Some-Function.ensures.shape.shape_is
-    ∙ member_joined _ _ _ _ _ _ _ _ _ _ _ c.open-mark.ensures.opens c.in_ok-begun-in-Some-Function.ensures.edit c.cut_declarator.ensures.front.living c.requires.class c.cut_declarator.ensures.after.living
-    (c.group_opening-opening.ensures.value ∙ ap (λ (v : List ℕ). gap_after v ++ codes "(") c.bytes.ensures.value) c.in_ok-begun-in-Some-Function.ensures.shape.shape_is c.in_ok-joined-in-Some-Function.ensures.shape.shape_is in
-    opens_before _ _ _ _ _ c.len.result c.len-after_len.result c.len-class_len.result (ap text is) c.len.ensures.value c.len-after_len.ensures.value c.len-class_len.ensures.value
-
-pub returns-in_ok-whole-in-Some-Function-clause-shape : goal.returns-in_ok-whole-in-Some-Function-clause-shape
-returns-in_ok-whole-in-Some-Function-clause-shape c =
-    let old = c.args.buf.now in
-    let class = shape old c.args.class in
-    let front_is = ap text c.cut_declarator.ensures.front.shape_is in
-    let after_is = ap text c.cut_declarator.ensures.after.shape_is in
-    let first = front_text (shape old c.args.member).form in
-    let last = text (shape old c.cut_declarator.result.1) in
-    let is = c.in_ok-whole-in-Some-Function.ensures.shape.shape_is
-    ∙ member_joined _ _ _ _ _ _ _ _ _ _ _ c.open-mark.ensures.opens c.in_ok-begun-in-Some-Function.ensures.edit c.cut_declarator.ensures.front.living c.requires.class c.cut_declarator.ensures.after.living
-    (c.group_opening-opening.ensures.value ∙ ap (λ (v : List ℕ). gap_after v ++ codes "(") c.bytes.ensures.value) c.in_ok-begun-in-Some-Function.ensures.shape.shape_is c.in_ok-joined-in-Some-Function.ensures.shape.shape_is in
-    let whole_is = is
-    ∙ ap (λ (f : List ℕ). plain_shape (f ++ (gap_after f ++ codes "(") ++ text class ++ codes "::*)" ++ last)) front_is
-    ∙ ap (λ (a : List ℕ). plain_shape (first ++ (gap_after first ++ codes "(") ++ text class ++ codes "::*)" ++ a)) after_is in
-    let function : kind_of (shape old c.args.member).form ≡ Some Function = search rules in
-    let by = member_pointer_shape_is class (shape old c.args.member) _ _ _ _ _ _ _ _ function whole_is c.len-class_len.ensures.value
-    (c.len-after_len.ensures.value ∙ ap text_len c.cut_declarator.ensures.after.shape_is) (ap (λ (n : ℕ). n - c.len-after_len.result) c.len.ensures.value) refl
-    c.declare_group-declared.ensures.shape.shape_is c.templ-templ.ensures.value c.ctor-ctor.ensures.value in
-    (c.with_flags.ensures.shape.living, member_found class (shape old c.args.member) _ (function_member _ function) (c.with_flags.ensures.shape.shape_is ∙ by))
-
--- the text is put together after a mark
-pub returns-in_ok-whole-in-Some-Function-clause-edit : goal.returns-in_ok-whole-in-Some-Function-clause-edit
-returns-in_ok-whole-in-Some-Function-clause-edit c =
-    let run = Opens-edit _ _ _ _ (Opens-edit _ _ _ _ c.open-mark.ensures.opens c.in_ok-begun-in-Some-Function.ensures.edit) c.in_ok-joined-in-Some-Function.ensures.edit in
-    IsEdit-keeps _ _ (KeepsAll-closed _ _ _ _ run c.in_ok-whole-in-Some-Function.ensures.closed)
-
--- and stands at the end then
-pub returns-in_ok-whole-in-Some-Function-clause-appends : goal.returns-in_ok-whole-in-Some-Function-clause-appends
-returns-in_ok-whole-in-Some-Function-clause-appends c = λ e.
-    let run = Opens-edit _ _ _ _ (Opens-edit _ _ _ _ c.open-mark.ensures.opens c.in_ok-begun-in-Some-Function.ensures.edit) c.in_ok-joined-in-Some-Function.ensures.edit in
-    let appends = AppendsPiece-closed _ _ _ _ _ c.open-mark.ensures.mark run c.in_ok-whole-in-Some-Function.ensures.closed c.in_ok-whole-in-Some-Function.ensures.stands in
-    let declared = AppendsPiece-named _ _ _ c.declare_group-declared.result appends c.declare_group-declared.ensures.stands in
-    AppendsPiece-named _ _ _ c.with_flags.result declared c.with_flags.ensures.stands
 
 -- a class after a plain text
 pub returns-in_ok-append-in-None-clause-shape : goal.returns-in_ok-append-in-None-clause-shape
@@ -80,3 +22,11 @@ returns-in_ok-append-in-None-clause-shape c =
 pub returns-in_ok-append-in-None-clause-in_place : goal.returns-in_ok-append-in-None-clause-in_place
 returns-in_ok-append-in-None-clause-in_place c = λ e.
     JoinsInPlace-trans _ _ _ _ _ _ _ c.in_ok-begun-in-None.ensures.edit c.in_ok-begun-in-None.ensures.in_place (StaysInPlace-edit _ _ _ _ _ c.in_ok-append-in-None.ensures.edit_of)
+
+-- a member that is a function
+pub returns-in_ok-wrap_member_function-in-Some-Function-clause-shape : goal.returns-in_ok-wrap_member_function-in-Some-Function-clause-shape
+returns-in_ok-wrap_member_function-in-Some-Function-clause-shape c =
+    let old = c.args.buf.now in
+    let function : kind_of (shape old c.args.member).form ≡ Some Function = search rules in
+    let made = c.in_ok-wrap_member_function-in-Some-Function.ensures.shape in
+    (made.living, member_found (shape old c.args.class) (shape old c.args.member) _ (function_member _ function) made.shape_is)
