@@ -194,15 +194,12 @@ fn cut_declarator(buf: &Buffer, piece: Piece) -> (Piece, Piece)
 }
 
 // Makes a pointer to a member function: the class and `::*` go into a new group.
-fn wrap_member_function(
-    buf: &mut Buffer,
-    class: Piece,
-    member: Piece,
-) -> Result<Piece, AllocError>
+fn wrap_member_function(buf: &mut Buffer, class: Piece, member: Piece) -> Result<Piece, AllocError>
     requires class { IsLiving buf.old class }
     requires member { IsLiving buf.old member }
     requires function { kind_of (shape buf.old member).form ≡ Some Kind.Function }
-    ensures shape { IfOk result (λ p. Lives buf.new p (member_pointer_shape (shape buf.old class) (shape buf.old member))) }
+    ensures shape { IfOk result (λ p. Lives buf.new p
+        (member_pointer_shape (shape buf.old class) (shape buf.old member))) }
     ensures edit { OnOk result (IsEdit buf.old buf.new) }
     ensures appends { IfOk result (λ p. AppendsPiece buf.old buf.new p) }
 {

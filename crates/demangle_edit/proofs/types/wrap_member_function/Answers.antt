@@ -73,7 +73,7 @@ returns-clause-shape c =
     let by = member_pointer_shape_is class (shape old c.args.member) _ _ _ _ _ _ _ _ function whole_is c.len-class_len.ensures.value
     (c.len-after_len.ensures.value ∙ ap text_len c.cut_declarator.ensures.after.shape_is) (ap (λ (n : ℕ). n - c.len-after_len.result) c.len.ensures.value) refl
     c.declare_group-declared.ensures.shape.shape_is c.templ-templ.ensures.value c.ctor-ctor.ensures.value in
-    record { living = c.with_flags.ensures.shape.living; shape_is = c.with_flags.ensures.shape.shape_is ∙ by; }
+    record { living = c.with_flags.ensures.shape.living; shape_is = c.with_flags.ensures.shape.shape_is ∙ by }
 
 -- the text is put together after a mark
 pub returns-clause-edit : goal.returns-clause-edit
