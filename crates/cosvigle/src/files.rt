@@ -5,7 +5,7 @@ ghost use Rattle.cosvigle.specs.Files as spec;
 use std::alloc::{AllocError, Global};
 
 /// The quote in which a byte is.
-#[derive(Clone, Copy, Debug, PartialEq, Eq)]
+#[derive(Clone, Copy)]
 pub enum Quote {
     /// Not in quotes.
     Nothing,
@@ -16,7 +16,7 @@ pub enum Quote {
 }
 
 /// The state in which the next byte is read.
-#[derive(Clone, Copy, Debug, PartialEq, Eq)]
+#[derive(Clone, Copy)]
 pub enum Mode {
     /// The byte is between words, or begins one.
     Between,
@@ -27,7 +27,7 @@ pub enum Mode {
 }
 
 /// The effect of a byte.
-#[derive(Clone, Copy, Debug, PartialEq, Eq)]
+#[derive(Clone, Copy)]
 pub enum Effect {
     /// Skips the byte.
     Skip(Mode),

@@ -4,7 +4,7 @@ ghost use Rattle.itanium_syntax.specs.Bytes.{begins};
 ghost use Rattle.cosvigle.specs.Options as spec;
 
 /// The options whose names begin with the given bytes. An option is identified by its letter.
-#[derive(Clone, Copy, Debug, PartialEq, Eq)]
+#[derive(Clone, Copy)]
 pub enum Found {
     /// No option.
     Nothing,

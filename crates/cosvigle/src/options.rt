@@ -8,7 +8,7 @@ use std::alloc::{AllocError, Global};
 use symfilter_engine::Printing;
 
 /// The choices that options make.
-#[derive(Clone, Copy, Debug, PartialEq, Eq)]
+#[derive(Clone, Copy)]
 pub struct Flags {
     /// Whether one more underscore may stand in front of a symbol.
     pub strip: bool,
@@ -21,7 +21,7 @@ pub struct Flags {
 }
 
 /// What the program does instead of reading symbols.
-#[derive(Clone, Copy, Debug, PartialEq, Eq)]
+#[derive(Clone, Copy)]
 pub enum EarlyExit {
     /// Prints the help.
     Help,
@@ -42,7 +42,7 @@ pub enum EarlyExit {
 }
 
 /// The state after the options that have been read.
-#[derive(Clone, Copy, Debug, PartialEq, Eq)]
+#[derive(Clone, Copy)]
 pub enum OptionState {
     /// The options choose these flags.
     Go(Flags),
@@ -188,7 +188,7 @@ fn after_name(flags: Flags, bytes: &[u8]) -> OptionState
 }
 
 /// The kinds of arguments.
-#[derive(Clone, Copy, Debug, PartialEq, Eq)]
+#[derive(Clone, Copy)]
 pub enum Kind {
     /// `--`: all further arguments are symbols.
     End,

@@ -95,8 +95,7 @@ pub(crate) fn read_argument_pack(reader: &mut Reader, depth: usize, context: Con
             ArgumentListCase::EndOfArguments => {
                 reader.skip(1);
                 reader.found = reader.buffer.whole(list);
-                reader.check_width()?;
-                return Ok(());
+                return reader.check_width();
             }
             ArgumentListCase::NextArgument => {
                 list = reader.separate_list(list, first)?;
@@ -137,6 +136,5 @@ pub(crate) fn read_template_arg(reader: &mut Reader, depth: usize, context: Cont
         ArgumentCase::ConstraintArgument => return Err(Stop::Unreadable),
         ArgumentCase::TypeArgument => read_type(reader, depth, context)?,
     }
-    reader.close_found(mark)?;
-    Ok(())
+    reader.close_found(mark)
 }

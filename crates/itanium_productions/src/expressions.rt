@@ -73,8 +73,7 @@ pub(crate) fn read_pre(reader: &mut Reader, depth: usize, context: Context) -> R
     reader.skip(3);
     let front = reader.buffer.push(operator)?;
     framed_expression(reader, depth, context)?;
-    reader.print_worded(front, b"")?;
-    Ok(())
+    reader.print_worded(front, b"")
 }
 
 /// Reads `ad <expression>` for an external name, and prints `&` in front of it.
@@ -110,8 +109,7 @@ pub(crate) fn read_unary(reader: &mut Reader, depth: usize, context: Context) ->
     reader.skip(2);
     let front = reader.buffer.push(operator)?;
     framed_operand(reader, depth, context)?;
-    reader.print_worded(front, b"")?;
-    Ok(())
+    reader.print_worded(front, b"")
 }
 
 /// Reads `pp <expression>` or `mm <expression>`, a postfix increment or decrement.
@@ -149,8 +147,7 @@ pub(crate) fn read_binary(reader: &mut Reader, depth: usize, context: Context) -
     read_operand(reader, depth, context)?;
     let left = reader.found;
     framed_operand(reader, depth, context)?;
-    reader.print_binary(left, text)?;
-    Ok(())
+    reader.print_binary(left, text)
 }
 
 /// Reads `gt <expression> <expression>`. Each of the two is printed in parentheses, and so is the whole.
@@ -193,8 +190,7 @@ pub(crate) fn read_conditional(reader: &mut Reader, depth: usize, context: Conte
     reader.print_binary(condition, "?")?;
     let begun = reader.found;
     framed_operand(reader, depth, context)?;
-    reader.print_binary(begun, " : ")?;
-    Ok(())
+    reader.print_binary(begun, " : ")
 }
 
 /// Reads `<expression>`. At most `depth` counted productions may nest, this one included.
@@ -222,8 +218,7 @@ pub(crate) fn read_expression(reader: &mut Reader, depth: usize, context: Contex
         ExpressionCase::UnreadableExpression => Err(Stop::Unreadable),
     };
     read?;
-    reader.check_width()?;
-    Ok(())
+    reader.check_width()
 }
 
 /// Reads an operand, which is an `<expression>`. The operand is printed in parentheses unless it is an external name.
@@ -238,8 +233,7 @@ pub(crate) fn read_operand(reader: &mut Reader, depth: usize, context: Context) 
 {
     let paren = !is_external(reader.rest);
     read_expression(reader, depth, context)?;
-    reader.print_operand(paren)?;
-    Ok(())
+    reader.print_operand(paren)
 }
 
 /// Reads an operand in its own frame. Pieces that lived before keep their shapes. The output afterwards is the old
@@ -257,8 +251,7 @@ pub(crate) fn framed_operand(reader: &mut Reader, depth: usize, context: Context
 {
     let mark = reader.buffer.open();
     read_operand(reader, depth, context)?;
-    reader.close_found(mark)?;
-    Ok(())
+    reader.close_found(mark)
 }
 
 /// Reads an `<expression>` in its own frame. Pieces that lived before keep their shapes. The output afterwards is the
@@ -275,6 +268,5 @@ pub(crate) fn framed_expression(reader: &mut Reader, depth: usize, context: Cont
 {
     let mark = reader.buffer.open();
     read_expression(reader, depth, context)?;
-    reader.close_found(mark)?;
-    Ok(())
+    reader.close_found(mark)
 }

@@ -74,8 +74,7 @@ pub(crate) fn read_ordinary_name(reader: &mut Reader, depth: usize, context: Con
         OrdinaryCase::ConversionName => {
             reader.skip(2);
             read_type(reader, depth, context)?;
-            reader.make_conversion_name()?;
-            Ok(())
+            reader.make_conversion_name()
         }
         OrdinaryCase::LiteralOperatorName => {
             reader.skip(2);
@@ -390,6 +389,5 @@ pub(crate) fn framed_name(
 {
     let mark = reader.buffer.open();
     read_name(reader, depth, context, bare)?;
-    reader.close_found(mark)?;
-    Ok(())
+    reader.close_found(mark)
 }

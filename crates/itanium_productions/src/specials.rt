@@ -31,8 +31,7 @@ pub(crate) fn read_type_special(reader: &mut Reader, depth: usize, context: Cont
     reader.skip(2);
     let begun = reader.buffer.push(words)?;
     framed_type(reader, depth, context)?;
-    reader.print_worded(begun, close)?;
-    Ok(())
+    reader.print_worded(begun, close)
 }
 
 /// Reads `TH <name>`, `TW <name>` or `GV <name>`.
@@ -51,8 +50,7 @@ pub(crate) fn read_name_special(reader: &mut Reader, depth: usize, context: Cont
     reader.skip(2);
     let begun = reader.buffer.push(words)?;
     framed_name(reader, depth, context, false)?;
-    reader.print_worded(begun, close)?;
-    Ok(())
+    reader.print_worded(begun, close)
 }
 
 /// Reads `GR <name> [<seq-id>] _`, a reference temporary.
@@ -121,8 +119,7 @@ pub(crate) fn read_thunk(
     read_encoding(reader, depth, context, end.for_thunk())?;
     reader.close_found(mark)?;
     reader.print_worded(begun, b")}")?;
-    reader.check_width()?;
-    Ok(())
+    reader.check_width()
 }
 
 /// Reads `<special-name>`. Returns `Stop::Unreadable` for a special name that isn't supported.

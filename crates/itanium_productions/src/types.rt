@@ -42,8 +42,7 @@ pub(crate) fn read_type_attached(reader: &mut Reader, depth: usize, context: Con
         AttachedCase::NoneAttached => Ok(()),
         AttachedCase::ArgsAttached => {
             read_template_args(reader, depth, context, false)?;
-            reader.save_found()?;
-            Ok(())
+            reader.save_found()
         }
     }
 }
@@ -65,8 +64,7 @@ pub(crate) fn read_type(reader: &mut Reader, depth: usize, context: Context) -> 
         TypeCase::NameType => {
             // `read_name` has checked the length of the name.
             read_name(reader, depth, context, false)?;
-            reader.save_found()?;
-            return Ok(());
+            return reader.save_found();
         }
         TypeCase::BuiltinType => reader.read_builtin_type()?,
         TypeCase::SubstitutionType => {
@@ -94,8 +92,7 @@ pub(crate) fn read_type(reader: &mut Reader, depth: usize, context: Context) -> 
         TypeCase::VendorType => reader.read_vendor_type()?,
         TypeCase::UnreadableType => return Err(Stop::Unreadable),
     }
-    reader.check_width()?;
-    Ok(())
+    reader.check_width()
 }
 
 /// Reads `Dp <type>`. The `...` is printed unless `context.dots_hidden` is set.
@@ -115,8 +112,7 @@ pub(crate) fn read_expansion(reader: &mut Reader, depth: usize, context: Context
     if !context.dots_hidden {
         reader.found = expand(&mut reader.buffer, reader.found)?;
     }
-    reader.save_found()?;
-    Ok(())
+    reader.save_found()
 }
 
 /// Reads `<array-type> ::= A [<number>] _ <type>`. Returns `Stop::Unreadable` also for an array of functions.
@@ -140,8 +136,7 @@ pub(crate) fn read_array_type(reader: &mut Reader, depth: usize, context: Contex
         return Err(Stop::Unreadable);
     };
     reader.found = array;
-    reader.save_found()?;
-    Ok(())
+    reader.save_found()
 }
 
 /// Reads `P <type>`, `R <type>` or `O <type>`, and saves the pointer or reference as a component.
@@ -162,8 +157,7 @@ pub(crate) fn read_pointer(
 {
     reader.skip(1);
     read_type(reader, depth, context)?;
-    reader.make_pointer(kind)?;
-    Ok(())
+    reader.make_pointer(kind)
 }
 
 /// Reads `<class-enum-type> ::= Ts <name> | Tu <name> | Te <name>`.
@@ -181,8 +175,7 @@ pub(crate) fn read_elaborated(reader: &mut Reader, depth: usize, context: Contex
     reader.skip(2);
     framed_name(reader, depth, context, false)?;
     reader.print_worded(word, b"")?;
-    reader.save_found()?;
-    Ok(())
+    reader.save_found()
 }
 
 /// Reads a `<type>` in its own frame. Pieces that lived before keep their shapes. The output afterwards is the old
@@ -199,8 +192,7 @@ pub(crate) fn framed_type(reader: &mut Reader, depth: usize, context: Context) -
 {
     let mark = reader.buffer.open();
     read_type(reader, depth, context)?;
-    reader.close_found(mark)?;
-    Ok(())
+    reader.close_found(mark)
 }
 
 /// Reads `<pointer-to-member-type> ::= M <type> <type>`: first the class, then the member's type in its own frame.

@@ -2,7 +2,7 @@
 use Rattle.std.proofs.Common.{◌≡◌, ◌<◌, ℕ, zero, suc, ◌-◌, Bool, true, false, List, [], ◌∷◌, ◌++◌, subst}
 use Rattle.std.proofs.Common.{drop, refl, sym, ◌∙◌, ap, append_assoc, arith, Option, Some, None, Result}
 use Rattle.std.proofs.Common.{codes}
-use Rattle.std.proofs.Common.{Err}
+use Rattle.std.proofs.Common.{Ok, Err}
 use Rattle.std.specs.Prelude.{is_some, nat_le, ◌&&◌, ◌==◌, if◌then◌else◌}
 use Rattle.std.proofs.lemmas.Bool.Decides.{nat_tests}
 use Rattle.demangle_text.specs.Shape.{Shape, plain_shape, text}
@@ -25,7 +25,9 @@ use Rattle.itanium_syntax.specs.Types.{type_case}
 use Rattle.itanium_reader.specs.declared.reader.Reader.{Reader}
 use Rattle.itanium_reader.specs.declared.stop.Stop.{Stop}
 use Rattle.itanium_reader.specs.declared.stop.Stop.TheVariants.{Unreadable, Memory}
-use Rattle.itanium_reader.specs.Outcome.{Gives, ChecksWidth}
+use Rattle.itanium_reader.specs.Outcome.{state, Gives, ChecksWidth}
+use Rattle.demangle_text.specs.State.{IsLiving, shape}
+use Rattle.std.specs.Prelude.{OnOk}
 use Rattle.itanium_grammar.specs.Cases.{UnqualifiedCase, OrdinaryName, ConstructorName, DestructorName, SourceName, TagCase, NoTag, NextTag}
 use Rattle.itanium_grammar.specs.Cases.{NameFirst, EncodingEnd, AfterName, AtE, AtSymbolEnd, SpecialEncoding, NameEncoding}
 use Rattle.itanium_reader.specs.Parser.{ParserState, Turn, Parses, ParsesName, ParsesBareName, ◌>>=◌, is_too_wide, fitting}
@@ -366,3 +368,21 @@ stops after Memory gives follows = tt
 -- a call that finds a text that is too long: then the whole isn't parsed
 pub too_long : (after : Reader) (t : Shape) {whole : Option (Shape × ParserState)} (e : Stop) → ChecksWidth (Err e) t → (is_too_wide t ≡ true → whole ≡ None) → Gives (Err e) after whole
 too_long after t e wide follows = rw wide.0 (follows wide.1)
+
+-- a reader that ends with the check of the width
+pub checked : (result : Result (Unit {0}) Stop) (after : Reader) {whole : Option (Shape × ParserState)} → ChecksWidth result (shape after.buffer.value after.found)
+    → IsLiving after.buffer.value after.found
+    → (is_too_wide (shape after.buffer.value after.found) ≡ false → whole ≡ Some (shape after.buffer.value after.found, state after))
+    → (is_too_wide (shape after.buffer.value after.found) ≡ true → whole ≡ None) → Gives result after whole
+checked (Ok u) after width living narrow wide = (living, narrow width)
+checked (Err e) after width living narrow wide = too_long after (shape after.buffer.value after.found) e width wide
+
+-- what is so in any case is so where the last call succeeds
+pub in_any_case : {P : Type 0} (result : Result (Unit {0}) Stop) → P → OnOk result P
+in_any_case (Ok u) p = p
+in_any_case (Err e) p = tt
+
+-- and what follows from what it then gives
+pub on_success : {P Q : Type 0} (result : Result (Unit {0}) Stop) → (P → Q) → OnOk result P → OnOk result Q
+on_success (Ok u) follows p = follows p
+on_success (Err e) follows p = tt

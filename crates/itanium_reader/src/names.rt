@@ -1,11 +1,12 @@
 //! Names (Itanium C++ ABI 5.1.2).
-ghost use Rattle.std.specs.Prelude.{◌≡◌, Some, OnOk};
+ghost use Rattle.std.specs.Prelude.{◌≡◌, Some, OnOk, IsOkUnless};
 ghost use Rattle.demangle_text.specs.State.{IsLiving, shape, Lives, IsRun};
 ghost use Rattle.demangle_text.specs.Calls.{IsLast};
 ghost use Rattle.demangle_edit.specs.Names.{qualified_ctor, with_name_qualifiers};
 ghost use Rattle.itanium_grammar.specs.Tree.{conversion_shape};
 ghost use Rattle.itanium_reader.specs.Parser as spec;
 ghost use Rattle.itanium_reader.specs.Outcome.{state, Gives, TakesSome, MayTakeNone, SavedBounds};
+ghost use Rattle.itanium_reader.specs.declared.stop.Stop.TheVariants.{Memory};
 
 use crate::reader::Reader;
 use crate::stop::{ReadResult, Stop};
@@ -15,7 +16,6 @@ use itanium_syntax::names::{TagCase, source_text, tag_case};
 use itanium_syntax::numerals::ordinal;
 use itanium_syntax::operators::operator_here;
 use itanium_syntax::scalar::source_name;
-use std::alloc::AllocError;
 
 impl<'a> Reader<'a> {
     /// Reads a `<source-name>` and its ABI tags, and appends `::` and the name to the parent in `found`. If the parent
@@ -47,13 +47,14 @@ impl<'a> Reader<'a> {
 
     /// Skips the two bytes of a `<ctor-dtor-name>` and replaces the class in `found` by its constructor, or by its
     /// destructor if `destructor` is true. ABI tags aren't read.
-    pub fn read_ctor_dtor(&mut self, destructor: bool) -> Result<(), AllocError>
+    pub fn read_ctor_dtor(&mut self, destructor: bool) -> ReadResult
         requires living { IsLiving self.old.buffer.value self.old.found }
         ensures shape { OnOk result (Lives self.new.buffer.value self.new.found
             (qualified_ctor (shape self.old.buffer.value self.old.found) destructor)) }
         ensures state { OnOk result (state self.new ≡ spec.skip 2 (state self.old)) }
         ensures run { OnOk result (IsRun self.old.buffer.value self.new.buffer.value) }
         ensures last { OnOk result (IsLast self.new.buffer.value self.new.found) }
+        ensures memory { IsOkUnless result Memory }
     {
         self.skip(2);
         self.found = qualify_ctor(&mut self.buffer, self.found, destructor)?;
@@ -186,12 +187,13 @@ impl<'a> Reader<'a> {
     /// qualifier is set, `found` becomes a plain piece. The method isn't inlined, to keep the stack frame of names
     /// small.
     #[inline(never)]
-    pub fn print_quals(&mut self, quals: Quals, shown: bool) -> Result<(), AllocError>
+    pub fn print_quals(&mut self, quals: Quals, shown: bool) -> ReadResult
         requires living { IsLiving self.old.buffer.value self.old.found }
         ensures shape { OnOk result (Lives self.new.buffer.value self.new.found
             (with_name_qualifiers (shape self.old.buffer.value self.old.found) quals shown)) }
         ensures state { OnOk result (state self.new ≡ state self.old) }
         ensures run { OnOk result (IsRun self.old.buffer.value self.new.buffer.value) }
+        ensures memory { IsOkUnless result Memory }
     {
         if !quals.is_set() {
             return Ok(());
@@ -206,13 +208,14 @@ impl<'a> Reader<'a> {
 
     /// Replaces the type in `found` by the name of the conversion operator to it: `operator`, a space and the type.
     #[inline(never)]
-    pub fn make_conversion_name(&mut self) -> Result<(), AllocError>
+    pub fn make_conversion_name(&mut self) -> ReadResult
         requires living { IsLiving self.old.buffer.value self.old.found }
         ensures shape { OnOk result (Lives self.new.buffer.value self.new.found
             (conversion_shape (shape self.old.buffer.value self.old.found))) }
         ensures state { OnOk result (state self.new ≡ state self.old) }
         ensures run { OnOk result (IsRun self.old.buffer.value self.new.buffer.value) }
         ensures last { OnOk result (IsLast self.new.buffer.value self.new.found) }
+        ensures memory { IsOkUnless result Memory }
     {
         let plain = self.buffer.plain(self.found);
         let named = self.buffer.insert(plain, Place::Start, b"operator ")?;

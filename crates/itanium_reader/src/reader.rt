@@ -1,6 +1,6 @@
 //! The state that the readers share: the bytes that are left, the buffer with the substitution table, and the last
 //! piece.
-ghost use Rattle.std.specs.Prelude.{◌≡◌, ◌<◌, ◌≤◌, ◌+◌, ◌^◌, ◌++◌, IfOk, OnOk, length, take, max, true};
+ghost use Rattle.std.specs.Prelude.{◌≡◌, ◌<◌, ◌≤◌, ◌+◌, ◌^◌, ◌++◌, IfOk, OnOk, length, take, max, true, IsOkUnless};
 ghost use Rattle.demangle_text.specs.Shape.{plain_shape, text};
 ghost use Rattle.demangle_text.specs.State.{Closes, Stands, frame_start, inside};
 ghost use Rattle.demangle_text.specs.State.{IsLiving, Lives, shape, IsRun, SameFrame, saved, scopes, main_bytes, frame};
@@ -11,6 +11,7 @@ ghost use Rattle.itanium_syntax.specs.Types.{builtin_text, past_builtin};
 ghost use Rattle.itanium_grammar.specs.Answer.{max_text};
 ghost use Rattle.itanium_reader.specs.Parser as spec;
 ghost use Rattle.itanium_reader.specs.Outcome.{state, Enters, Gives, ChecksWidth, CountFits, TakesSome, SavedBounds};
+ghost use Rattle.itanium_reader.specs.declared.stop.Stop.TheVariants.{Memory};
 
 use crate::stop::{ReadResult, Stop};
 use demangle_edit::Quals;
@@ -104,7 +105,7 @@ impl<'a> Reader<'a> {
 
     /// Appends `found` to the substitution table. Neither `found` nor the output changes.
     #[inline(always)]
-    pub fn save_found(&mut self) -> Result<(), AllocError>
+    pub fn save_found(&mut self) -> ReadResult
         requires living { IsLiving self.old.buffer.value self.old.found }
         ensures shape { OnOk result (Lives self.new.buffer.value self.new.found
             (shape self.old.buffer.value self.old.found)) }
@@ -116,6 +117,7 @@ impl<'a> Reader<'a> {
         ensures output { main_bytes self.new.buffer.value ≡ main_bytes self.old.buffer.value }
         ensures found { self.new.found ≡ self.old.found }
         ensures kept { OnOk result (SameFrame self.old.buffer.value self.new.buffer.value) }
+        ensures memory { IsOkUnless result Memory }
     {
         self.buffer.save_ref(&self.found)?;
         Ok(())
@@ -123,13 +125,14 @@ impl<'a> Reader<'a> {
 
     /// Brings `found` to the end of the output, so that the rest of a name can be appended right after it.
     #[inline(always)]
-    pub fn copy_found_to_end(&mut self) -> Result<(), AllocError>
+    pub fn copy_found_to_end(&mut self) -> ReadResult
         requires living { IsLiving self.old.buffer.value self.old.found }
         ensures shape { OnOk result (Lives self.new.buffer.value self.new.found
             (shape self.old.buffer.value self.old.found)) }
         ensures last { OnOk result (IsLast self.new.buffer.value self.new.found) }
         ensures state { OnOk result (state self.new ≡ state self.old) }
         ensures kept { OnOk result (SameFrame self.old.buffer.value self.new.buffer.value) }
+        ensures memory { IsOkUnless result Memory }
     {
         self.buffer.copy_to_end(&mut self.found)?;
         Ok(())
@@ -137,7 +140,7 @@ impl<'a> Reader<'a> {
 
     /// Closes the innermost mark. Afterwards the output since that mark is the text of `found`.
     #[inline(always)]
-    pub fn close_found(&mut self, mark: Mark) -> Result<(), AllocError>
+    pub fn close_found(&mut self, mark: Mark) -> ReadResult
         requires innermost { frame self.old.buffer.value ≡ inside mark }
         requires living { IsLiving self.old.buffer.value self.old.found }
         ensures shape { OnOk result (Lives self.new.buffer.value self.new.found
@@ -150,6 +153,7 @@ impl<'a> Reader<'a> {
             (main_bytes self.old.buffer.value) ++ text (shape self.old.buffer.value self.old.found)) }
         ensures stands { OnOk result (Stands self.new.found (frame_start (inside mark))
             (length (main_bytes self.new.buffer.value))) }
+        ensures memory { IsOkUnless result Memory }
     {
         self.buffer.close_in_place(mark, &mut self.found)?;
         Ok(())
@@ -157,7 +161,7 @@ impl<'a> Reader<'a> {
 
     /// Appends `found` to the substitution table if it is a candidate for it that isn't saved yet.
     #[inline(always)]
-    pub fn save_if(&mut self, candidate: bool) -> Result<(), AllocError>
+    pub fn save_if(&mut self, candidate: bool) -> ReadResult
         requires living { IsLiving self.old.buffer.value self.old.found }
         ensures shape { OnOk result (Lives self.new.buffer.value self.new.found
             (shape self.old.buffer.value self.old.found)) }
@@ -166,6 +170,7 @@ impl<'a> Reader<'a> {
         ensures found { OnOk result (self.new.found ≡ self.old.found) }
         ensures output { main_bytes self.new.buffer.value ≡ main_bytes self.old.buffer.value }
         ensures kept { OnOk result (SameFrame self.old.buffer.value self.new.buffer.value) }
+        ensures memory { IsOkUnless result Memory }
     {
         if candidate {
             self.save_found()?;
@@ -316,12 +321,13 @@ impl<'a> Reader<'a> {
     }
 
     /// Reads the `<builtin-type>` that is next.
-    pub fn read_builtin_type(&mut self) -> Result<(), AllocError>
+    pub fn read_builtin_type(&mut self) -> ReadResult
         ensures shape { OnOk result
             (Lives self.new.buffer.value self.new.found (plain_shape (builtin_text self.old.rest.now))) }
         ensures state { OnOk result (state self.new
             ≡ spec.with_rest (past_builtin self.old.rest.now) (state self.old)) }
         ensures kept { OnOk result (SameFrame self.old.buffer.value self.new.buffer.value) }
+        ensures memory { IsOkUnless result Memory }
     {
         self.found = self.buffer.push(builtin_text(self.rest))?;
         self.rest = past_builtin(self.rest);
@@ -349,11 +355,12 @@ impl<'a> Reader<'a> {
 
     /// Appends `, ` to the output in front of a list's next text, and nothing if that is the `first`.
     #[inline(always)]
-    pub fn separate(&mut self, first: bool) -> Result<(), AllocError>
+    pub fn separate(&mut self, first: bool) -> ReadResult
         ensures output { OnOk result (main_bytes self.new.buffer.value
             ≡ main_bytes self.old.buffer.value ++ separator first) }
         ensures state { OnOk result (state self.new ≡ state self.old) }
         ensures kept { OnOk result (SameFrame self.old.buffer.value self.new.buffer.value) }
+        ensures memory { IsOkUnless result Memory }
     {
         if !first {
             self.buffer.push(b", ")?;
@@ -362,12 +369,13 @@ impl<'a> Reader<'a> {
     }
 
     /// Opens a scope for a list of template arguments if `opens` is true, and does nothing otherwise.
-    pub fn open_scope_if(&mut self, opens: bool) -> Result<(), AllocError>
+    pub fn open_scope_if(&mut self, opens: bool) -> ReadResult
         ensures state { OnOk result (state self.new ≡ spec.open_scope_if opens (state self.old)) }
         ensures more { OnOk result (length (scopes self.old.buffer.value) ≤ length (scopes self.new.buffer.value)) }
         ensures opened { OnOk result (opens ≡ true → 0 < length (scopes self.new.buffer.value)) }
         ensures found { OnOk result (self.new.found ≡ self.old.found) }
         ensures kept { OnOk result (SameFrame self.old.buffer.value self.new.buffer.value) }
+        ensures memory { IsOkUnless result Memory }
     {
         if opens {
             self.buffer.open_scope()?;
@@ -378,7 +386,7 @@ impl<'a> Reader<'a> {
     /// Drops the scopes past the first n, which the argument in `found` opened. If `opens` is true, appends the
     /// argument to the scope that its list opened.
     #[inline(always)]
-    pub fn add_argument(&mut self, opens: bool, n: usize) -> Result<(), AllocError>
+    pub fn add_argument(&mut self, opens: bool, n: usize) -> ReadResult
         requires living { IsLiving self.old.buffer.value self.old.found }
         requires scopes { n ≤ length (scopes self.old.buffer.value) }
         requires opened { opens ≡ true → 0 < n }
@@ -388,6 +396,7 @@ impl<'a> Reader<'a> {
         ensures output { OnOk result (main_bytes self.new.buffer.value ≡ main_bytes self.old.buffer.value) }
         ensures found { OnOk result (self.new.found ≡ self.old.found) }
         ensures kept { OnOk result (SameFrame self.old.buffer.value self.new.buffer.value) }
+        ensures memory { IsOkUnless result Memory }
     {
         self.buffer.keep_scopes(n);
         if opens {

@@ -1,11 +1,12 @@
 //! Special names (Itanium C++ ABI 5.1.4, "Other Special Functions and Entities").
-ghost use Rattle.std.specs.Prelude.{◌≡◌, ◌<◌, ◌++◌, OnOk, IfOk, codes, decimal, length};
+ghost use Rattle.std.specs.Prelude.{◌≡◌, ◌<◌, ◌++◌, OnOk, IfOk, codes, decimal, length, IsOkUnless};
 ghost use Rattle.demangle_text.specs.Shape.{text, appended, plain_shape};
 ghost use Rattle.demangle_text.specs.State.{IsLiving, Lives, shape, IsEdit, IsRun};
 ghost use Rattle.demangle_text.specs.Calls.{IsInner, IsLast, text_after};
 ghost use Rattle.itanium_grammar.specs.Tree.{offset_sign, offset_text, worded_shape};
 ghost use Rattle.itanium_reader.specs.Parser as spec;
 ghost use Rattle.itanium_reader.specs.Outcome.{state, Gives, TakesSome, SavedBounds};
+ghost use Rattle.itanium_reader.specs.declared.stop.Stop.TheVariants.{Memory};
 
 use crate::reader::Reader;
 use crate::stop::{ReadResult, Stop};
@@ -61,7 +62,7 @@ impl<'a> Reader<'a> {
     /// Makes one piece of the words, the text of `found`, and the bytes of `close`. The text of `found` must follow
     /// the words in the output and end it.
     #[inline(always)]
-    pub fn print_worded(&mut self, words: Piece, close: &[u8]) -> Result<(), AllocError>
+    pub fn print_worded(&mut self, words: Piece, close: &[u8]) -> ReadResult
         requires words { IsLiving self.old.buffer.value words }
         requires plain { shape self.old.buffer.value words ≡ plain_shape (text (shape self.old.buffer.value words)) }
         requires inner { IsInner self.old.buffer.value words }
@@ -70,6 +71,7 @@ impl<'a> Reader<'a> {
             (text (shape self.old.buffer.value words)) (shape self.old.buffer.value self.old.found) close.now)) }
         ensures state { OnOk result (state self.new ≡ state self.old) }
         ensures run { OnOk result (IsRun self.old.buffer.value self.new.buffer.value) }
+        ensures memory { IsOkUnless result Memory }
     {
         let worded = self.buffer.up_to_end(words);
         let closed = self.buffer.append(worded, close)?;

@@ -1,29 +1,30 @@
 //! Methods for types. Most make a type of the one in `found`, and append it to the substitution table.
-ghost use Rattle.std.specs.Prelude.{◌≡◌, OnOk};
+ghost use Rattle.std.specs.Prelude.{◌≡◌, OnOk, IsOkUnless};
 ghost use Rattle.demangle_text.specs.State.{IsLiving, shape, Lives, IsRun};
 ghost use Rattle.demangle_edit.specs.Types.{pointer_shape};
 ghost use Rattle.itanium_syntax.specs.Args.{attached_case};
 ghost use Rattle.itanium_reader.specs.Parser as spec;
 ghost use Rattle.itanium_reader.specs.Outcome.{state, Gives, TakesSome, MayTakeNone, SavedBounds, SavesOne};
+ghost use Rattle.itanium_reader.specs.declared.stop.Stop.TheVariants.{Memory};
 
 use crate::reader::Reader;
 use crate::stop::{ReadResult, Stop};
 use demangle_edit::{Pointer, wrap_member_pointer, wrap_pointer};
 use demangle_text::Piece;
 use itanium_syntax::args::{AttachedCase, attached_case};
-use std::alloc::AllocError;
 
 impl<'a> Reader<'a> {
     /// Replaces the type in `found` by a pointer or a reference to it, and saves that as a component. The method
     /// isn't inlined, to keep the stack frame of types small.
     #[inline(never)]
-    pub fn make_pointer(&mut self, kind: Pointer) -> Result<(), AllocError>
+    pub fn make_pointer(&mut self, kind: Pointer) -> ReadResult
         requires living { IsLiving self.old.buffer.value self.old.found }
         ensures shape { OnOk result (Lives self.new.buffer.value self.new.found (pointer_shape kind
             (shape self.old.buffer.value self.old.found))) }
         ensures state { OnOk result (state self.new ≡ spec.save (pointer_shape kind
             (shape self.old.buffer.value self.old.found)) (state self.old)) }
         ensures run { OnOk result (IsRun self.old.buffer.value self.new.buffer.value) }
+        ensures memory { IsOkUnless result Memory }
     {
         self.found = wrap_pointer(&mut self.buffer, self.found, kind)?;
         self.save_found()
@@ -44,8 +45,7 @@ impl<'a> Reader<'a> {
             return Err(Stop::Unreadable);
         };
         self.found = whole;
-        self.save_found()?;
-        Ok(())
+        self.save_found()
     }
 
     /// Reads `u <source-name>`. Returns `Stop::Unreadable` if `<template-args>` follow.
@@ -60,7 +60,6 @@ impl<'a> Reader<'a> {
         if let AttachedCase::ArgsAttached = attached_case(self.rest) {
             return Err(Stop::Unreadable);
         }
-        self.save_found()?;
-        Ok(())
+        self.save_found()
     }
 }

@@ -26,7 +26,7 @@ pub struct ReplaceOptions {
 }
 
 /// Where a symbol may be.
-#[derive(Clone, Copy, Debug, PartialEq, Eq)]
+#[derive(Clone, Copy)]
 pub(crate) enum Placement {
     /// A whole line may be a symbol.
     Lines(Printing),

@@ -32,7 +32,7 @@ use Rattle.itanium_syntax.specs.declared.context.Context.{Context}
 use Rattle.std.proofs.Common.{Err, None}
 use Rattle.itanium_reader.specs.declared.reader.Reader.{Reader}
 use Rattle.itanium_reader.specs.Parser as spec
-use Rattle.itanium_reader.proofs.Unfold.{stops, too_long, thunk_read, thunk_wide}
+use Rattle.itanium_reader.proofs.Unfold.{stops, too_long, checked, in_any_case, on_success, thunk_read, thunk_wide}
 use Rattle.itanium_reader.proofs.Texts.{begun_front}
 use Rattle.itanium_reader.proofs.Turns.{source_segment, later_is, attached_start, attached_end, attached_more}
 use Rattle.itanium_reader.proofs.Turns.{attached_fail, pack_start, segments_end}
@@ -164,7 +164,10 @@ args::read_argument_pack-loop-reader-init t c = record {
 
 pub args::read_argument_pack-returns-in-EndOfArguments-clause-reads : goal.args::read_argument_pack-returns-in-EndOfArguments-clause-reads
 args::read_argument_pack-returns-in-EndOfArguments-clause-reads t c =
-    (search rules, pack_ends _ c.loop-reader.invariant.reads (sym c.in-EndOfArguments.ensures.case) (search rules) (search rules) (search rules))
+    let list = shape c.skip-in-EndOfArguments.new.self.buffer.value c.whole-reader.result in
+    checked c.check_width.result _ c.check_width.ensures.fits (search rules)
+    (λ narrow. pack_ends _ {found = list} c.loop-reader.invariant.reads (sym c.in-EndOfArguments.ensures.case) (search rules) narrow (search rules))
+    (λ wide. pack_wide _ {found = list} c.loop-reader.invariant.reads (sym c.in-EndOfArguments.ensures.case) (search rules) wide)
 
 pub args::read_argument_pack-returns-in_err-read_template_arg-in-NextArgument-clause-reads : goal.args::read_argument_pack-returns-in_err-read_template_arg-in-NextArgument-clause-reads
 args::read_argument_pack-returns-in_err-read_template_arg-in-NextArgument-clause-reads t c =
@@ -211,21 +214,6 @@ types::read_params-loop-list-preserved t c = record {
   cost = grind (arith, common_steps);
   growth = grind (arith, common_steps);
 }
-
-pub args::read_argument_pack-returns-in_err-check_width-in-EndOfArguments-clause-reads : goal.args::read_argument_pack-returns-in_err-check_width-in-EndOfArguments-clause-reads
-args::read_argument_pack-returns-in_err-check_width-in-EndOfArguments-clause-reads t c =
-    let list = shape c.skip-in-EndOfArguments.new.self.buffer.value c.whole-reader.result in
-    let r = c.from_residual-in_err-check_width-in-EndOfArguments in
-    let e = err_from_is_err_and r.result r.ensures.1 in
-    rw (e.1, e.2) (too_long _ list _ (c.in_err-check_width-in-EndOfArguments.ensures {u = tt}).fits
-    (λ wide. pack_wide _ {found = list} c.loop-reader.invariant.reads (sym c.in-EndOfArguments.ensures.case) (search rules) wide))
-
-pub types::read_type-returns-in_err-check_width-clause-reads : goal.types::read_type-returns-in_err-check_width-clause-reads
-types::read_type-returns-in_err-check_width-clause-reads t c =
-    let r = c.from_residual-in_err-check_width in
-    let e = err_from_is_err_and r.result r.ensures.1 in
-    let read = c.match-type_case.reader in
-    rw (e.1, e.2) (too_long _ (shape read.buffer.value read.found) _ (c.in_err-check_width.ensures {u = tt}).fits (λ wide. grind (arith, types)))
 
 pub args::read_argument_pack-returns-then-is_too_wide-clause-reads : goal.args::read_argument_pack-returns-then-is_too_wide-clause-reads
 args::read_argument_pack-returns-then-is_too_wide-clause-reads t c =
@@ -436,25 +424,6 @@ specials::read_construction-returns-clause-saved t c =
       most = omega (arith, left, two, before, most, class.list, class.most, ap length pushed, base.list, base.most, ap length joined, c.in-Some.ensures.shorter);
     }
 
-pub specials::read_thunk-returns-in_err-check_width-clause-reads : goal.specials::read_thunk-returns-in_err-check_width-clause-reads
-specials::read_thunk-returns-in_err-check_width-clause-reads t c =
-    let r = c.from_residual-in_err-check_width in
-    let e = err_from_is_err_and r.result r.ensures.1 in
-    let opened = c.open_thunk.new.self in
-    let symbol = c.close_found.new.self in
-    let found = shape c.print_worded.new.self.buffer.value c.print_worded.new.self.found in
-    let opens : Opens opened.buffer.value c.open-mark.new.self c.open-mark.result =
-    subst (λ (b : Buffer). Opens b c.open-mark.new.self c.open-mark.result) c.deref_mut.ensures.value c.open-mark.ensures.opens in
-    let since = IsSince-run _ _ _ _ (IsSince-opens _ _ _ opens) (c.in_ok-read_encoding.ensures {u = tt}).run in
-    let kept : SameFrame opened.buffer.value symbol.buffer.value = SameFrame-closed _ _ _ _ since (c.in_ok-close_found.ensures {u = tt}).closed in
-    let words = kept.pieces opened.found (c.in_ok-open_thunk.ensures {u = tt}).reads.0 in
-    let built = c.in_ok-print_worded.ensures.shape.shape_is
-    ∙ ap (λ (s : Shape). worded_shape (text s) (shape symbol.buffer.value symbol.found) (codes ")}")) words.shape_is in
-    rw (e.1, e.2) (too_long _ found _ (c.in_err-check_width.ensures {u = tt}).fits (λ wide.
-    thunk_wide c.args.depth c.args.end c.args.context (state c.args.reader.now) {front = shape opened.buffer.value opened.found} {t = shape symbol.buffer.value symbol.found}
-    {mid = state opened} {after = state symbol}
-    (search rules) (search rules) (search (rules, buffers)) built wide))
-
 pub specials::read_thunk-returns-clause-reads : goal.specials::read_thunk-returns-clause-reads
 specials::read_thunk-returns-clause-reads t c =
     let opened = c.open_thunk.new.self in
@@ -465,12 +434,14 @@ specials::read_thunk-returns-clause-reads t c =
     let kept : SameFrame opened.buffer.value symbol.buffer.value = SameFrame-closed _ _ _ _ since (c.in_ok-close_found.ensures {u = tt}).closed in
     let words = kept.pieces opened.found (c.in_ok-open_thunk.ensures {u = tt}).reads.0 in
     let built = c.in_ok-print_worded.ensures.shape.shape_is
-    ∙ ap (λ (s : Shape). worded_shape (text s) (shape symbol.buffer.value symbol.found) (codes ")}")) words.shape_is in (
-      search rules,
-      thunk_read c.args.depth c.args.end c.args.context (state c.args.reader.now) {front = shape opened.buffer.value opened.found} {t = shape symbol.buffer.value symbol.found}
-          {mid = state opened} {after = state c.print_worded.new.self}
-          (search rules) (search rules) (search (rules, buffers)) built (c.in_ok-check_width.ensures {u = tt}).fits,
-    )
+    ∙ ap (λ (s : Shape). worded_shape (text s) (shape symbol.buffer.value symbol.found) (codes ")}")) words.shape_is in
+    checked c.check_width.result _ c.check_width.ensures.fits (search rules)
+    (λ narrow. thunk_read c.args.depth c.args.end c.args.context (state c.args.reader.now) {front = shape opened.buffer.value opened.found} {t = shape symbol.buffer.value symbol.found}
+    {mid = state opened} {after = state c.print_worded.new.self}
+    (search rules) (search rules) (search (rules, buffers)) built narrow)
+    (λ wide. thunk_wide c.args.depth c.args.end c.args.context (state c.args.reader.now) {front = shape opened.buffer.value opened.found} {t = shape symbol.buffer.value symbol.found}
+    {mid = state opened} {after = state symbol}
+    (search rules) (search rules) (search (rules, buffers)) built wide)
 
 pub specials::read_thunk-print_worded-requires-clause-after : goal.specials::read_thunk-print_worded-requires-clause-after
 specials::read_thunk-print_worded-requires-clause-after t c =
@@ -489,7 +460,7 @@ specials::read_thunk-returns-clause-run t c =
     let since = IsSince-run _ _ _ _ (IsSince-opens _ _ _ opens) (c.in_ok-read_encoding.ensures {u = tt}).run in
     let kept : SameFrame opened.buffer.value symbol.buffer.value = SameFrame-closed _ _ _ _ since (c.in_ok-close_found.ensures {u = tt}).closed in
     let first : IsRun c.args.reader.now.buffer.value opened.buffer.value = search rules in
-    IsRun-trans _ _ _ first (IsRun-trans _ _ _ (IsRun-same _ _ kept) c.in_ok-print_worded.ensures.run)
+    in_any_case c.check_width.result (IsRun-trans _ _ _ first (IsRun-trans _ _ _ (IsRun-same _ _ kept) c.in_ok-print_worded.ensures.run))
 
 -- an operator, and what was read right after it
 pub expressions::read_pre-print_worded-requires-clause-after : goal.expressions::read_pre-print_worded-requires-clause-after
@@ -668,7 +639,8 @@ pub types::read_type-returns-in-UnreadableType-clause-reads : goal.types::read_t
 types::read_type-returns-in-UnreadableType-clause-reads t c = grind (arith, types)
 
 pub types::read_type-returns-clause-reads : goal.types::read_type-returns-clause-reads
-types::read_type-returns-clause-reads t c = grind (arith, types)
+types::read_type-returns-clause-reads t c =
+    checked c.check_width.result c.match-type_case.reader c.check_width.ensures.fits (search rules) (λ narrow. grind (arith, types)) (λ wide. grind (arith, types))
 
 pub names::framed_name-read_name-requires : goal.names::framed_name-read_name-requires
 names::framed_name-read_name-requires t c = grind (arith, buffers)
@@ -747,7 +719,7 @@ pub names::read_name-returns-in_default-clause-reads : goal.names::read_name-ret
 names::read_name-returns-in_default-clause-reads t c = grind (arith, names)
 
 pub args::read_template_arg-returns-clause-kept : goal.args::read_template_arg-returns-clause-kept
-args::read_template_arg-returns-clause-kept t c = grind (arith, common_steps)
+args::read_template_arg-returns-clause-kept t c = on_success c.close_found.result (λ closed. grind (arith, common_steps)) c.close_found.ensures.closed
 
 pub args::read_argument_pack-returns-in_err-depth-clause-reads : goal.args::read_argument_pack-returns-in_err-depth-clause-reads
 args::read_argument_pack-returns-in_err-depth-clause-reads t c = grind (arith, packs)
@@ -798,7 +770,8 @@ pub expressions::read_expression-returns-in_err-read-clause-reads : goal.express
 expressions::read_expression-returns-in_err-read-clause-reads t c = grind (arith, expressions)
 
 pub expressions::read_expression-returns-clause-reads : goal.expressions::read_expression-returns-clause-reads
-expressions::read_expression-returns-clause-reads t c = grind (arith, expressions)
+expressions::read_expression-returns-clause-reads t c =
+    checked c.check_width.result c.match-expression_case.reader c.check_width.ensures.fits (search rules) (λ narrow. grind (arith, expressions)) (λ wide. grind (arith, expressions))
 
 pub expressions::read_post-returns-clause-run : goal.expressions::read_post-returns-clause-run
 expressions::read_post-returns-clause-run t c = grind (arith, buffers)
@@ -880,13 +853,6 @@ names::read_name-returns-in_err-check_width-clause-reads t c = grind (arith, nam
 
 pub names::read_name-returns-in_err-check_width-2-clause-reads : goal.names::read_name-returns-in_err-check_width-2-clause-reads
 names::read_name-returns-in_err-check_width-2-clause-reads t c = grind (arith, names)
-
-pub expressions::read_expression-returns-in_err-check_width-clause-reads : goal.expressions::read_expression-returns-in_err-check_width-clause-reads
-expressions::read_expression-returns-in_err-check_width-clause-reads t c =
-    let r = c.from_residual-in_err-check_width in
-    let e = err_from_is_err_and r.result r.ensures.1 in
-    let read = c.match-expression_case.reader in
-    rw (e.1, e.2) (too_long _ (shape read.buffer.value read.found) _ (c.in_err-check_width.ensures {u = tt}).fits (λ wide. grind (arith, expressions)))
 
 pub args::read_template_arg-returns-in_err-read_argument_pack-in-PackArgument-clause-reads : goal.args::read_template_arg-returns-in_err-read_argument_pack-in-PackArgument-clause-reads
 args::read_template_arg-returns-in_err-read_argument_pack-in-PackArgument-clause-reads t c = grind (arith, arguments)

@@ -20,11 +20,5 @@ returns-clause-reads c =
     (source_in_read parent (spec.save_if c.args.candidate parent (state c.args.self.now)) {name = slice_range bytes c.in-Some.from to} {rest = drop to bytes} {mid = state c.save_if-2.new.self}
     (search rules) (search (rules, named_is)) (c.in_ok-save_if-2.ensures {u = tt}).state (search (rules, all)))
 
-pub returns-in_err-save_if : goal.returns-in_err-save_if
-returns-in_err-save_if c = rw (refused c.from_residual.result c.from_residual.ensures) (search rules)
-
-pub returns-in_err-save_if-2 : goal.returns-in_err-save_if-2
-returns-in_err-save_if-2 c = rw (refused c.from_residual-in_err-save_if-2.result c.from_residual-in_err-save_if-2.ensures) (search rules)
-
 pub returns-in_err-append_name : goal.returns-in_err-append_name
 returns-in_err-append_name c = rw (refused c.from_residual-in_err-append_name.result c.from_residual-in_err-append_name.ensures) (search rules)
