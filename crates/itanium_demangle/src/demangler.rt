@@ -85,7 +85,7 @@ fn end_answer(reader: &mut Reader, mark: Mark) -> Result<bool, AllocError>
     reader.buffer.keep_scopes(0);
     let rest = suffix(reader.rest);
     if rest.is_empty() {
-        reader.close_found(mark)?;
+        reader.buffer.close_in_place(mark, &mut reader.found)?;
         return Ok(true);
     }
     let whole = reader.buffer.append(reader.found, rest)?;
