@@ -301,10 +301,11 @@ impl Demangler {
         self.entered
     }
 
-    /// Returns the most entries that the substitution table had at one moment of the last symbol (Itanium C++ ABI
-    /// 5.1.10), also if that symbol had no result. Returns 0 before the first symbol, after an error, and for a text
-    /// without the prefix of a symbol. The number is at most the number of the symbol's bytes. If no reading is within
-    /// the limits, nothing more is proved of the number.
+    /// Returns the most entries that the grammar's substitution table had at one moment of the last symbol (Itanium C++
+    /// ABI 5.1.10), also if that symbol had no result. For a moment the grammar's table also has the last segment of a
+    /// nested name, unless that is a substitution or `St` alone. Returns 0 before the first symbol, after an error, and
+    /// for a text without the prefix of a symbol. The number is at most the number of the symbol's bytes. If no reading
+    /// is within the limits, nothing more is proved of the number.
     pub fn most_saved(&self) -> usize
         ensures value { result ≡ self.now.most_saved }
     {

@@ -70,7 +70,8 @@ fn symbol_in(strip: bool, word: &[u8]) -> Option<(usize, &[u8])>
 /// `___Z`.
 const START_LEN: usize = 10;
 
-/// Returns whether a word that begins with these bytes may hold a symbol.
+/// Returns whether a last word with these bytes is kept until more is read: it has fewer than `START_LEN` bytes, or a
+/// symbol follows its prefix characters.
 pub(crate) fn may_hold_symbol(strip: bool, bytes: &[u8]) -> bool
     ensures value { result ≡ spec.may_hold_symbol strip bytes.now }
 {
