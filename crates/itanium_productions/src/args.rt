@@ -125,16 +125,17 @@ pub(crate) fn read_template_arg(reader: &mut Reader, depth: usize, context: Cont
     ensures saved { SavedBounds 0 result (state reader.old) (state reader.new) }
 {
     let mark = reader.buffer.open();
-    match argument_case(reader.rest) {
-        ArgumentCase::PackArgument => read_argument_pack(reader, depth, context)?,
+    let read = match argument_case(reader.rest) {
+        ArgumentCase::PackArgument => read_argument_pack(reader, depth, context),
         ArgumentCase::ExpressionArgument => {
             reader.skip(1);
             read_expression(reader, depth, context)?;
-            reader.read_end()?;
+            reader.read_end()
         }
-        ArgumentCase::PrimaryArgument => read_expr_primary(reader, depth, context)?,
-        ArgumentCase::ConstraintArgument => return Err(Stop::Unreadable),
-        ArgumentCase::TypeArgument => read_type(reader, depth, context)?,
-    }
+        ArgumentCase::PrimaryArgument => read_expr_primary(reader, depth, context),
+        ArgumentCase::ConstraintArgument => Err(Stop::Unreadable),
+        ArgumentCase::TypeArgument => read_type(reader, depth, context),
+    };
+    read?;
     reader.close_found(mark)
 }

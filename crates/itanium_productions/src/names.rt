@@ -102,11 +102,12 @@ pub(crate) fn read_unqualified_name(
     ensures saved { SavedBounds 1 result (state reader.old) (state reader.new) }
 {
     reader.skip_internal();
-    if begins_source(reader.rest) {
-        reader.read_source_name()?;
+    let read = if begins_source(reader.rest) {
+        reader.read_source_name()
     } else {
-        read_ordinary_name(reader, depth, context)?;
-    }
+        read_ordinary_name(reader, depth, context)
+    };
+    read?;
     reader.read_tags()
 }
 
@@ -129,11 +130,12 @@ pub(crate) fn read_segment(reader: &mut Reader, depth: usize, context: Context) 
     if begins_source(reader.rest) {
         return reader.read_source_segment(false);
     }
-    match unqualified_case(true, reader.rest) {
-        UnqualifiedCase::ConstructorName => reader.read_ctor_dtor(false)?,
-        UnqualifiedCase::DestructorName => reader.read_ctor_dtor(true)?,
-        UnqualifiedCase::OrdinaryName => read_ordinary_segment(reader, depth, context)?,
-    }
+    let read = match unqualified_case(true, reader.rest) {
+        UnqualifiedCase::ConstructorName => reader.read_ctor_dtor(false),
+        UnqualifiedCase::DestructorName => reader.read_ctor_dtor(true),
+        UnqualifiedCase::OrdinaryName => read_ordinary_segment(reader, depth, context),
+    };
+    read?;
     reader.read_tags()
 }
 
@@ -299,11 +301,11 @@ pub(crate) fn read_unscoped_name(reader: &mut Reader, depth: usize, context: Con
     ensures bounds { TakesSome 0 result (state reader.old) (state reader.new) }
     ensures saved { SavedBounds 1 result (state reader.old) (state reader.new) }
 {
-    match unscoped_case(reader.rest) {
+    let read = match unscoped_case(reader.rest) {
         UnscopedCase::StdName => {
             reader.skip(2);
             reader.found = reader.buffer.push(b"std")?;
-            read_segment(reader, depth, context)?;
+            read_segment(reader, depth, context)
         }
         UnscopedCase::SubstitutionName => {
             reader.read_substitution()?;
@@ -312,8 +314,9 @@ pub(crate) fn read_unscoped_name(reader: &mut Reader, depth: usize, context: Con
                 AttachedCase::ArgsAttached => read_template_args(reader, depth, context, true),
             };
         }
-        UnscopedCase::PlainName => read_unqualified_name(reader, depth, context)?,
-    }
+        UnscopedCase::PlainName => read_unqualified_name(reader, depth, context),
+    };
+    read?;
     match attached_case(reader.rest) {
         AttachedCase::NoneAttached => Ok(()),
         AttachedCase::ArgsAttached => {

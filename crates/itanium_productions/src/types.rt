@@ -60,38 +60,39 @@ pub(crate) fn read_type(reader: &mut Reader, depth: usize, context: Context) -> 
 {
     let depth = reader.enter(depth)?;
     let context = context.inside_type();
-    match type_case(reader.rest) {
+    let read = match type_case(reader.rest) {
         TypeCase::NameType => {
             // `read_name` has checked the length of the name.
             read_name(reader, depth, context, false)?;
             return reader.save_found();
         }
-        TypeCase::BuiltinType => reader.read_builtin_type()?,
+        TypeCase::BuiltinType => reader.read_builtin_type(),
         TypeCase::SubstitutionType => {
             reader.read_substitution()?;
-            read_type_attached(reader, depth, context)?;
+            read_type_attached(reader, depth, context)
         }
         TypeCase::TemplateParamType => {
             reader.read_template_param(context)?;
             reader.save_found()?;
-            read_type_attached(reader, depth, context)?;
+            read_type_attached(reader, depth, context)
         }
-        TypeCase::PointerType(kind) => read_pointer(reader, depth, context, kind)?,
+        TypeCase::PointerType(kind) => read_pointer(reader, depth, context, kind),
         TypeCase::CvType => {
             read_cv(reader, depth, context)?;
-            reader.save_found()?;
+            reader.save_found()
         }
         TypeCase::FunctionType => {
             read_function_type(reader, depth, context, Quals::none())?;
-            reader.save_found()?;
+            reader.save_found()
         }
-        TypeCase::ArrayType => read_array_type(reader, depth, context)?,
-        TypeCase::PointerToMemberType => read_pointer_to_member_type(reader, depth, context)?,
-        TypeCase::ExpansionType => read_expansion(reader, depth, context)?,
-        TypeCase::ElaboratedType => read_elaborated(reader, depth, context)?,
-        TypeCase::VendorType => reader.read_vendor_type()?,
-        TypeCase::UnreadableType => return Err(Stop::Unreadable),
-    }
+        TypeCase::ArrayType => read_array_type(reader, depth, context),
+        TypeCase::PointerToMemberType => read_pointer_to_member_type(reader, depth, context),
+        TypeCase::ExpansionType => read_expansion(reader, depth, context),
+        TypeCase::ElaboratedType => read_elaborated(reader, depth, context),
+        TypeCase::VendorType => reader.read_vendor_type(),
+        TypeCase::UnreadableType => Err(Stop::Unreadable),
+    };
+    read?;
     reader.check_width()
 }
 

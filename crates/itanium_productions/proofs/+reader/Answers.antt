@@ -22,14 +22,15 @@ use Rattle.demangle_edit.specs.Built.{default_arg_opened, enclosed}
 use Rattle.itanium_syntax.specs.Scalars.{ordinal}
 use Rattle.itanium_syntax.specs.Encodings.{entity_case}
 use Rattle.itanium_grammar.specs.Cases.{DefaultArgumentEntity}
-use Rattle.itanium_reader.specs.Outcome.{state, Gives, GivesCandidate}
+use Rattle.itanium_reader.specs.Outcome.{state, Gives, GivesCandidate, Bounds, CostBounds}
 use Rattle.itanium_reader.specs.declared.stop.Stop.{Stop}
 use Rattle.itanium_reader.specs.declared.stop.Stop.TheVariants.{Unreadable, Memory}
 use Rattle.itanium_reader.proofs.Unfold.{first_source_opens}
 use Rattle.itanium_syntax.specs.Names.{first_segment_case}
 use Rattle.itanium_syntax.specs.Calls.{begins_source}
 use Rattle.itanium_syntax.specs.declared.context.Context.{Context}
-use Rattle.std.proofs.Common.{Err, None}
+use Rattle.std.proofs.Common.{Ok, Err, None, Result}
+use Rattle.std.specs.Prelude.{OnOk, IsOkUnless}
 use Rattle.itanium_reader.specs.declared.reader.Reader.{Reader}
 use Rattle.itanium_reader.specs.Parser as spec
 use Rattle.itanium_reader.proofs.Unfold.{stops, too_long, checked, in_any_case, on_success, thunk_read, thunk_wide}
@@ -602,41 +603,17 @@ types::read_type-returns-in-NameType-clause-reads t c = grind (arith, types)
 pub types::read_type-returns-in_err-read_substitution-in-SubstitutionType-clause-reads : goal.types::read_type-returns-in_err-read_substitution-in-SubstitutionType-clause-reads
 types::read_type-returns-in_err-read_substitution-in-SubstitutionType-clause-reads t c = grind (arith, types)
 
-pub types::read_type-returns-in_err-read_type_attached-in-SubstitutionType-clause-reads : goal.types::read_type-returns-in_err-read_type_attached-in-SubstitutionType-clause-reads
-types::read_type-returns-in_err-read_type_attached-in-SubstitutionType-clause-reads t c = grind (arith, types)
-
 pub types::read_type-returns-in_err-read_template_param-in-TemplateParamType-clause-reads : goal.types::read_type-returns-in_err-read_template_param-in-TemplateParamType-clause-reads
 types::read_type-returns-in_err-read_template_param-in-TemplateParamType-clause-reads t c = grind (arith, types)
 
-pub types::read_type-returns-in_err-read_type_attached-in-TemplateParamType-clause-reads : goal.types::read_type-returns-in_err-read_type_attached-in-TemplateParamType-clause-reads
-types::read_type-returns-in_err-read_type_attached-in-TemplateParamType-clause-reads t c = grind (arith, types)
-
-pub types::read_type-returns-in_err-read_pointer-in-PointerType-clause-reads : goal.types::read_type-returns-in_err-read_pointer-in-PointerType-clause-reads
-types::read_type-returns-in_err-read_pointer-in-PointerType-clause-reads t c = grind (arith, types)
+pub types::read_type-returns-in_err-read-clause-reads : goal.types::read_type-returns-in_err-read-clause-reads
+types::read_type-returns-in_err-read-clause-reads t c = grind (arith, types)
 
 pub types::read_type-returns-in_err-read_cv-in-CvType-clause-reads : goal.types::read_type-returns-in_err-read_cv-in-CvType-clause-reads
 types::read_type-returns-in_err-read_cv-in-CvType-clause-reads t c = grind (arith, types)
 
 pub types::read_type-returns-in_err-read_function_type-in-FunctionType-clause-reads : goal.types::read_type-returns-in_err-read_function_type-in-FunctionType-clause-reads
 types::read_type-returns-in_err-read_function_type-in-FunctionType-clause-reads t c = grind (arith, types)
-
-pub types::read_type-returns-in_err-read_array_type-in-ArrayType-clause-reads : goal.types::read_type-returns-in_err-read_array_type-in-ArrayType-clause-reads
-types::read_type-returns-in_err-read_array_type-in-ArrayType-clause-reads t c = grind (arith, types)
-
-pub types::read_type-returns-in_err-read_pointer_to_member_type-in-PointerToMemberType-clause-reads : goal.types::read_type-returns-in_err-read_pointer_to_member_type-in-PointerToMemberType-clause-reads
-types::read_type-returns-in_err-read_pointer_to_member_type-in-PointerToMemberType-clause-reads t c = grind (arith, types)
-
-pub types::read_type-returns-in_err-read_expansion-in-ExpansionType-clause-reads : goal.types::read_type-returns-in_err-read_expansion-in-ExpansionType-clause-reads
-types::read_type-returns-in_err-read_expansion-in-ExpansionType-clause-reads t c = grind (arith, types)
-
-pub types::read_type-returns-in_err-read_elaborated-in-ElaboratedType-clause-reads : goal.types::read_type-returns-in_err-read_elaborated-in-ElaboratedType-clause-reads
-types::read_type-returns-in_err-read_elaborated-in-ElaboratedType-clause-reads t c = grind (arith, types)
-
-pub types::read_type-returns-in_err-read_vendor_type-in-VendorType-clause-reads : goal.types::read_type-returns-in_err-read_vendor_type-in-VendorType-clause-reads
-types::read_type-returns-in_err-read_vendor_type-in-VendorType-clause-reads t c = grind (arith, types)
-
-pub types::read_type-returns-in-UnreadableType-clause-reads : goal.types::read_type-returns-in-UnreadableType-clause-reads
-types::read_type-returns-in-UnreadableType-clause-reads t c = grind (arith, types)
 
 pub types::read_type-returns-clause-reads : goal.types::read_type-returns-clause-reads
 types::read_type-returns-clause-reads t c =
@@ -689,14 +666,11 @@ names::read_ordinary_segment-returns-clause-run t c =
     subst (λ (b : Buffer). IsEdit b last) c.deref_mut-3.ensures.value (c.in_ok-reader.ensures {u = tt}).edit in
     IsRun-trans _ _ _ (IsRun-edit _ _ before) (IsRun-trans _ _ _ (IsRun-same _ _ kept) (IsRun-edit _ _ after))
 
-pub names::read_segment-returns-in_err-read_ordinary_segment-in-OrdinaryName-clause-reads : goal.names::read_segment-returns-in_err-read_ordinary_segment-in-OrdinaryName-clause-reads
-names::read_segment-returns-in_err-read_ordinary_segment-in-OrdinaryName-clause-reads t c = grind (arith, unqualified_names)
+pub names::read_segment-returns-in_err-read-clause-reads : goal.names::read_segment-returns-in_err-read-clause-reads
+names::read_segment-returns-in_err-read-clause-reads t c = grind (arith, unqualified_names)
 
-pub names::read_unqualified_name-returns-in_err-read_source_name-clause-reads : goal.names::read_unqualified_name-returns-in_err-read_source_name-clause-reads
-names::read_unqualified_name-returns-in_err-read_source_name-clause-reads t c = grind (arith, outer_names)
-
-pub names::read_unqualified_name-returns-in_err-read_ordinary_name-clause-reads : goal.names::read_unqualified_name-returns-in_err-read_ordinary_name-clause-reads
-names::read_unqualified_name-returns-in_err-read_ordinary_name-clause-reads t c = grind (arith, outer_names)
+pub names::read_unqualified_name-returns-in_err-read-clause-reads : goal.names::read_unqualified_name-returns-in_err-read-clause-reads
+names::read_unqualified_name-returns-in_err-read-clause-reads t c = grind (arith, outer_names)
 
 pub names::read_unqualified_name-returns-clause-reads : goal.names::read_unqualified_name-returns-clause-reads
 names::read_unqualified_name-returns-clause-reads t c = grind (arith, outer_names)
@@ -854,14 +828,8 @@ names::read_name-returns-in_err-check_width-clause-reads t c = grind (arith, nam
 pub names::read_name-returns-in_err-check_width-2-clause-reads : goal.names::read_name-returns-in_err-check_width-2-clause-reads
 names::read_name-returns-in_err-check_width-2-clause-reads t c = grind (arith, names)
 
-pub args::read_template_arg-returns-in_err-read_argument_pack-in-PackArgument-clause-reads : goal.args::read_template_arg-returns-in_err-read_argument_pack-in-PackArgument-clause-reads
-args::read_template_arg-returns-in_err-read_argument_pack-in-PackArgument-clause-reads t c = grind (arith, arguments)
-
-pub args::read_template_arg-returns-in_err-read_expr_primary-in-PrimaryArgument-clause-reads : goal.args::read_template_arg-returns-in_err-read_expr_primary-in-PrimaryArgument-clause-reads
-args::read_template_arg-returns-in_err-read_expr_primary-in-PrimaryArgument-clause-reads t c = grind (arith, arguments)
-
-pub args::read_template_arg-returns-in_err-read_type-in-TypeArgument-clause-reads : goal.args::read_template_arg-returns-in_err-read_type-in-TypeArgument-clause-reads
-args::read_template_arg-returns-in_err-read_type-in-TypeArgument-clause-reads t c = grind (arith, arguments)
+pub args::read_template_arg-returns-in_err-read-clause-reads : goal.args::read_template_arg-returns-in_err-read-clause-reads
+args::read_template_arg-returns-in_err-read-clause-reads t c = grind (arith, arguments)
 
 pub args::read_template_args-close_arguments-requires-clause-inner : goal.args::read_template_args-close_arguments-requires-clause-inner
 args::read_template_args-close_arguments-requires-clause-inner t c = grind (arith, argument_lists)
@@ -886,3 +854,74 @@ specials::read_special_name-returns-in-ThunkSpecial-clause-reads t c = grind (ar
 
 pub specials::read_special_name-returns-in-UnreadableSpecial-clause-reads : goal.specials::read_special_name-returns-in-UnreadableSpecial-clause-reads
 specials::read_special_name-returns-in-UnreadableSpecial-clause-reads t c = grind (arith, specials)
+
+-- what an edit at the end leaves of the bounds: its only error is that of a failed allocation
+edited_bounds : {least slack : ℕ} (more : ℕ) (result : Result (Unit {0}) Stop) {before mid : spec.ParserState} (after : spec.ParserState) → IsOkUnless result Memory
+    → OnOk result (after ≡ mid) → CostBounds least slack before mid → Bounds least slack more result before after
+edited_bounds {least} {slack} more (Ok u) {before} after memory same cost = subst (λ (s : spec.ParserState). CostBounds least slack before s) (sym same) cost
+edited_bounds more (Err Unreadable) after memory same cost = absurd (cc memory)
+edited_bounds more (Err Memory) after memory same cost = tt
+
+pub expressions::read_conditional-returns-clause-bounds : goal.expressions::read_conditional-returns-clause-bounds
+expressions::read_conditional-returns-clause-bounds t c =
+    let left = ap (λ (s : spec.ParserState). length s.rest) c.skip.ensures.state in
+    let entered = ap (λ (s : spec.ParserState). s.entered) c.skip.ensures.state in
+    let before = ap (λ (s : spec.ParserState). length s.scopes) c.skip.ensures.state in
+    let two = length-drop 2 c.args.reader.now.rest.now in
+    let condition = (c.in_ok-read_operand.ensures {u = tt}).bounds in
+    let first = (c.in_ok-framed_operand.ensures {u = tt}).bounds in
+    let printed = (c.in_ok-print_binary.ensures {u = tt}).state in
+    let printed_left = ap (λ (s : spec.ParserState). length s.rest) printed in
+    let printed_entered = ap (λ (s : spec.ParserState). s.entered) printed in
+    let printed_scopes = ap (λ (s : spec.ParserState). length s.scopes) printed in
+    let second = (c.in_ok-framed_operand-2.ensures {u = tt}).bounds in
+    edited_bounds 0 c.print_binary-2.result _ c.print_binary-2.ensures.memory c.print_binary-2.ensures.state record {
+      taken = omega (arith, left, two, condition.taken, first.taken, printed_left, second.taken);
+      counted = omega (arith, left, entered, two, condition.counted, first.counted, printed_left, printed_entered, second.counted, c.requires.some);
+      scopes_stand = omega (arith, before, condition.scopes_stand, first.scopes_stand, printed_scopes, second.scopes_stand);
+    }
+
+pub types::read_function_type-returns-in_ok-reader-in-PlainFunction-clause-bounds : goal.types::read_function_type-returns-in_ok-reader-in-PlainFunction-clause-bounds
+types::read_function_type-returns-in_ok-reader-in-PlainFunction-clause-bounds t c =
+    let left = ap (λ (s : spec.ParserState). length s.rest) c.skip.ensures.state in
+    let entered = ap (λ (s : spec.ParserState). s.entered) c.skip.ensures.state in
+    let before = ap (λ (s : spec.ParserState). length s.scopes) c.skip.ensures.state in
+    let one = length-drop 1 c.args.reader.now.rest.now in
+    let first = (c.in_ok-read_type-in-PlainFunction.ensures {u = tt}).bounds in
+    let params = (c.in_ok-read_params-in-PlainFunction.ensures {u = tt}).bounds in
+    let opened : scopes c.open_function.new.buf ≡ scopes c.read_type.new.reader.buffer.value =
+    cc ((c.in_ok-list-in-PlainFunction.ensures {u = tt}).edit.lists.scopes_same, c.deref_mut.ensures.value) in
+    let closed : scopes c.close_function.new.buf ≡ scopes c.read_params.new.reader.buffer.value =
+    cc ((c.in_ok-reader-in-PlainFunction.ensures {u = tt}).edit.lists.scopes_same, c.deref_mut-in-PlainFunction.ensures.value) in
+    let end_left = ap (λ (s : spec.ParserState). length s.rest) c.skip-in-PlainFunction.ensures.state in
+    let end_entered = ap (λ (s : spec.ParserState). s.entered) c.skip-in-PlainFunction.ensures.state in
+    let end_scopes = ap (λ (s : spec.ParserState). length s.scopes) c.skip-in-PlainFunction.ensures.state in
+    let last = length-drop 1 c.ref_qualifier-reference.result.1.now in
+    let within = c.ref_qualifier-reference.ensures.within in
+    record {
+      taken = omega (arith, left, one, first.taken, params.taken, within, end_left, last, c.requires.some);
+      counted = omega (arith, left, entered, one, first.counted, params.counted, within, end_left, end_entered, last, c.requires.some);
+      scopes_stand = omega (arith, before, first.scopes_stand, ap length opened, params.scopes_stand, ap length closed, end_scopes);
+    }
+
+pub types::read_function_type-returns-in_ok-reader-in-PlainFunction-clause-saved : goal.types::read_function_type-returns-in_ok-reader-in-PlainFunction-clause-saved
+types::read_function_type-returns-in_ok-reader-in-PlainFunction-clause-saved t c =
+    let left = ap (λ (s : spec.ParserState). length s.rest) c.skip.ensures.state in
+    let before = ap (λ (s : spec.ParserState). length s.saved) c.skip.ensures.state in
+    let most = ap (λ (s : spec.ParserState). s.most_saved) c.skip.ensures.state in
+    let one = length-drop 1 c.args.reader.now.rest.now in
+    let first = (c.in_ok-read_type-in-PlainFunction.ensures {u = tt}).saved in
+    let params = (c.in_ok-read_params-in-PlainFunction.ensures {u = tt}).saved in
+    let opened : saved c.open_function.new.buf ≡ saved c.read_type.new.reader.buffer.value =
+    cc ((c.in_ok-list-in-PlainFunction.ensures {u = tt}).edit.lists.saved_same, c.deref_mut.ensures.value) in
+    let closed : saved c.close_function.new.buf ≡ saved c.read_params.new.reader.buffer.value =
+    cc ((c.in_ok-reader-in-PlainFunction.ensures {u = tt}).edit.lists.saved_same, c.deref_mut-in-PlainFunction.ensures.value) in
+    let end_left = ap (λ (s : spec.ParserState). length s.rest) c.skip-in-PlainFunction.ensures.state in
+    let end_saved = ap (λ (s : spec.ParserState). length s.saved) c.skip-in-PlainFunction.ensures.state in
+    let end_most = ap (λ (s : spec.ParserState). s.most_saved) c.skip-in-PlainFunction.ensures.state in
+    let last = length-drop 1 c.ref_qualifier-reference.result.1.now in
+    let within = c.ref_qualifier-reference.ensures.within in
+    record {
+      list = omega (arith, left, one, before, first.list, ap length opened, params.list, ap length closed, within, end_left, end_saved, last, c.requires.some);
+      most = omega (arith, left, one, before, most, first.list, first.most, ap length opened, params.list, params.most, ap length closed, end_most, c.requires.some);
+    }
