@@ -7,7 +7,7 @@ use Rattle.itanium_syntax.specs.Bytes.{begins}
 use Rattle.cosvigle.specs.declared.options.Flags.{Flags}
 use Rattle.cosvigle.specs.declared.options.EarlyExit.TheVariants as instead
 use Rattle.cosvigle.specs.declared.options.OptionState.{OptionState}
-use Rattle.cosvigle.specs.declared.options.OptionState.TheVariants.{Go, Value, Stop as Stopping}
+use Rattle.cosvigle.specs.declared.options.OptionState.TheVariants.{Ready, NeedsValue, Exit}
 use Rattle.cosvigle.specs.declared.option_names.Found.{Found}
 use Rattle.cosvigle.specs.Options.{after_letter, after_format, letters, with_value, after_valued, name_len, find_option, after_found, after_name}
 
@@ -44,34 +44,34 @@ begins_short (c ∷ front) (b ∷ bytes) short =
     begins_cons (b == c) (begins front bytes) (begins_short front bytes (omega (arith, short)))
 
 -- the value after a letter
-letters_some : (next : Flags) (bytes : List ℕ) → 0 < length bytes → letters (Value next) bytes ≡ after_format next bytes
+letters_some : (next : Flags) (bytes : List ℕ) → 0 < length bytes → letters (NeedsValue next) bytes ≡ after_format next bytes
 letters_some next [] some = absurd (omega (arith, some))
 letters_some next (b ∷ bytes) some = refl
 
-pub letters_value : (flags next : Flags) (argument : List ℕ) (at : ℕ) → at + 1 < length argument → after_letter flags (get_or argument at 0) ≡ Value next
-    → letters (Go flags) (drop at argument) ≡ after_format next (drop (at + 1) argument)
+pub letters_value : (flags next : Flags) (argument : List ℕ) (at : ℕ) → at + 1 < length argument → after_letter flags (get_or argument at 0) ≡ NeedsValue next
+    → letters (Ready flags) (drop at argument) ≡ after_format next (drop (at + 1) argument)
 letters_value flags next argument at inside is =
     let more : 0 < length (drop (suc at) argument) = omega (arith, inside, length-drop (suc at) argument) in
     let place : suc at ≡ at + 1 = omega arith in
-    ap (letters (Go flags)) (drop-cons argument at 0 (omega (arith, inside)))
+    ap (letters (Ready flags)) (drop-cons argument at 0 (omega (arith, inside)))
     ∙ ap (λ s. letters s (drop (suc at) argument)) is
     ∙ letters_some next (drop (suc at) argument) more
     ∙ ap (λ n. after_format next (drop n argument)) place
 
 -- the value after a name
-pub valued_value : (flags next : Flags) (letter len : ℕ) (bytes : List ℕ) → len ≢ length bytes → after_letter flags letter ≡ Value next
+pub valued_value : (flags next : Flags) (letter len : ℕ) (bytes : List ℕ) → len ≢ length bytes → after_letter flags letter ≡ NeedsValue next
     → after_valued flags letter len bytes ≡ after_format next (drop (len + 1) bytes)
 valued_value flags next letter len bytes more is =
     ap (λ t. if t then after_letter flags letter else with_value (after_letter flags letter) (drop (len + 1) bytes)) (ne_eqb len (length bytes) more)
     ∙ ap (λ s. with_value s (drop (len + 1) bytes)) is
 
-no_value : (state : OptionState) (value : List ℕ) → ((next : Flags) → state ≡ Value next → ⊥) → with_value state value ≡ Stopping instead.UnexpectedValue
-no_value (Go flags) value none = refl
-no_value (Value flags) value none = absurd (none flags refl)
-no_value (Stopping by) value none = refl
+no_value : (state : OptionState) (value : List ℕ) → ((next : Flags) → state ≡ NeedsValue next → ⊥) → with_value state value ≡ Exit instead.UnexpectedValue
+no_value (Ready flags) value none = refl
+no_value (NeedsValue flags) value none = absurd (none flags refl)
+no_value (Exit by) value none = refl
 
-pub valued_none : (flags : Flags) (letter len : ℕ) (bytes : List ℕ) → len ≢ length bytes → ((next : Flags) → after_letter flags letter ≡ Value next → ⊥)
-    → after_valued flags letter len bytes ≡ Stopping instead.UnexpectedValue
+pub valued_none : (flags : Flags) (letter len : ℕ) (bytes : List ℕ) → len ≢ length bytes → ((next : Flags) → after_letter flags letter ≡ NeedsValue next → ⊥)
+    → after_valued flags letter len bytes ≡ Exit instead.UnexpectedValue
 valued_none flags letter len bytes more none =
     ap (λ t. if t then after_letter flags letter else with_value (after_letter flags letter) (drop (len + 1) bytes)) (ne_eqb len (length bytes) more)
     ∙ no_value (after_letter flags letter) (drop (len + 1) bytes) none

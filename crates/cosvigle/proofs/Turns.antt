@@ -6,7 +6,7 @@ use Rattle.std.specs.Borrow.{Bor}
 use Rattle.cosvigle.specs.declared.options.Flags.{Flags}
 use Rattle.cosvigle.specs.declared.options.EarlyExit.{EarlyExit}
 use Rattle.cosvigle.specs.declared.options.OptionState.{OptionState}
-use Rattle.cosvigle.specs.declared.options.OptionState.TheVariants.{Go, Value, Stop as Stopping}
+use Rattle.cosvigle.specs.declared.options.OptionState.TheVariants.{Ready, NeedsValue, Exit}
 use Rattle.cosvigle.specs.declared.options.Kind.{Kind}
 use Rattle.cosvigle.specs.Options.{State, reading, ended, stopped, of_kind, next, read, texts, after_format, kind_of}
 
@@ -26,7 +26,7 @@ turned arguments at none all state inside so_far =
 
 -- it is a value
 pub value_turn : (arguments : List (Bor (List ℕ))) (at : ℕ) (none : Bor (List ℕ)) (all : State) (state result : OptionState) (flags : Flags) (symbols : List (List ℕ)) (last : List ℕ)
-    → at < length arguments → state ≡ Value flags → result ≡ after_format flags (get_or arguments at none).now
+    → at < length arguments → state ≡ NeedsValue flags → result ≡ after_format flags (get_or arguments at none).now
     → all ≡ read (reading state symbols last) (drop at (texts arguments))
     → all ≡ read (reading result symbols (get_or arguments at none).now) (drop (at + 1) (texts arguments))
 value_turn arguments at none all state result flags symbols last inside is result_is so_far =
@@ -36,11 +36,11 @@ value_turn arguments at none all state result flags symbols last inside is resul
     ∙ ap (λ s. read (reading s symbols argument) (drop (at + 1) (texts arguments))) (sym result_is)
 
 -- it is none
-pub go_turn : (arguments : List (Bor (List ℕ))) (at : ℕ) (none : Bor (List ℕ)) (all : State) (state : OptionState) (flags : Flags) (symbols : List (List ℕ)) (last : List ℕ) (kind : Kind)
-    → at < length arguments → state ≡ Go flags → kind_of (get_or arguments at none).now ≡ kind
+pub ready_turn : (arguments : List (Bor (List ℕ))) (at : ℕ) (none : Bor (List ℕ)) (all : State) (state : OptionState) (flags : Flags) (symbols : List (List ℕ)) (last : List ℕ) (kind : Kind)
+    → at < length arguments → state ≡ Ready flags → kind_of (get_or arguments at none).now ≡ kind
     → all ≡ read (reading state symbols last) (drop at (texts arguments))
     → all ≡ read (of_kind kind flags symbols last (get_or arguments at none).now) (drop (at + 1) (texts arguments))
-go_turn arguments at none all state flags symbols last kind inside is kind_is so_far =
+ready_turn arguments at none all state flags symbols last kind inside is kind_is so_far =
     let argument : List ℕ = (get_or arguments at none).now in
     turned arguments at none all (reading state symbols last) inside so_far
     ∙ ap (λ s. read (next (reading s symbols last) argument) (drop (at + 1) (texts arguments))) is
@@ -51,9 +51,9 @@ read_stopped : (stop : EarlyExit) (last : List ℕ) (arguments : List (List ℕ)
 read_stopped stop last [] = refl
 read_stopped stop last (argument ∷ arguments) = read_stopped stop last arguments
 
-pub stop_turn : (arguments : List (Bor (List ℕ))) (at : ℕ) (none : Bor (List ℕ)) (all : State) (state : OptionState) (stop : EarlyExit) (symbols : List (List ℕ)) (last : List ℕ)
-    → at < length arguments → state ≡ Stopping stop → all ≡ read (reading state symbols last) (drop at (texts arguments)) → all ≡ stopped stop last
-stop_turn arguments at none all state stop symbols last inside is so_far =
+pub exit_turn : (arguments : List (Bor (List ℕ))) (at : ℕ) (none : Bor (List ℕ)) (all : State) (state : OptionState) (stop : EarlyExit) (symbols : List (List ℕ)) (last : List ℕ)
+    → at < length arguments → state ≡ Exit stop → all ≡ read (reading state symbols last) (drop at (texts arguments)) → all ≡ stopped stop last
+exit_turn arguments at none all state stop symbols last inside is so_far =
     turned arguments at none all (reading state symbols last) inside so_far
     ∙ ap (λ s. read (next (reading s symbols last) (get_or arguments at none).now) (drop (at + 1) (texts arguments))) is
     ∙ read_stopped stop last (drop (at + 1) (texts arguments))

@@ -6,7 +6,7 @@ use Rattle.cosvigle.specs.declared.options.Flags.{Flags}
 use Rattle.cosvigle.specs.declared.options.EarlyExit.{EarlyExit}
 use Rattle.cosvigle.specs.declared.options.EarlyExit.TheVariants as instead
 use Rattle.cosvigle.specs.declared.options.OptionState.{OptionState}
-use Rattle.cosvigle.specs.declared.options.OptionState.TheVariants.{Go, Value, Stop as Stopping}
+use Rattle.cosvigle.specs.declared.options.OptionState.TheVariants.{Ready, NeedsValue, Exit}
 use Rattle.cosvigle.specs.declared.options.Kind.{Kind}
 use Rattle.cosvigle.specs.declared.options.Kind.TheVariants.{End, Name, Letters, Symbol}
 use Rattle.cosvigle.specs.declared.options.Request.{Request}
@@ -39,36 +39,36 @@ with_printing printing flags = record flags { printing = printing }
 -- what a format asks for
 abbrev pub after_format : Flags → List ℕ → OptionState
 after_format flags format =
-    if same (codes "auto") format || same (codes "gnu-v3") format then Go (with_pass_through false flags) else
-    if same (codes "none") format then Go (with_pass_through true flags) else
-    Stopping instead.UnknownFormat
+    if same (codes "auto") format || same (codes "gnu-v3") format then Ready (with_pass_through false flags) else
+    if same (codes "none") format then Ready (with_pass_through true flags) else
+    Exit instead.UnknownFormat
 
 -- what the option with a letter asks for
 abbrev pub after_letter : Flags → ℕ → OptionState
 after_letter flags letter =
-    if is "_" letter then Go (with_strip true flags) else
-    if is "n" letter then Go (with_strip false flags) else
-    if is "l" letter then Go (with_lines true flags) else
-    if is "p" letter then Go (with_printing Names flags) else
-    if is "P" letter then Go (with_printing Signatures flags) else
-    if one_of (codes "irR") letter then Go flags else
-    if is "s" letter then Value flags else
-    if is "t" letter then Stopping instead.TypesAlone else
-    if is "h" letter then Stopping instead.Help else
-    if is "v" letter then Stopping instead.Version else
-    Stopping instead.UnknownOption
+    if is "_" letter then Ready (with_strip true flags) else
+    if is "n" letter then Ready (with_strip false flags) else
+    if is "l" letter then Ready (with_lines true flags) else
+    if is "p" letter then Ready (with_printing Names flags) else
+    if is "P" letter then Ready (with_printing Signatures flags) else
+    if one_of (codes "irR") letter then Ready flags else
+    if is "s" letter then NeedsValue flags else
+    if is "t" letter then Exit instead.TypesAlone else
+    if is "h" letter then Exit instead.Help else
+    if is "v" letter then Exit instead.Version else
+    Exit instead.UnknownOption
 
 -- what letters ask for, after what has been read: what follows one that takes a value is that value
 abbrev pub letters : OptionState → List ℕ → OptionState
-letters (Go flags) [] = Go flags
-letters (Go flags) (b ∷ bytes) = letters (after_letter flags b) bytes
-letters (Value flags) [] = Value flags
-letters (Value flags) (b ∷ bytes) = after_format flags (b ∷ bytes)
-letters (Stopping stop) bytes = Stopping stop
+letters (Ready flags) [] = Ready flags
+letters (Ready flags) (b ∷ bytes) = letters (after_letter flags b) bytes
+letters (NeedsValue flags) [] = NeedsValue flags
+letters (NeedsValue flags) (b ∷ bytes) = after_format flags (b ∷ bytes)
+letters (Exit stop) bytes = Exit stop
 
 -- an argument with `-`, and letters after it
 abbrev pub after_letters : Flags → List ℕ → OptionState
-after_letters flags argument = letters (Go flags) (drop 1 argument)
+after_letters flags argument = letters (Ready flags) (drop 1 argument)
 
 -- one more option whose name begins with the bytes
 abbrev pub with_match : Found → ℕ → Found
@@ -109,9 +109,9 @@ name_len (b ∷ bytes) = if is "=" b then 0 else 1 + name_len bytes
 
 -- what an option asks for that is given a value
 abbrev pub with_value : OptionState → List ℕ → OptionState
-with_value (Value flags) value = after_format flags value
-with_value (Go flags) value = Stopping instead.UnexpectedValue
-with_value (Stopping by) value = Stopping instead.UnexpectedValue
+with_value (NeedsValue flags) value = after_format flags value
+with_value (Ready flags) value = Exit instead.UnexpectedValue
+with_value (Exit by) value = Exit instead.UnexpectedValue
 
 -- what the option with a letter asks for, where so many bytes are its name, and after a `=` the others are its value
 abbrev pub after_valued : Flags → ℕ → ℕ → List ℕ → OptionState
@@ -121,8 +121,8 @@ after_valued flags letter len bytes =
 
 -- what the option found asks for
 abbrev pub after_found : Flags → Found → ℕ → List ℕ → OptionState
-after_found flags Nothing len bytes = Stopping instead.UnknownOption
-after_found flags Several len bytes = Stopping instead.AmbiguousOption
+after_found flags Nothing len bytes = Exit instead.UnknownOption
+after_found flags Several len bytes = Exit instead.AmbiguousOption
 after_found flags (Prefix letter) len bytes = after_valued flags letter len bytes
 after_found flags (Exact letter) len bytes = after_valued flags letter len bytes
 
@@ -157,13 +157,13 @@ abbrev pub of_kind : Kind → Flags → List (List ℕ) → List ℕ → List �
 of_kind End flags symbols last argument = ended flags symbols
 of_kind Name flags symbols last argument = reading (after_name flags (drop 2 argument)) symbols argument
 of_kind Letters flags symbols last argument = reading (after_letters flags argument) symbols argument
-of_kind Symbol flags symbols last argument = reading (Go flags) (symbols ++ argument ∷ []) last
+of_kind Symbol flags symbols last argument = reading (Ready flags) (symbols ++ argument ∷ []) last
 
 -- one argument more
 abbrev pub next : State → List ℕ → State
-next (reading (Go flags) symbols last) argument = of_kind (kind_of argument) flags symbols last argument
-next (reading (Value flags) symbols last) argument = reading (after_format flags argument) symbols argument
-next (reading (Stopping stop) symbols last) argument = stopped stop last
+next (reading (Ready flags) symbols last) argument = of_kind (kind_of argument) flags symbols last argument
+next (reading (NeedsValue flags) symbols last) argument = reading (after_format flags argument) symbols argument
+next (reading (Exit stop) symbols last) argument = stopped stop last
 next (ended flags symbols) argument = ended flags (symbols ++ argument ∷ [])
 next (stopped stop last) argument = stopped stop last
 
@@ -182,17 +182,17 @@ texts arguments = map (λ argument. argument.now) arguments
 
 -- what is asked after these were read
 abbrev pub AsksFor : State → Request → Type 0
-AsksFor (reading (Go flags) symbols last) (Symbols chosen given) = (chosen ≡ flags) × (texts given.items ≡ symbols)
-AsksFor (reading (Value flags) symbols last) (Stopped by argument) = (by ≡ instead.MissingValue) × (argument.now ≡ last)
-AsksFor (reading (Stopping stop) symbols last) (Stopped by argument) = (by ≡ stop) × (argument.now ≡ last)
+AsksFor (reading (Ready flags) symbols last) (Symbols chosen given) = (chosen ≡ flags) × (texts given.items ≡ symbols)
+AsksFor (reading (NeedsValue flags) symbols last) (Stopped by argument) = (by ≡ instead.MissingValue) × (argument.now ≡ last)
+AsksFor (reading (Exit stop) symbols last) (Stopped by argument) = (by ≡ stop) × (argument.now ≡ last)
 AsksFor (ended flags symbols) (Symbols chosen given) = (chosen ≡ flags) × (texts given.items ≡ symbols)
 AsksFor (stopped stop last) (Stopped by argument) = (by ≡ stop) × (argument.now ≡ last)
-AsksFor (reading (Go flags) symbols last) (Stopped by argument) = ⊥
-AsksFor (reading (Value flags) symbols last) (Symbols chosen given) = ⊥
-AsksFor (reading (Stopping stop) symbols last) (Symbols chosen given) = ⊥
+AsksFor (reading (Ready flags) symbols last) (Stopped by argument) = ⊥
+AsksFor (reading (NeedsValue flags) symbols last) (Symbols chosen given) = ⊥
+AsksFor (reading (Exit stop) symbols last) (Symbols chosen given) = ⊥
 AsksFor (ended flags symbols) (Stopped by argument) = ⊥
 AsksFor (stopped stop last) (Symbols chosen given) = ⊥
 
 -- all arguments, and what they ask
 abbrev pub IsRequest : List (List ℕ) → Request → Type 0
-IsRequest arguments request = AsksFor (read (reading (Go no_flags) [] []) arguments) request
+IsRequest arguments request = AsksFor (read (reading (Ready no_flags) [] []) arguments) request

@@ -112,7 +112,7 @@ pub fn file_name(argument: &[u8]) -> Option<&[u8]>
 }
 
 /// Returns whether no byte is a NUL.
-pub fn is_text(bytes: &[u8]) -> bool
+pub fn has_no_nul(bytes: &[u8]) -> bool
     ensures { IsTrue result ↔ EachIndex bytes.now (λ k. slice_index bytes.now k ≢ 0) }
 {
     bytes.iter().all(|byte| *byte != 0)

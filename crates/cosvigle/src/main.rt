@@ -20,7 +20,7 @@ mod options;
 mod output;
 
 use arguments::{Printed, answer_of, set_line};
-use files::{file_name, is_text, words_in};
+use files::{file_name, has_no_nul, words_in};
 use help::{HELP, VERSION};
 use itanium_demangle::Demangler;
 use options::{EarlyExit, Flags, Request, read_arguments};
@@ -228,7 +228,7 @@ fn file_words(rt: &HostRuntime, argument: &[u8]) -> Result<Option<Vec<Vec<u8>>>,
         return Ok(None);
     };
     match fs::read(rt, name) {
-        Ok(text) if is_text(&text) => Ok(Some(words_in(rt.alloc(), &text)?)),
+        Ok(text) if has_no_nul(&text) => Ok(Some(words_in(rt.alloc(), &text)?)),
         Err(error) if error.kind() == ErrorKind::OutOfMemory => Err(AllocError),
         _ => Ok(None),
     }

@@ -45,11 +45,11 @@ pub enum EarlyExit {
 #[derive(Clone, Copy)]
 pub enum OptionState {
     /// The options choose these flags.
-    Go(Flags),
+    Ready(Flags),
     /// The options choose these flags, and the next argument is the format.
-    Value(Flags),
+    NeedsValue(Flags),
     /// No further option is read.
-    Stop(EarlyExit),
+    Exit(EarlyExit),
 }
 
 /// What the arguments ask.
@@ -66,19 +66,21 @@ fn after_format(flags: Flags, format: &[u8]) -> OptionState
     ensures value { result ≡ spec.after_format flags format.now }
 {
     match format {
-        [b'a', b'u', b't', b'o'] | [b'g', b'n', b'u', b'-', b'v', b'3'] => OptionState::Go(Flags {
-            strip: flags.strip,
-            lines: flags.lines,
-            pass_through: false,
-            printing: flags.printing,
-        }),
-        [b'n', b'o', b'n', b'e'] => OptionState::Go(Flags {
+        [b'a', b'u', b't', b'o'] | [b'g', b'n', b'u', b'-', b'v', b'3'] => OptionState::Ready(
+            Flags {
+                strip: flags.strip,
+                lines: flags.lines,
+                pass_through: false,
+                printing: flags.printing,
+            },
+        ),
+        [b'n', b'o', b'n', b'e'] => OptionState::Ready(Flags {
             strip: flags.strip,
             lines: flags.lines,
             pass_through: true,
             printing: flags.printing,
         }),
-        _ => OptionState::Stop(EarlyExit::UnknownFormat),
+        _ => OptionState::Exit(EarlyExit::UnknownFormat),
     }
 }
 
@@ -87,42 +89,42 @@ fn after_letter(flags: Flags, letter: u8) -> OptionState
     ensures value { result ≡ spec.after_letter flags letter }
 {
     match letter {
-        b'_' => OptionState::Go(Flags {
+        b'_' => OptionState::Ready(Flags {
             strip: true,
             lines: flags.lines,
             pass_through: flags.pass_through,
             printing: flags.printing,
         }),
-        b'n' => OptionState::Go(Flags {
+        b'n' => OptionState::Ready(Flags {
             strip: false,
             lines: flags.lines,
             pass_through: flags.pass_through,
             printing: flags.printing,
         }),
-        b'l' => OptionState::Go(Flags {
+        b'l' => OptionState::Ready(Flags {
             strip: flags.strip,
             lines: true,
             pass_through: flags.pass_through,
             printing: flags.printing,
         }),
-        b'p' => OptionState::Go(Flags {
+        b'p' => OptionState::Ready(Flags {
             strip: flags.strip,
             lines: flags.lines,
             pass_through: flags.pass_through,
             printing: Printing::Names,
         }),
-        b'P' => OptionState::Go(Flags {
+        b'P' => OptionState::Ready(Flags {
             strip: flags.strip,
             lines: flags.lines,
             pass_through: flags.pass_through,
             printing: Printing::Signatures,
         }),
-        b'i' | b'r' | b'R' => OptionState::Go(flags),
-        b's' => OptionState::Value(flags),
-        b't' => OptionState::Stop(EarlyExit::TypesAlone),
-        b'h' => OptionState::Stop(EarlyExit::Help),
-        b'v' => OptionState::Stop(EarlyExit::Version),
-        _ => OptionState::Stop(EarlyExit::UnknownOption),
+        b'i' | b'r' | b'R' => OptionState::Ready(flags),
+        b's' => OptionState::NeedsValue(flags),
+        b't' => OptionState::Exit(EarlyExit::TypesAlone),
+        b'h' => OptionState::Exit(EarlyExit::Help),
+        b'v' => OptionState::Exit(EarlyExit::Version),
+        _ => OptionState::Exit(EarlyExit::UnknownOption),
     }
 }
 
@@ -134,14 +136,14 @@ fn after_letters(flags: Flags, argument: &[u8]) -> OptionState
     let mut flags = flags;
     for at in 1..argument.len() {
         match after_letter(flags, argument[at]) {
-            OptionState::Go(next) => flags = next,
-            OptionState::Value(next) if at + 1 < argument.len() => {
+            OptionState::Ready(next) => flags = next,
+            OptionState::NeedsValue(next) if at + 1 < argument.len() => {
                 return after_format(next, &argument[at + 1..]);
             }
             state => return state,
         }
     }
-    OptionState::Go(flags)
+    OptionState::Ready(flags)
 }
 
 /// Returns how many bytes are in front of the first `=`, or the number of all bytes if there is no `=`.
@@ -168,8 +170,8 @@ fn after_valued(flags: Flags, letter: u8, len: usize, bytes: &[u8]) -> OptionSta
         return state;
     }
     match state {
-        OptionState::Value(next) => after_format(next, &bytes[len + 1..]),
-        _ => OptionState::Stop(EarlyExit::UnexpectedValue),
+        OptionState::NeedsValue(next) => after_format(next, &bytes[len + 1..]),
+        _ => OptionState::Exit(EarlyExit::UnexpectedValue),
     }
 }
 
@@ -182,8 +184,8 @@ fn after_name(flags: Flags, bytes: &[u8]) -> OptionState
     match find_option(&bytes[..len]) {
         Found::Exact(letter) => after_valued(flags, letter, len, bytes),
         Found::Prefix(letter) => after_valued(flags, letter, len, bytes),
-        Found::Several => OptionState::Stop(EarlyExit::AmbiguousOption),
-        Found::Nothing => OptionState::Stop(EarlyExit::UnknownOption),
+        Found::Several => OptionState::Exit(EarlyExit::AmbiguousOption),
+        Found::Nothing => OptionState::Exit(EarlyExit::UnknownOption),
     }
 }
 
@@ -218,9 +220,9 @@ fn request_at_end<'a>(state: OptionState, symbols: Vec<&'a [u8]>, last: &'a [u8]
     ensures request { AsksFor (reading state (texts symbols.entry.items) last.now) result }
 {
     match state {
-        OptionState::Go(flags) => Request::Symbols(flags, symbols),
-        OptionState::Value(_) => Request::Stopped(EarlyExit::MissingValue, last),
-        OptionState::Stop(stop) => Request::Stopped(stop, last),
+        OptionState::Ready(flags) => Request::Symbols(flags, symbols),
+        OptionState::NeedsValue(_) => Request::Stopped(EarlyExit::MissingValue, last),
+        OptionState::Exit(stop) => Request::Stopped(stop, last),
     }
 }
 
@@ -228,7 +230,7 @@ fn request_at_end<'a>(state: OptionState, symbols: Vec<&'a [u8]>, last: &'a [u8]
 pub fn read_arguments<'a>(alloc: Global, arguments: &[&'a [u8]]) -> Result<Request<'a>, AllocError>
     ensures request { IfOk result (IsRequest (texts arguments.now)) }
 {
-    let mut state = OptionState::Go(Flags {
+    let mut state = OptionState::Ready(Flags {
         strip: false,
         lines: false,
         pass_through: false,
@@ -240,13 +242,13 @@ pub fn read_arguments<'a>(alloc: Global, arguments: &[&'a [u8]]) -> Result<Reque
     for at in 0..arguments.len() {
         let argument = arguments[at];
         let flags = match state {
-            OptionState::Go(flags) => flags,
-            OptionState::Value(flags) => {
+            OptionState::Ready(flags) => flags,
+            OptionState::NeedsValue(flags) => {
                 state = after_format(flags, argument);
                 last = argument;
                 continue;
             }
-            OptionState::Stop(stop) => return Ok(Request::Stopped(stop, last)),
+            OptionState::Exit(stop) => return Ok(Request::Stopped(stop, last)),
         };
         match kind_of(argument) {
             Kind::End => {

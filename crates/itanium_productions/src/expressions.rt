@@ -73,7 +73,7 @@ pub(crate) fn read_pre(reader: &mut Reader, depth: usize, context: Context) -> R
     reader.skip(3);
     let front = reader.buffer.push(operator)?;
     framed_expression(reader, depth, context)?;
-    reader.print_worded(front, b"")
+    reader.join_words(front, b"")
 }
 
 /// Reads `ad <expression>` for an external name, and prints `&` in front of it.
@@ -109,7 +109,7 @@ pub(crate) fn read_unary(reader: &mut Reader, depth: usize, context: Context) ->
     reader.skip(2);
     let front = reader.buffer.push(operator)?;
     framed_operand(reader, depth, context)?;
-    reader.print_worded(front, b"")
+    reader.join_words(front, b"")
 }
 
 /// Reads `pp <expression>` or `mm <expression>`, a postfix increment or decrement.

@@ -31,7 +31,7 @@ pub(crate) fn read_type_special(reader: &mut Reader, depth: usize, context: Cont
     reader.skip(2);
     let begun = reader.buffer.push(words)?;
     framed_type(reader, depth, context)?;
-    reader.print_worded(begun, close)
+    reader.join_words(begun, close)
 }
 
 /// Reads `TH <name>`, `TW <name>` or `GV <name>`.
@@ -50,7 +50,7 @@ pub(crate) fn read_name_special(reader: &mut Reader, depth: usize, context: Cont
     reader.skip(2);
     let begun = reader.buffer.push(words)?;
     framed_name(reader, depth, context, false)?;
-    reader.print_worded(begun, close)
+    reader.join_words(begun, close)
 }
 
 /// Reads `GR <name> [<seq-id>] _`, a reference temporary.
@@ -118,7 +118,7 @@ pub(crate) fn read_thunk(
     let mark = reader.buffer.open();
     read_encoding(reader, depth, context, end.for_thunk())?;
     reader.close_found(mark)?;
-    reader.print_worded(begun, b")}")?;
+    reader.join_words(begun, b")}")?;
     reader.check_width()
 }
 

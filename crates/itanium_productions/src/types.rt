@@ -175,7 +175,7 @@ pub(crate) fn read_elaborated(reader: &mut Reader, depth: usize, context: Contex
     let word = reader.buffer.push(elaborated_text(reader.rest))?;
     reader.skip(2);
     framed_name(reader, depth, context, false)?;
-    reader.print_worded(word, b"")?;
+    reader.join_words(word, b"")?;
     reader.save_found()
 }
 

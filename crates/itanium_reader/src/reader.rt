@@ -392,7 +392,7 @@ impl<'a> Reader<'a> {
         requires opened { opens ≡ true → 0 < n }
         ensures state { OnOk result (state self.new ≡ spec.add_argument opens n
             (shape self.old.buffer.value self.old.found) (state self.old)) }
-        ensures stand { OnOk result (length (scopes self.new.buffer.value) ≡ n) }
+        ensures scopes_left { OnOk result (length (scopes self.new.buffer.value) ≡ n) }
         ensures output { OnOk result (main_bytes self.new.buffer.value ≡ main_bytes self.old.buffer.value) }
         ensures found { OnOk result (self.new.found ≡ self.old.found) }
         ensures kept { OnOk result (SameFrame self.old.buffer.value self.new.buffer.value) }

@@ -62,7 +62,7 @@ impl<'a> Reader<'a> {
     /// Makes one piece of the words, the text of `found`, and the bytes of `close`. The text of `found` must follow
     /// the words in the output and end it.
     #[inline(always)]
-    pub fn print_worded(&mut self, words: Piece, close: &[u8]) -> ReadResult
+    pub fn join_words(&mut self, words: Piece, close: &[u8]) -> ReadResult
         requires words { IsLiving self.old.buffer.value words }
         requires plain { shape self.old.buffer.value words ≡ plain_shape (text (shape self.old.buffer.value words)) }
         requires inner { IsInner self.old.buffer.value words }

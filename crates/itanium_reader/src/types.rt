@@ -39,7 +39,7 @@ impl<'a> Reader<'a> {
             (shape self.old.buffer.value class) (shape self.old.buffer.value self.old.found) (state self.old)) }
         ensures run { OnOk result (IsRun self.old.buffer.value self.new.buffer.value) }
         ensures bounds { MayTakeNone 1 result (state self.old) (state self.new) }
-        ensures one { SavesOne result (state self.old) (state self.new) }
+        ensures saves_one { SavesOne result (state self.old) (state self.new) }
     {
         let Some(whole) = wrap_member_pointer(&mut self.buffer, class, self.found)? else {
             return Err(Stop::Unreadable);

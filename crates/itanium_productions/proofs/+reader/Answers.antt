@@ -434,18 +434,18 @@ specials::read_thunk-returns-clause-reads t c =
     let since = IsSince-run _ _ _ _ (IsSince-opens _ _ _ opens) (c.in_ok-read_encoding.ensures {u = tt}).run in
     let kept : SameFrame opened.buffer.value symbol.buffer.value = SameFrame-closed _ _ _ _ since (c.in_ok-close_found.ensures {u = tt}).closed in
     let words = kept.pieces opened.found (c.in_ok-open_thunk.ensures {u = tt}).reads.0 in
-    let built = c.in_ok-print_worded.ensures.shape.shape_is
+    let built = c.in_ok-join_words.ensures.shape.shape_is
     ∙ ap (λ (s : Shape). worded_shape (text s) (shape symbol.buffer.value symbol.found) (codes ")}")) words.shape_is in
     checked c.check_width.result _ c.check_width.ensures.fits (search rules)
     (λ narrow. thunk_read c.args.depth c.args.end c.args.context (state c.args.reader.now) {front = shape opened.buffer.value opened.found} {t = shape symbol.buffer.value symbol.found}
-    {mid = state opened} {after = state c.print_worded.new.self}
+    {mid = state opened} {after = state c.join_words.new.self}
     (search rules) (search rules) (search (rules, buffers)) built narrow)
     (λ wide. thunk_wide c.args.depth c.args.end c.args.context (state c.args.reader.now) {front = shape opened.buffer.value opened.found} {t = shape symbol.buffer.value symbol.found}
     {mid = state opened} {after = state symbol}
     (search rules) (search rules) (search (rules, buffers)) built wide)
 
-pub specials::read_thunk-print_worded-requires-clause-after : goal.specials::read_thunk-print_worded-requires-clause-after
-specials::read_thunk-print_worded-requires-clause-after t c =
+pub specials::read_thunk-join_words-requires-clause-after : goal.specials::read_thunk-join_words-requires-clause-after
+specials::read_thunk-join_words-requires-clause-after t c =
     let opened = c.open_thunk.new.self in
     let symbol = c.close_found.new.self in
     let output : main_bytes symbol.buffer.value ≡ main_bytes opened.buffer.value ++ text (shape symbol.buffer.value symbol.found) = search (rules, runs) in
@@ -461,17 +461,17 @@ specials::read_thunk-returns-clause-run t c =
     let since = IsSince-run _ _ _ _ (IsSince-opens _ _ _ opens) (c.in_ok-read_encoding.ensures {u = tt}).run in
     let kept : SameFrame opened.buffer.value symbol.buffer.value = SameFrame-closed _ _ _ _ since (c.in_ok-close_found.ensures {u = tt}).closed in
     let first : IsRun c.args.reader.now.buffer.value opened.buffer.value = search rules in
-    in_any_case c.check_width.result (IsRun-trans _ _ _ first (IsRun-trans _ _ _ (IsRun-same _ _ kept) c.in_ok-print_worded.ensures.run))
+    in_any_case c.check_width.result (IsRun-trans _ _ _ first (IsRun-trans _ _ _ (IsRun-same _ _ kept) c.in_ok-join_words.ensures.run))
 
 -- an operator, and what was read right after it
-pub expressions::read_pre-print_worded-requires-clause-after : goal.expressions::read_pre-print_worded-requires-clause-after
-expressions::read_pre-print_worded-requires-clause-after t c =
+pub expressions::read_pre-join_words-requires-clause-after : goal.expressions::read_pre-join_words-requires-clause-after
+expressions::read_pre-join_words-requires-clause-after t c =
     let front = c.in_ok-front.ensures {u = tt} in
     text_after-follows c.push.new.self c.framed_expression.new.reader.buffer.value c.in_ok-front.front _ front.shape.living
     (IsLast-push _ _ _ front.kept front.mark front.stands) (c.in_ok-framed_expression.ensures {u = tt}).output
 
-pub expressions::read_unary-print_worded-requires-clause-after : goal.expressions::read_unary-print_worded-requires-clause-after
-expressions::read_unary-print_worded-requires-clause-after t c =
+pub expressions::read_unary-join_words-requires-clause-after : goal.expressions::read_unary-join_words-requires-clause-after
+expressions::read_unary-join_words-requires-clause-after t c =
     let front = c.in_ok-front.ensures {u = tt} in
     text_after-follows c.push.new.self c.framed_operand.new.reader.buffer.value c.in_ok-front.front _ front.shape.living
     (IsLast-push _ _ _ front.kept front.mark front.stands) (c.in_ok-framed_operand.ensures {u = tt}).output
@@ -574,8 +574,8 @@ types::framed_type-returns-clause-kept t c = grind (arith, common_steps)
 pub types::read_cv-returns-in-CvFunction-clause-reads : goal.types::read_cv-returns-in-CvFunction-clause-reads
 types::read_cv-returns-in-CvFunction-clause-reads t c = grind (arith, buffers)
 
-pub types::read_elaborated-print_worded-requires-clause-after : goal.types::read_elaborated-print_worded-requires-clause-after
-types::read_elaborated-print_worded-requires-clause-after t c =
+pub types::read_elaborated-join_words-requires-clause-after : goal.types::read_elaborated-join_words-requires-clause-after
+types::read_elaborated-join_words-requires-clause-after t c =
     let front = c.in_ok-word.ensures {u = tt} in
     let named = c.framed_name.new.reader in
     text_after-follows c.push.new.self named.buffer.value c.in_ok-word.word _ front.shape.living
@@ -750,8 +750,8 @@ expressions::read_expression-returns-clause-reads t c =
 pub expressions::read_post-returns-clause-run : goal.expressions::read_post-returns-clause-run
 expressions::read_post-returns-clause-run t c = grind (arith, buffers)
 
-pub specials::read_name_special-print_worded-requires-clause-after : goal.specials::read_name_special-print_worded-requires-clause-after
-specials::read_name_special-print_worded-requires-clause-after t c =
+pub specials::read_name_special-join_words-requires-clause-after : goal.specials::read_name_special-join_words-requires-clause-after
+specials::read_name_special-join_words-requires-clause-after t c =
     let front = c.in_ok-begun.ensures {u = tt} in
     text_after-follows c.push.new.self c.framed_name.new.reader.buffer.value c.in_ok-begun.begun _ front.shape.living
     (IsLast-push _ _ _ front.kept front.mark front.stands) (c.in_ok-framed_name.ensures {u = tt}).output
@@ -765,8 +765,8 @@ specials::read_thunk-returns-in_err-open_thunk-clause-reads t c = grind (arith, 
 pub specials::read_thunk-returns-in_err-read_encoding-clause-reads : goal.specials::read_thunk-returns-in_err-read_encoding-clause-reads
 specials::read_thunk-returns-in_err-read_encoding-clause-reads t c = grind (arith, thunks)
 
-pub specials::read_type_special-print_worded-requires-clause-after : goal.specials::read_type_special-print_worded-requires-clause-after
-specials::read_type_special-print_worded-requires-clause-after t c =
+pub specials::read_type_special-join_words-requires-clause-after : goal.specials::read_type_special-join_words-requires-clause-after
+specials::read_type_special-join_words-requires-clause-after t c =
     let front = c.in_ok-begun.ensures {u = tt} in
     text_after-follows c.push.new.self c.framed_type.new.reader.buffer.value c.in_ok-begun.begun _ front.shape.living
     (IsLast-push _ _ _ front.kept front.mark front.stands) (c.in_ok-framed_type.ensures {u = tt}).output

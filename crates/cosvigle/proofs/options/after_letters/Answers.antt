@@ -5,14 +5,14 @@ use Rattle.cosvigle.specs.Options.{after_format}
 use Rattle.cosvigle.proofs.Steps.{letters_value}
 use Rattle.cosvigle.proofs.options.after_letters.Goals as goal
 
-pub returns-in-Value : goal.returns-in-Value
-returns-in-Value c =
+pub returns-in-NeedsValue : goal.returns-in-NeedsValue
+returns-in-NeedsValue c =
     let argument = c.args.argument.now in
     let at = c.loop-at.at in
     record {
       value =
-          c.after_format.ensures.value ∙ ap (after_format c.in-Value.next) (take_rest argument (at + 1))
-          ∙ sym (c.loop-at.invariant ∙ letters_value c.loop-at.flags c.in-Value.next argument at (omega arith) (sym c.after_letter.ensures.value ∙ c.in-Value.is));
+          c.after_format.ensures.value ∙ ap (after_format c.in-NeedsValue.next) (take_rest argument (at + 1))
+          ∙ sym (c.loop-at.invariant ∙ letters_value c.loop-at.flags c.in-NeedsValue.next argument at (omega arith) (sym c.after_letter.ensures.value ∙ c.in-NeedsValue.is));
     }
 
 pub returns-in_default : goal.returns-in_default

@@ -5,7 +5,7 @@ use Rattle.demangle_text.specs.Calls.{text_after}
 use Rattle.demangle_text.specs.State.{shape, Lives}
 use Rattle.demangle_text.specs.declared.buffer.Buffer.{Buffer}
 use Rattle.itanium_reader.proofs.Texts.{words_taken}
-use Rattle.itanium_reader.proofs.reader.Reader.print_worded.Goals as goal
+use Rattle.itanium_reader.proofs.reader.Reader.join_words.Goals as goal
 
 pub returns-clause-shape : goal.returns-clause-shape
 returns-clause-shape c =
