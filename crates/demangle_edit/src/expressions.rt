@@ -1,5 +1,5 @@
 //! Edits that make literals and operands of expressions (Itanium C++ ABI 5.1, "Expressions").
-ghost use Rattle.std.specs.Prelude.{◌≡◌, codes, [], false, IfOk, OnOk};
+ghost use Rattle.std.specs.Prelude.{◌≡◌, codes, [], ◌++◌, false, IfOk, OnOk};
 ghost use Rattle.demangle_text.specs.Shape.{text, plain_shape, appended, whole_shape};
 ghost use Rattle.demangle_text.specs.State.{IsLiving, shape, Lives, IsEdit, KeepsAll, main_bytes};
 ghost use Rattle.demangle_text.specs.State.{StaysInPlace, IsUnchangedOrStays, JoinsInPlace, AppendsPiece};
@@ -85,6 +85,21 @@ fn append_value(buf: &mut Buffer, piece: Piece, value: &[u8]) -> Result<Piece, A
     Ok(buf.whole(all))
 }
 
+// Pushes a value with its digits in square brackets, as a plain piece whose base name is the whole text.
+fn push_bracketed(buf: &mut Buffer, value: &[u8]) -> Result<Piece, AllocError>
+    ensures shape { IfOk result (λ p. Lives buf.new p
+        (plain_shape (spec.sign_text value.now ++ codes "[" ++ spec.digits_text value.now ++ codes "]"))) }
+    ensures edit { OnOk result (IsEdit buf.old buf.new) }
+    ensures appends { IfOk result (λ p. AppendsPiece buf.old buf.new p) }
+{
+    let (sign, digits) = sign_and_digits(value);
+    let signed = buf.push(sign)?;
+    let opened = buf.append(signed, b"[")?;
+    let filled = buf.append(opened, digits)?;
+    let closed = buf.append(filled, b"]")?;
+    Ok(buf.whole(closed))
+}
+
 /// Makes the literal of a type with this value. One leading `n` of the value is the minus, and the rest are the
 /// digits, which are printed as they are. The text of the type selects the form:
 ///
@@ -106,28 +121,21 @@ pub fn write_literal(buf: &mut Buffer, ty: Piece, value: &str) -> Result<Option<
 {
     let bytes = value.as_bytes();
     let literal = match literal_form(buf.bytes(ty), bytes) {
-        LiteralForm::Boolean if value == "0" => buf.push(b"false")?,
-        LiteralForm::Boolean if value == "1" => buf.push(b"true")?,
+        LiteralForm::Boolean if value == "0" => buf.push(b"false"),
+        LiteralForm::Boolean if value == "1" => buf.push(b"true"),
         LiteralForm::Boolean => return Ok(None),
-        LiteralForm::Null => buf.push(b"nullptr")?,
+        LiteralForm::Null => buf.push(b"nullptr"),
         LiteralForm::Integer => {
             let empty = buf.push(b"")?;
-            append_value(buf, empty, bytes)?
+            append_value(buf, empty, bytes)
         }
-        LiteralForm::Float => {
-            let (sign, digits) = sign_and_digits(bytes);
-            let signed = buf.push(sign)?;
-            let opened = buf.append(signed, b"[")?;
-            let filled = buf.append(opened, digits)?;
-            let closed = buf.append(filled, b"]")?;
-            buf.whole(closed)
-        }
+        LiteralForm::Float => push_bracketed(buf, bytes),
         LiteralForm::Cast => {
             let cast = parenthesize(buf, ty)?;
-            append_value(buf, cast, bytes)?
+            append_value(buf, cast, bytes)
         }
     };
-    Ok(Some(literal))
+    Ok(Some(literal?))
 }
 
 /// Makes a literal as `write_literal` does, from a piece `paren` whose text is `(`. A literal that prints its type in
