@@ -58,6 +58,23 @@ fn append_offset(buf: &mut Buffer, words: Piece, offset: CallOffset) -> Result<P
     }
 }
 
+/// Pushes the words that a thunk with these offsets has in front of its encoding.
+fn push_thunk_words(buf: &mut Buffer, offsets: ThunkOffsets) -> Result<Piece, AllocError>
+    ensures shape { IfOk result (λ p. Lives buf.new p (plain_shape (spec.thunk_words offsets))) }
+    ensures edit { OnOk result (IsEdit buf.old buf.new) }
+    ensures last { IfOk result (IsLast buf.new) }
+{
+    let begun = buf.push(b"{virtual override thunk(")?;
+    let words = match offsets {
+        ThunkOffsets::Single(offset) => append_offset(buf, begun, offset),
+        ThunkOffsets::Covariant(first, second) => {
+            let one = append_offset(buf, begun, first)?;
+            append_offset(buf, one, second)
+        }
+    };
+    Ok(buf.whole(words?))
+}
+
 impl<'a> Reader<'a> {
     /// Makes one piece of the words, the text of `found`, and the bytes of `close`. The text of `found` must follow
     /// the words in the output and end it.
@@ -98,20 +115,8 @@ impl<'a> Reader<'a> {
             return Err(Stop::Unreadable);
         };
         self.rest = rest;
-        let begun = self.buffer.push(b"{virtual override thunk(")?;
-        match offsets {
-            ThunkOffsets::Single(offset) => {
-                let words = append_offset(&mut self.buffer, begun, offset)?;
-                self.found = self.buffer.whole(words);
-                Ok(())
-            }
-            ThunkOffsets::Covariant(first, second) => {
-                let one = append_offset(&mut self.buffer, begun, first)?;
-                let words = append_offset(&mut self.buffer, one, second)?;
-                self.found = self.buffer.whole(words);
-                Ok(())
-            }
-        }
+        self.found = push_thunk_words(&mut self.buffer, offsets)?;
+        Ok(())
     }
 
     /// Reads the `[<seq-id>] _` of a reference temporary whose name is `found`.
