@@ -1,16 +1,17 @@
 //! Literals, external names and expressions (Itanium C++ ABI 5.1, "Expressions").
 #![tactic(auto, using(itanium_reader::proofs::Rules::buffers))]
 
-ghost use Rattle.std.specs.Prelude.{◌≡◌, ◌<◌, ◌++◌, OnOk, length};
-ghost use Rattle.demangle_text.specs.State.{shape, IsRun, SameFrame, main_bytes};
+ghost use Rattle.std.specs.Prelude.{◌≡◌, ◌<◌, ◌++◌, IfOk, OnOk, length};
+ghost use Rattle.demangle_text.specs.State.{shape, IsEdit, IsLiving, IsRun, Lives, SameFrame, main_bytes};
 ghost use Rattle.demangle_text.specs.Shape.{text};
+ghost use Rattle.itanium_grammar.specs.Tree.{greater_shape};
 ghost use Rattle.itanium_reader.specs.Parser as spec;
 ghost use Rattle.itanium_reader.specs.Outcome.{state, Gives, CountFits, TakesSome, SavedBounds};
 
 use crate::encodings::read_encoding;
 use crate::types::framed_type;
 use demangle_edit::{Glue, address, glue, write_opened_literal};
-use demangle_text::Place;
+use demangle_text::{Buffer, Piece, Place};
 use itanium_reader::{ReadResult, Reader, Stop};
 use itanium_syntax::context::Context;
 use itanium_syntax::encodings::EncodingEnd;
@@ -18,6 +19,7 @@ use itanium_syntax::expressions::{
     ExpressionCase, PrimaryCase, expression_case, expression_text, is_external, literal_value,
     primary_case,
 };
+use std::alloc::AllocError;
 
 /// Reads `<expr-primary> ::= L <type> <value> E | L _Z <encoding> E`.
 #[tactic(auto, using(itanium_reader::proofs::Rules::primaries))]
@@ -150,6 +152,19 @@ pub(crate) fn read_binary(reader: &mut Reader, depth: usize, context: Context) -
     reader.print_binary(left, text)
 }
 
+/// Puts each of two expressions in parentheses, a `>` between them, and the whole in parentheses.
+fn join_greater(buf: &mut Buffer, left: Piece, right: Piece) -> Result<Piece, AllocError>
+    requires left { IsLiving buf.old left }
+    requires right { IsLiving buf.old right }
+    ensures shape { IfOk result (λ p. Lives buf.new p (greater_shape (shape buf.old left) (shape buf.old right))) }
+    ensures edit { OnOk result (IsEdit buf.old buf.new) }
+{
+    let both = buf.join(left, b")>(", right)?;
+    let opened = buf.insert(both, Place::Start, b"((")?;
+    let closed = buf.append(opened, b"))")?;
+    Ok(buf.whole(closed))
+}
+
 /// Reads `gt <expression> <expression>`. Each of the two is printed in parentheses, and so is the whole.
 #[cycle(reader)]
 pub(crate) fn read_greater(reader: &mut Reader, depth: usize, context: Context) -> ReadResult
@@ -165,10 +180,7 @@ pub(crate) fn read_greater(reader: &mut Reader, depth: usize, context: Context) 
     read_expression(reader, depth, context)?;
     let left = reader.found;
     framed_expression(reader, depth, context)?;
-    let both = reader.buffer.join(left, b")>(", reader.found)?;
-    let opened = reader.buffer.insert(both, Place::Start, b"((")?;
-    let closed = reader.buffer.append(opened, b"))")?;
-    reader.found = reader.buffer.whole(closed);
+    reader.found = join_greater(&mut reader.buffer, left, reader.found)?;
     Ok(())
 }
 

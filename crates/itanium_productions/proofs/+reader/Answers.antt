@@ -795,15 +795,6 @@ expressions::read_expr_primary-returns-in_default-literal-clause-reads t c = gri
 pub expressions::read_expr_primary-returns-in-Some-literal-clause-reads : goal.expressions::read_expr_primary-returns-in-Some-literal-clause-reads
 expressions::read_expr_primary-returns-in-Some-literal-clause-reads t c = grind (arith, primaries)
 
-pub expressions::read_greater-returns-clause-reads : goal.expressions::read_greater-returns-clause-reads
-expressions::read_greater-returns-clause-reads t c = grind (arith, common_steps)
-
-pub expressions::read_greater-returns-clause-bounds : goal.expressions::read_greater-returns-clause-bounds
-expressions::read_greater-returns-clause-bounds t c = grind (arith, buffers)
-
-pub expressions::read_greater-returns-clause-saved : goal.expressions::read_greater-returns-clause-saved
-expressions::read_greater-returns-clause-saved t c = grind (arith, buffers)
-
 pub expressions::read_conditional-returns-clause-reads : goal.expressions::read_conditional-returns-clause-reads
 expressions::read_conditional-returns-clause-reads t c = grind (arith, common_steps)
 
