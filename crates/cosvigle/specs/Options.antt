@@ -183,7 +183,8 @@ texts arguments = map (λ argument. argument.now) arguments
 -- what is asked after these were read
 abbrev pub AsksFor : State → Request → Type 0
 AsksFor (reading (Ready flags) symbols last) (Symbols chosen given) = (chosen ≡ flags) × (texts given.items ≡ symbols)
-AsksFor (reading (NeedsValue flags) symbols last) (Stopped by argument) = (by ≡ instead.MissingValue) × (argument.now ≡ last)
+AsksFor (reading (NeedsValue flags) symbols last) (Stopped by argument) =
+    (by ≡ instead.MissingValue) × (argument.now ≡ last)
 AsksFor (reading (Exit stop) symbols last) (Stopped by argument) = (by ≡ stop) × (argument.now ≡ last)
 AsksFor (ended flags symbols) (Symbols chosen given) = (chosen ≡ flags) × (texts given.items ≡ symbols)
 AsksFor (stopped stop last) (Stopped by argument) = (by ≡ stop) × (argument.now ≡ last)
