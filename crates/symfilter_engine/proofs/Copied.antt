@@ -1,7 +1,7 @@
 -- What was read and written, chunk by chunk.
-use Rattle.std.proofs.Common.{◌≡◌, ◌≢◌, ◌↔◌, ◌<◌, ◌≤◌, ℕ, Bool, true, false, Result, Ok, Err, IsTrue, IsErrOf, List, [], ◌++◌, Option, Some, None, IfSome, length, take, drop}
+use Rattle.std.proofs.Common.{◌≡◌, ◌≢◌, ◌↔◌, ◌+◌, ◌-◌, ◌<◌, ◌≤◌, ℕ, Bool, true, false, Result, Ok, Err, IsTrue, IsErrOf, List, [], ◌++◌, Option, Some, None, IfSome, length, take, drop}
 use Rattle.std.proofs.Common.{refl, sym, ap, subst, ◌∙◌, arith, append_assoc, append-nil}
-use Rattle.std.proofs.lemmas.List.{length-take-le, take-append-drop, take-append-le, take-take}
+use Rattle.std.proofs.lemmas.List.{length-take-le, take-append-drop, take-append-le, take-take, take_rest, drop-drop}
 use Rattle.std.proofs.lemmas.List.Elements.{All-nil}
 use Rattle.std.proofs.lemmas.Bool.{false≢true}
 use Rattle.symfilter_engine.specs.declared.fault.FilterFault.{FilterFault}
@@ -13,7 +13,7 @@ use Rattle.symfilter_engine.specs.declared.symbols.Placement.TheVariants.{Lines,
 use Rattle.symfilter_engine.specs.Fault.{IsReadOutcome, IsWriteOutcome, IsRunOutcome}
 use Rattle.std.proofs.KnownBytes.{Consumes-nil, Consumes-trans, Consumes-kept, Keeps-refl}
 use Rattle.std.specs.Prelude.{All, IsErrAnd}
-use Rattle.symfilter_engine.specs.Replaced.{IsWordByte}
+use Rattle.symfilter_engine.specs.Replaced.{IsWordByte, IsKept, may_hold_symbol}
 use Rattle.std.specs.Io.KnownBytes.{Appends, Consumes, IsAtEnd, Keeps}
 use Rattle.symfilter_engine.specs.Filtered.{line_feed, HasNoLineFeed, WritesFiltered, WritesBeginning, FiltersBeginning, FiltersWhole}
 use Rattle.symfilter_engine.specs.Progress.{AreKept, CopiesUpTo, FiltersUpTo, ReplacesUpTo, WritesChunkUpTo, ContinuesTo, ReadsMore, ReplacesBeginning, ReplacesBeginningOfAny, WritesAllButKept, WritesChunkBeginning, WritesSomeOfChunk, FiltersSome, WritesBeginningOfAny}
@@ -337,6 +337,13 @@ pub words_passed : (options : ReplaceOptions) (mid_word after : Bool) (bytes res
 words_passed options mid_word after bytes rest n whole t t' t'' leads outside rest_is writes filtered =
     replaced_on options mid_word false false bytes rest (drop whole rest) t t' t'' (past_first options mid_word after bytes rest n t t' leads outside rest_is writes)
     (front_replaced options false false rest (take whole rest) [] whole t' t'' (words_replaced options (take whole rest) [] t' t'' filtered) refl)
+
+-- the word after them is kept if it may hold a symbol
+pub word_held : (options : ReplaceOptions) (bytes rest : List ℕ) (n whole : ℕ) (may_hold : Bool) → rest ≡ drop n bytes → All IsWordByte (drop whole rest)
+    → may_hold ≡ may_hold_symbol options.strip (take (length rest - whole) (drop whole rest)) → may_hold ≡ true → IsKept options.strip (drop (n + whole) bytes)
+word_held options bytes rest n whole may_hold rest_is all may_hold_is is =
+    subst (IsKept options.strip) (ap (drop whole) rest_is ∙ drop-drop whole n bytes)
+    (record { word = all; may_hold = subst (λ l. may_hold_symbol options.strip l ≡ true) (take_rest rest whole) (sym may_hold_is ∙ is) })
 
 -- a fault came while they were written
 pub words_fault : (options : ReplaceOptions) (mid_word after : Bool) (bytes rest : List ℕ) (n whole : ℕ) (t t' t'' : Option (List ℕ)) → ContinuesTo options mid_word (take n bytes) (take n bytes) after

@@ -3,10 +3,10 @@ use Rattle.std.proofs.lemmas.List.{take_rest, drop-drop}
 use Rattle.std.proofs.Math.Seq.{drop-length}
 use Rattle.std.specs.Prelude.{All}
 use Rattle.std.specs.Io.KnownBytes.{Appends}
-use Rattle.symfilter_engine.specs.Progress.{ReplacesUpTo, WritesChunkUpTo, WritesFrontOfBytes, WritesChunkBeginning, WritesSomeOfChunk}
+use Rattle.symfilter_engine.specs.Progress.{AreKept, ReplacesUpTo, WritesChunkUpTo, WritesFrontOfBytes, WritesChunkBeginning, WritesSomeOfChunk}
 use Rattle.symfilter_engine.specs.Replaced.{IsWordByte, may_hold_symbol}
 use Rattle.symfilter_engine.proofs.FilteredText.{at_fault}
-use Rattle.symfilter_engine.proofs.Copied.{lines_front, lines_some, none_kept, words_before, words_passed, words_fault, words_refused}
+use Rattle.symfilter_engine.proofs.Copied.{lines_front, lines_some, none_kept, word_held, words_before, words_passed, words_fault, words_refused}
 use Rattle.symfilter_engine.proofs.WordTurns.{front_after, front_passed, replaced_on, stay_front, word_front, word_passed}
 use Rattle.symfilter_engine.proofs.chunks.write_chunk.Goals as goal
 
@@ -18,11 +18,18 @@ pub returns-in_err-write_whole-in-Lines-clause-memory : goal.returns-in_err-writ
 returns-in_err-write_whole-in-Lines-clause-memory g c = λ refused.
     lines_some c.args.placement _ c.args.mid_word c.args.bytes.now c.whole_lines_len-ended.result _ _ c.in-Lines.is (c.in_err-write_whole-in-Lines.ensures.memory (search rules))
 
+pub returns-in_ok-write_whole-in-Lines-clause-bound : goal.returns-in_ok-write_whole-in-Lines-clause-bound
+returns-in_ok-write_whole-in-Lines-clause-bound g c = search rules
+
 pub returns-in_err-write_all-in-Words-clause-err : goal.returns-in_err-write_all-in-Words-clause-err
 returns-in_err-write_all-in-Words-clause-err g c =
     let first = c.rest_of_word-first in
     at_fault _ (subst (λ s. WritesChunkBeginning s c.args.mid_word c.args.bytes.now (g.W.Sink.taken c.args.sink.now) (g.W.Sink.taken c.write_all.new.sink)) (sym c.in-Words.is)
     (stay_front c.in-Words.options c.args.mid_word first.result.1 c.args.bytes.now _ first.result.0 _ _ (first.ensures.leads c.in-Words.options) refl c.in_err-write_all-in-Words.ensures.err))
+
+pub returns-then-goes_on-clause-kept : goal.returns-then-goes_on-clause-kept
+returns-then-goes_on-clause-kept g c =
+    none_kept c.args.placement _ (ap (λ n. drop n c.args.bytes.now) (c.rest_of_word-first.ensures.goes_on c.if-goes_on.true) ∙ drop-length c.args.bytes.now)
 
 pub returns-then-goes_on-clause-ok : goal.returns-then-goes_on-clause-ok
 returns-then-goes_on-clause-ok g c =
@@ -53,6 +60,16 @@ returns-in_err-write_whole-in-Words-clause-memory g c = λ refused.
     subst (λ s. WritesSomeOfChunk s c.args.mid_word bytes (g.W.Sink.taken c.args.sink.now) (g.W.Sink.taken c.write_whole-in-Words.new.sink)) (sym c.in-Words.is)
     (words_refused c.in-Words.options c.args.mid_word first.result.1 bytes rest first.result.0 c.whole_words_len-whole.result _ _ _ (first.ensures.leads c.in-Words.options) c.if-goes_on.false
     (take_rest bytes first.result.0) c.in_ok-write_all-in-Words.ensures.ok (c.in_err-write_whole-in-Words.ensures.memory (search rules)))
+
+pub returns-then-may_hold_symbol-clause-kept : goal.returns-then-may_hold_symbol-clause-kept
+returns-then-may_hold_symbol-clause-kept g c =
+    let n = c.rest_of_word-first.result.0 in
+    let whole = c.whole_words_len-whole in
+    subst (λ s. AreKept s (drop (n + whole.result) c.args.bytes.now)) (sym c.in-Words.is)
+    (word_held c.in-Words.options c.args.bytes.now _ n whole.result _ (take_rest c.args.bytes.now n) whole.ensures.word c.may_hold_symbol.ensures.value (search rules))
+
+pub returns-then-may_hold_symbol-clause-memory : goal.returns-then-may_hold_symbol-clause-memory
+returns-then-may_hold_symbol-clause-memory g c = λ refused. absurd (search rules)
 
 pub returns-then-may_hold_symbol-clause-ok : goal.returns-then-may_hold_symbol-clause-ok
 returns-then-may_hold_symbol-clause-ok g c =
@@ -85,6 +102,12 @@ returns-in_err-write_all-in-Words-2-clause-err g c =
 
 pub returns-in_ok-write_all-in-Words-2-clause-kept : goal.returns-in_ok-write_all-in-Words-2-clause-kept
 returns-in_ok-write_all-in-Words-2-clause-kept g c = none_kept c.args.placement _ (drop-length c.args.bytes.now)
+
+pub returns-in_ok-write_all-in-Words-2-clause-mid_word_keeps_none : goal.returns-in_ok-write_all-in-Words-2-clause-mid_word_keeps_none
+returns-in_ok-write_all-in-Words-2-clause-mid_word_keeps_none g c = λ _. drop-length c.args.bytes.now
+
+pub returns-in_ok-write_all-in-Words-2-clause-memory : goal.returns-in_ok-write_all-in-Words-2-clause-memory
+returns-in_ok-write_all-in-Words-2-clause-memory g c = λ refused. absurd (search rules)
 
 pub returns-in_ok-write_all-in-Words-2-clause-ok : goal.returns-in_ok-write_all-in-Words-2-clause-ok
 returns-in_ok-write_all-in-Words-2-clause-ok g c =
