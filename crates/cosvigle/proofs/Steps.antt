@@ -1,7 +1,7 @@
 -- Steps through the letters and names of options.
-use Rattle.std.proofs.Common.{◌≡◌, ◌≢◌, ℕ, suc, ◌+◌, ◌<◌, ◌≤◌, List, [], ◌∷◌, Bool, true, false, ◌&&◌, ◌==◌, if◌then◌else◌, length, take, drop, get_or, refl, sym, ap, ◌∙◌, arith}
-use Rattle.std.proofs.lemmas.Bool.{ne_eqb, eq-eqb, and_left}
-use Rattle.std.proofs.lemmas.List.{length-drop, drop_all}
+use Rattle.std.proofs.Common.{◌≡◌, ◌≢◌, ℕ, suc, ◌+◌, ◌<◌, List, [], ◌∷◌, Bool, true, false, ◌&&◌, ◌==◌, if◌then◌else◌, length, take, drop, get_or, refl, ap, ◌∙◌, arith}
+use Rattle.std.proofs.lemmas.Bool.{ne_eqb}
+use Rattle.std.proofs.lemmas.List.{length-drop}
 use Rattle.std.proofs.Math.Seq.{drop-cons}
 use Rattle.itanium_syntax.specs.Bytes.{begins}
 use Rattle.cosvigle.specs.declared.options.Flags.{Flags}
@@ -10,27 +10,6 @@ use Rattle.cosvigle.specs.declared.options.OptionState.{OptionState}
 use Rattle.cosvigle.specs.declared.options.OptionState.TheVariants.{Ready, NeedsValue, Exit}
 use Rattle.cosvigle.specs.declared.option_names.Found.{Found}
 use Rattle.cosvigle.specs.Options.{after_letter, after_format, letters, with_value, after_valued, name_len, find_option, after_found, after_name}
-
--- one byte more of a front
-begins_at : (front bytes : List ℕ) (at : ℕ) → at < length front → at < length bytes
-    → begins (drop at front) (drop at bytes) ≡ ((get_or bytes at 0 == get_or front at 0) && begins (drop (suc at) front) (drop (suc at) bytes))
-begins_at front bytes at low high =
-    ap (λ l. begins l (drop at bytes)) (drop-cons front at 0 low) ∙ ap (begins (get_or front at 0 ∷ drop (suc at) front)) (drop-cons bytes at 0 high)
-
-pub begins_on : (front bytes : List ℕ) (at : ℕ) (all : Bool) → at < length front → at < length bytes → all ≡ begins (drop at front) (drop at bytes)
-    → get_or bytes at 0 ≡ get_or front at 0 → all ≡ begins (drop (suc at) front) (drop (suc at) bytes)
-begins_on front bytes at all low high so_far same =
-    so_far ∙ begins_at front bytes at low high
-    ∙ ap (λ t. t && begins (drop (suc at) front) (drop (suc at) bytes)) (eq-eqb (get_or bytes at 0) (get_or front at 0) same)
-
-pub begins_not : (front bytes : List ℕ) (at : ℕ) (all : Bool) → at < length front → at < length bytes → all ≡ begins (drop at front) (drop at bytes)
-    → get_or bytes at 0 ≢ get_or front at 0 → false ≡ all
-begins_not front bytes at all low high so_far differs =
-    sym (so_far ∙ begins_at front bytes at low high
-    ∙ and_left (get_or bytes at 0 == get_or front at 0) (begins (drop (suc at) front) (drop (suc at) bytes)) (ne_eqb (get_or bytes at 0) (get_or front at 0) differs))
-
-pub begins_all : (front bytes : List ℕ) (at : ℕ) (all : Bool) → length front ≤ at → all ≡ begins (drop at front) (drop at bytes) → true ≡ all
-begins_all front bytes at all end so_far = sym (so_far ∙ ap (λ l. begins l (drop at bytes)) (drop_all at front end))
 
 begins_cons : (x y : Bool) → false ≡ y → false ≡ (x && y)
 begins_cons true y none = none

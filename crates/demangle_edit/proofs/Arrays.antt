@@ -1,25 +1,13 @@
 -- Arrays, put together step by step.
-use Rattle.std.proofs.Common.{◌≡◌, ℕ, ◌+◌, ◌-◌, min, Bool, true, false, if◌then◌else◌, Option, Some, None, List, [], ◌++◌, length, take, drop, codes, sym, ap, ◌∙◌, refl, arith, append_assoc, is_some, subst, ◌≤◌}
+use Rattle.std.proofs.Common.{◌≡◌, ℕ, ◌+◌, ◌-◌, min, Bool, true, false, if◌then◌else◌, Option, Some, None, List, [], ◌++◌, length, take, drop, sym, ap, ◌∙◌, refl, arith, append_assoc, is_some}
 use Rattle.std.proofs.lemmas.List.{length-append, length-take, take-append-drop, append-nil}
 use Rattle.demangle_text.specs.declared.pieces.Kind.TheVariants.{Array, Function}
-use Rattle.demangle_text.specs.declared.pieces.Place.TheVariants.{Suffix, End}
+use Rattle.demangle_text.specs.declared.pieces.Place.TheVariants.{Suffix}
 use Rattle.demangle_text.specs.Shape.{Form, Plain, Declared, Shape, form_text, inserted, declared_at, flattened, text_len, moved}
-use Rattle.demangle_text.specs.Calls.{IsPlain, kind_of, group_of, after_of}
+use Rattle.demangle_text.specs.Calls.{kind_of, group_of, after_of}
 use Rattle.demangle_edit.specs.Types.{dimension_text, array_shape, may_be_element}
 use Rattle.demangle_edit.specs.Calls.{array_step}
 use Rattle.demangle_edit.proofs.Cuts.{take_front, drop_front}
-
--- an array of a plain type
-pub first_shape : (elem longer array : Shape) (dimension : Option ℕ) (at : ℕ) → IsPlain elem.form → at ≡ text_len elem
-    → longer ≡ inserted End (codes " " ++ dimension_text dimension) elem → array ≡ declared_at Array at longer → array ≡ array_shape dimension elem
-first_shape elem longer array dimension at flat by_at by_longer by_array =
-    by_array ∙ ap (λ (n : ℕ). declared_at Array n longer) by_at ∙ ap (declared_at Array (text_len elem)) by_longer ∙ plain_array elem.form flat
-  where
-    plain_array : (f : Form) → IsPlain f → declared_at Array (length (form_text f))
-        (inserted End (codes " " ++ dimension_text dimension) (record elem { form = f })) ≡ array_shape dimension
-        (record elem { form = f })
-    plain_array (Plain t) h = refl
-    plain_array (Declared k before group after) h = absurd h
 
 -- an array without group that gets an outer dimension
 module _ (elem flat cut longer whole : Shape) (dimension : Option ℕ) (at len past : ℕ) where
@@ -54,10 +42,6 @@ module _ (elem flat cut longer whole : Shape) (dimension : Option ℕ) (at len p
         ap (λ (v : List ℕ). v ++ dimension_text dimension ++ drop past (before ++ after)) first
         ∙ ap (λ (v : List ℕ). before ++ take 1 after ++ dimension_text dimension ++ v) (drop_front _ _ _ past parts past_is) ∙ simp append_assoc
 
-    fits : at ≤ length ((take past (before ++ after) ++ dimension_text dimension) ++ ([] ++ drop past (before ++ after)))
-    fits =
-        omega (arith, at_is, ap length text_is, length-append before (take 1 after ++ (dimension_text dimension ++ drop 1 after)))
-
     array_is : declared_at Array at (outer (Declared Array before None after)) ≡ array_shape dimension (record elem { form = Declared Array before None after })
     array_is =
         λ j. record {
@@ -67,25 +51,12 @@ module _ (elem flat cut longer whole : Shape) (dimension : Option ℕ) (at len p
           ctor = elem.ctor;
         }
 
-  fits_in : (f : Form) → kind_of f ≡ Some Array → is_some (group_of f) ≡ false → Some at ≡ after_of f → len ≡ length (form_text f)
-      → past ≡ at + min (len - at) 1 → at ≤ text_len (outer f)
-  fits_in (Plain t) k g e l b = cc
-  fits_in (Declared Function before None after) k g e l b = cc
-  fits_in (Declared kind before (Some group) after) k g e l b = cc
-  fits_in (Declared Array before None after) k g e l b = fits before after e l b
-
   array_in : (f : Form) → kind_of f ≡ Some Array → is_some (group_of f) ≡ false → Some at ≡ after_of f → len ≡ length (form_text f)
       → past ≡ at + min (len - at) 1 → declared_at Array at (outer f) ≡ array_shape dimension (record elem { form = f })
   array_in (Plain t) k g e l b = cc
   array_in (Declared Function before None after) k g e l b = cc
   array_in (Declared kind before (Some group) after) k g e l b = cc
   array_in (Declared Array before None after) k g e l b = array_is before after e l b
-
-  pub outer_fits : kind_of elem.form ≡ Some Array → is_some (group_of elem.form) ≡ false → Some at ≡ after_of elem.form → len ≡ text_len elem
-      → past ≡ at + min (len - at) 1 → flat ≡ flattened elem → cut ≡ declared_at Array past flat
-      → longer ≡ inserted Suffix (dimension_text dimension) cut → whole ≡ flattened longer → at ≤ text_len whole
-  outer_fits k g e l b by_flat by_cut by_longer by_whole =
-      subst (λ (s : Shape). at ≤ text_len s) (sym (outer_is by_flat by_cut by_longer by_whole)) (fits_in elem.form k g e l b)
 
   pub outer_shape : (array : Shape) → kind_of elem.form ≡ Some Array → is_some (group_of elem.form) ≡ false → Some at ≡ after_of elem.form → len ≡ text_len elem
       → past ≡ at + min (len - at) 1 → flat ≡ flattened elem → cut ≡ declared_at Array past flat

@@ -107,12 +107,6 @@ pub each_more : (s : Shape) (all : List Shape) (next : Shape)
 each_more s all next =
     each_more_from true s all next ∙ ap (λ (b : Bool). listed_more b (listed_each true s all) next) (at_first all)
 
--- what is listed so far, a comma and the next text is what is listed of all
-pub more_listed : (s : Shape) (all : List Shape) (next : Shape) → IsPlain s.form
-    → listed_more (is_first all) (appended (listed (map text all)) s) next ≡ appended (listed (map text (all ++ next ∷ []))) s
-more_listed s all next flat =
-    ap (λ (l : Shape). listed_more (is_first all) l next) (sym (each_listed s all flat)) ∙ sym (each_more s all next) ∙ each_listed s (all ++ next ∷ []) flat
-
 -- the last byte of a text is that of its end
 pub last_byte : (front t : List ℕ) → 0 < length t → ends_with nat_eq (front ++ t) (codes ">") ≡ ends_with nat_eq t (codes ">")
 last_byte front t some =
@@ -139,12 +133,6 @@ closed_attached name list own templ ctor =
     ap (λ (b : Bool). appended (end_at b) (appended list begun)) test_is
     ∙ appended_twice list end begun ∙ ap (flagged true name.ctor) (appended_twice (gap ++ codes "<") (list ++ end) (flattened name))
     ∙ ap (λ (v : List ℕ). flagged true name.ctor (appended v (flattened name))) (append_assoc gap (codes "<") (list ++ end))
-
--- so is a name with its template arguments, one after another
-pub arguments_built : (name : Shape) (args : List Shape) → arguments_closed (listed_each true (arguments_opened name) args) ≡ attached name (arguments_shape args)
-arguments_built name args =
-    let all = listed (map text args) in
-    ap arguments_closed (each_listed (arguments_opened name) args tt) ∙ closed_attached name all (0, length (60 ∷ all)) false false
 
 -- a list by itself
 pub arguments_alone : (args : List Shape) → whole_shape (arguments_closed (listed_each true (plain_shape (codes "<")) args)) ≡ arguments_shape args

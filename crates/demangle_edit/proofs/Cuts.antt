@@ -1,9 +1,7 @@
 -- Texts that are put together, and then cut where a declarator's parts meet.
-use Rattle.std.proofs.Common.{◌≡◌, ◌≤◌, ℕ, ◌+◌, Bool, true, false, Some, None, List, [], ◌++◌, length, take, drop, map, codes, sym, ap, ◌∙◌, refl, arith, append_assoc, is_some, if◌then◌else◌}
+use Rattle.std.proofs.Common.{◌≡◌, ℕ, ◌+◌, Bool, true, false, Some, None, List, [], ◌++◌, length, take, drop, map, codes, sym, ap, ◌∙◌, refl, arith, append_assoc, is_some, if◌then◌else◌}
 use Rattle.std.proofs.Math.Seq.{take-append_seam, drop-append_seam}
-use Rattle.std.proofs.lemmas.Bool.Decides.{nat_tests}
-use Rattle.std.specs.Prelude.{min, nat_le}
-use Rattle.std.proofs.lemmas.List.{length-append, take_all, drop_all}
+use Rattle.std.proofs.lemmas.List.{length-append}
 use Rattle.demangle_text.specs.declared.pieces.Kind.TheVariants.{Function}
 use Rattle.demangle_text.specs.declared.pieces.Place.TheVariants.{End}
 use Rattle.demangle_text.specs.Shape.{Form, Plain, Declared, Shape, form_text, form_with, text, text_len, plain_shape, appended, declared_at, is_plain}
@@ -93,16 +91,3 @@ function_built ret params quals =
       templ = false;
       ctor = false;
     })
-
--- all of a text is in front of a byte that it doesn't have
-pub declared_within : (front len at : ℕ) (s : Shape) → len ≡ text_len s → at ≡ min (front + 1) len → declared_at Function at s ≡ declared_at Function (front + 1) s
-declared_within front len at s len_is at_is = go (nat_le (front + 1) len) refl
-  where
-    go : (b : Bool) → nat_le (front + 1) len ≡ b → declared_at Function at s ≡ declared_at Function (front + 1) s
-    go true e = let same : at ≡ front + 1 = grind (arith, nat_tests) in ap (λ (n : ℕ). declared_at Function n s) same
-    go false e =
-        let all : length (text s) ≤ at = grind (arith, nat_tests) in
-        let past : length (text s) ≤ front + 1 = grind (arith, nat_tests) in
-        let before_is = take_all at (text s) all ∙ sym (take_all (front + 1) (text s) past) in
-        let after_is = drop_all at (text s) all ∙ sym (drop_all (front + 1) (text s) past) in
-        λ j. record { form = Declared Function (before_is j) None (after_is j); own = (0, length (before_is j ++ ([] ++ after_is j))); templ = s.templ; ctor = s.ctor }

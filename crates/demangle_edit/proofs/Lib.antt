@@ -6,4 +6,3 @@ pub mod Cuts
 pub mod Arrays
 pub mod Members
 mod Digits
-pub mod Literals

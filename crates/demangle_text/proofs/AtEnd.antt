@@ -46,18 +46,6 @@ HasAtEnd-stays output spill mark p ordered h = record {
   in_place = λ _. (refl, refl);
 }
 
--- a copy of one that doesn't
-pub HasAtEnd-copied : (output spill new : List ℕ) (mark : ℕ) (p : Piece) (from : ℕ) → (IsTailAt mark (length output) p → ⊥) → mark ≤ length output
-    → length (piece_text output spill p) ≡ p.to_byte - p.from_byte → from ≡ length output → new ≡ output ++ piece_text output spill p → HasAtEnd output spill mark p new from
-HasAtEnd-copied output spill new mark p from apart inner long starts is = record {
-  begins = omega (arith, starts, long, ap length is, length-append output (piece_text output spill p));
-  text = ap (drop from) is ∙ drop_at output (piece_text output spill p) from (sym starts);
-  inner = omega (arith, inner, starts);
-  front = ap (take from) is ∙ take-append-le from output (piece_text output spill p) (omega (arith, starts));
-  longer = record { more = piece_text output spill p; all = is };
-  in_place = λ h. absurd (apart h);
-}
-
 -- what was added after it goes again
 pub taken-back : (output mid new : List ℕ) (len : ℕ) → len ≡ length output → Extends output mid → new ≡ take len mid → new ≡ output
 taken-back output mid new len long e is = is ∙ ap (take len) e.all ∙ take_at output e.more len (sym long)
@@ -109,19 +97,10 @@ part-longer : (output spill more : List ℕ) (h : Bool) (a b : ℕ) → a ≤ b 
 part-longer output spill more false a b ordered within = part-append output more a b ordered within
 part-longer output spill more true a b ordered within = refl
 
-within-longer : (output spill more : List ℕ) (h : Bool) (b : ℕ) → b ≤ length (home_bytes output spill h) → b ≤ length (home_bytes (output ++ more) spill h)
-within-longer output spill more false b within = omega (arith, length-append output more, within)
-within-longer output spill more true b within = within
-
 pub text-at_end : (s : Store) (mid : List ℕ) (p : Piece) → IsLiving s p → Extends s.output_text mid → piece_text mid s.spill_text p ≡ piece_text s.output_text s.spill_text p
 unfolding IsLiving
 text-at_end s mid p lies e =
     ap (λ (v : List ℕ). piece_text v s.spill_text p) e.all ∙ part-longer s.output_text s.spill_text e.more p.spilled p.from_byte p.to_byte lies.ordered lies.within
-
-pub within-at_end : (s : Store) (mid : List ℕ) (p : Piece) → IsLiving s p → Extends s.output_text mid → p.to_byte ≤ length (home_bytes mid s.spill_text p.spilled)
-unfolding IsLiving
-within-at_end s mid p lies e =
-    subst (λ (v : List ℕ). p.to_byte ≤ length (home_bytes v s.spill_text p.spilled)) (sym e.all) (within-longer s.output_text s.spill_text e.more p.spilled p.to_byte lies.within)
 
 -- bytes and another text after it, put there one after the other
 pub Extends-more : (old mid new bytes : List ℕ) → Extends old mid → new ≡ mid ++ bytes → Extends old new

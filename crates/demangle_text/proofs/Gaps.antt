@@ -1,7 +1,7 @@
 -- A gap in the output, and what fills it.
 use Rattle.std.proofs.Common.{◌≡◌, ℕ, ◌+◌, ◌≤◌, Bool, true, false, List, ◌++◌, length, take, drop, slice_range, All, map}
 use Rattle.std.proofs.Common.{refl, sym, ap, ◌∙◌, subst, arith, append_assoc}
-use Rattle.std.proofs.lemmas.List.{length-append, length-drop, length-take-le, take_at}
+use Rattle.std.proofs.lemmas.List.{length-drop, length-take-le, take_at}
 use Rattle.demangle_text.specs.declared.pieces.Piece.{Piece}
 use Rattle.demangle_text.specs.Pieces.{Store, IsStore, IsApart, IsSpilled, EndsBy, carried}
 use Rattle.growing_text.specs.Gap.{HasGap}
@@ -99,13 +99,6 @@ part-kept old new at n a b true gap place ordered within before =
     ap (λ (v : List ℕ). slice_range v a b) gap.spill.all
     ∙ part-append old.spill_text gap.spill.more a b ordered within
 
-home-longer : (old new : Store) (at n b : ℕ) (h : Bool) → IsGap old new at n → at ≤ length old.output_text
-    → b ≤ length (home_bytes old.output_text old.spill_text h) → b ≤ length (home_bytes new.output_text new.spill_text h)
-home-longer old new at n b false gap place within =
-    omega (arith, length-gap old.output_text new.output_text at n place gap.gap, within)
-home-longer old new at n b true gap place within =
-    omega (arith, ap length gap.spill.all, length-append old.spill_text gap.spill.more, within)
-
 -- a piece that ends by the place keeps its text
 module _ (old new : Store) (at n : ℕ) (gap : IsGap old new at n) (place : at ≤ length old.output_text)
     (p : Piece) (lies : IsLiving old p) where
@@ -113,7 +106,3 @@ module _ (old new : Store) (at n : ℕ) (gap : IsGap old new at n) (place : at �
   unfolding IsLiving
   text-kept before =
       part-kept old new at n p.from_byte p.to_byte p.spilled gap place lies.ordered lies.within before
-
-  pub within-kept : p.to_byte ≤ length (home_bytes new.output_text new.spill_text p.spilled)
-  unfolding IsLiving
-  within-kept = home-longer old new at n p.to_byte p.spilled gap place lies.within

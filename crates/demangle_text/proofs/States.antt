@@ -12,8 +12,8 @@ use Rattle.demangle_text.specs.declared.pieces.Mark.{Mark}
 use Rattle.demangle_text.specs.Shape.{text}
 use Rattle.demangle_text.specs.Pieces.{Store, IsStore, IsPiece, IsAt, IsOutlined, outline_of, shape_of, shape_in, piece_text, home_bytes, Extends}
 use Rattle.demangle_text.specs.State.{IsLiving, shape, saved, scopes, main_bytes, Stands, StandsBefore, frame}
-use Rattle.demangle_text.specs.State.{frame_start, outermost, inside, outside, Frame, IsOlder, IsAsOld, KeepsAll, IsEdit, Opens}
-use Rattle.demangle_text.specs.State.{Closes, Lives, parts_at}
+use Rattle.demangle_text.specs.State.{frame_start, outermost, inside, outside, Frame, IsOlder, IsAsOld, KeepsAll, Opens}
+use Rattle.demangle_text.specs.State.{Lives, parts_at}
 use Rattle.demangle_text.specs.Calls.{IsLast, IsInner, text_after}
 use Rattle.demangle_text.proofs.Forms.{text-form_of}
 use Rattle.growing_text.proofs.Parts.{part-append}
@@ -46,11 +46,6 @@ module _ (output spill new : List ℕ) (e : Extends spill new) where
   shape_in-extends p h =
       ap (λ (t : List ℕ). shape_in t new p) (sym (append-nil output)) ∙ ap (λ (t : List ℕ). shape_in (output ++ []) t p) e.all
       ∙ shape_in-grown output spill [] e.more p h
-
-  pub piece_text-extends : (p : Piece) → IsPiece output spill p → piece_text output new p ≡ piece_text output spill p
-  piece_text-extends p h =
-      ap (λ (t : List ℕ). piece_text t new p) (sym (append-nil output)) ∙ ap (λ (t : List ℕ). piece_text (output ++ []) t p) e.all
-      ∙ piece_text-grown output spill [] e.more p h
 
   pub IsPiece-extends : (p : Piece) → IsPiece output spill p → IsPiece output new p
   IsPiece-extends p h =
@@ -175,12 +170,6 @@ Lives-ensure_at_end s p t stands within is outlined =
       shape_is = ap (λ (u : List ℕ). shape_of u (outline_of p)) here;
     }
 
--- the same where the output has just grown by its text
-pub Lives-grown : (s : Store) (t : List ℕ) (p : Piece) → IsAt p (length s.output_text) (length (s.output_text ++ t)) → IsOutlined t (outline_of p) → Lives (longer s t) p (shape_of t (outline_of p))
-Lives-grown s t p stands outlined =
-    let there : IsAt p p.from_byte (length (s.output_text ++ t)) = record { in_main = stands.in_main; begins = refl; ends = stands.ends } in
-    Lives-ensure_at_end (longer s t) p t there (omega (arith, stands.begins, length-append s.output_text t)) (drop_at s.output_text t p.from_byte (sym stands.begins)) outlined
-
 -- what lives in the output lies before its end
 below_end : (output spill : List ℕ) (end n : ℕ) (h : Bool) → end ≡ length output → n ≤ length (home_bytes output spill h) → h ≡ false → n ≤ end
 below_end output spill end n h by_main within e = omega (arith, by_main, rw e at within)
@@ -197,18 +186,6 @@ Opens-here s m i by_main outer = record {
   lists = record { saved_same = refl; scopes_same = refl };
   nested = omega (arith, by_main, i.main_frame);
   front = take_all m.inside_len s.output_text (omega (arith, by_main));
-}
-
--- a mark is closed after an edit inside it
-pub Closes-edit : (s t : Store) (m : Mark) → frame s ≡ inside m → IsEdit s t → Closes s (record t { marked_len = m.outside_len }) m
-unfolding IsLiving shape saved scopes main_bytes frame outside Frame
-Closes-edit s t m innermost e = record {
-  pieces = λ p h o.
-      let k = e.pieces p h (subst (IsOlder p) (sym innermost) o) in
-      record { living = k.living; shape_is = k.shape_is };
-  outside_is = refl;
-  lists = record { saved_same = e.lists.saved_same; scopes_same = e.lists.scopes_same };
-  front = subst (λ (f : Frame). take (frame_start f) t.output_text ≡ take (frame_start f) s.output_text) innermost e.front;
 }
 
 -- a piece stands at one place

@@ -346,18 +346,6 @@ Lives-joined b n first second q bytes from one two i stands outline =
       shape_is = lives.shape_is ∙ ap (shape_of u) outline_is ∙ ap plain_shape texts;
     }
 
--- a text that became all of the output since a place
-pub Lives-kept_only : (b n : Store) (p q : Piece) (at : ℕ) → IsLiving b p → at ≤ length b.output_text → n.output_text ≡ take at b.output_text ++ piece_text b.output_text b.spill_text p
-    → IsAt q at (length n.output_text) → outline_of q ≡ outline_of p → Lives n q (shape b p)
-unfolding IsLiving shape
-Lives-kept_only b n p q at lies within is stands outline =
-    let t = piece_text b.output_text b.spill_text p in
-    let low = length-take-le at b.output_text within in
-    let there : IsAt q q.from_byte (length n.output_text) = record { in_main = stands.in_main; begins = refl; ends = stands.ends } in
-    let text : drop q.from_byte n.output_text ≡ t = ap (λ (k : ℕ). drop k n.output_text) stands.begins ∙ ap (drop at) is ∙ drop_at (take at b.output_text) t at low in
-    let lives = Lives-ensure_at_end n q t there (omega (arith, ap length is, length-append (take at b.output_text) t, stands.begins)) text (subst (IsOutlined t) (sym outline) lies.outlined) in
-    record { living = lives.living; shape_is = lives.shape_is ∙ ap (shape_of t) outline }
-
 -- a text that stands there already
 pub kept_only-already : (b : Store) (p : Piece) (at : ℕ) → p.spilled ≡ false → p.from_byte ≡ at
     → p.to_byte ≡ length b.output_text → b.output_text ≡ take at b.output_text ++ piece_text b.output_text b.spill_text p

@@ -21,11 +21,6 @@ mask_of n lanes long few =
 pub low_from : (bytes : List ℕ) (from to : ℕ) → ((i : ℕ) → from ≤ i → i < to → ltb 127 (get_or bytes i 0) ≡ false) → AreAscii bytes from to
 low_from bytes from to each i above below = omega (arith, ltb-false 127 (get_or bytes i 0) (each i above below))
 
--- those of two stretches that meet or overlap
-pub both_ascii : (bytes : List ℕ) (from middle to : ℕ) → from ≤ middle → AreAscii bytes 0 middle → AreAscii bytes from to → AreAscii bytes 0 to
-both_ascii bytes from middle to meet low high i above below = elim (cases_lt i middle) [
-  | inl one ↦ low i above one
-  | inr two ↦ high i (omega (arith, meet, two)) below
 ]
 
 -- they are UTF-8

@@ -9,7 +9,7 @@ use Rattle.demangle_quals.specs.Quals.{quals_text, words_text, reference_text, h
 use Rattle.demangle_edit.specs.Built.{arguments_closed}
 use Rattle.demangle_edit.specs.Built.{default_arg_opened}
 use Rattle.demangle_edit.specs.Names.{qualified, default_arg_shape, qualified_ctor, angle_gap, attached, tagged, with_name_qualifiers}
-use Rattle.demangle_edit.specs.Built.{separator, listed_more, listed_each, params_opened, params_closed, lambda_closed, function_closed}
+use Rattle.demangle_edit.specs.Built.{separator, listed_more, listed_each, params_closed, lambda_closed, function_closed}
 
 -- a form with bytes at its end
 form_longer : (bytes : List ℕ) (f : Form) → length (form_text f) ≤ length (form_text (form_with End bytes f))
@@ -53,9 +53,6 @@ lambda_longer number list = appended_longer (codes ")#" ++ (decimal number ++ co
 
 pub params_longer : (quals : Quals) (list : Shape) → text_len list ≤ text_len (params_closed quals list)
 params_longer quals list = appended_longer (codes ")" ++ quals_text quals) list
-
-pub opened_longer : (name : Shape) → text_len name ≤ text_len (params_opened name)
-opened_longer name = appended_longer (codes "(") (flattened name)
 
 -- names
 pub tagged_longer : (name : Shape) (tag : List ℕ) → text_len name ≤ text_len (tagged name tag)

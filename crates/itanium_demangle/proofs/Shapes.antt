@@ -1,10 +1,10 @@
 -- The shapes of trees, and the states at positions.
-use Rattle.std.proofs.Common.{◌≡◌, ℕ, suc, ◌-◌, get_or, arith, Bool, true, false, List, [], ◌∷◌, ◌++◌, map, length, take, refl, sym, ap, Option, Some, None, ◌∙◌, if◌then◌else◌, codes}
+use Rattle.std.proofs.Common.{◌≡◌, ℕ, suc, ◌-◌, get_or, arith, Bool, true, false, List, [], ◌∷◌, ◌++◌, map, length, take, refl, sym, ap, Option, Some, None, ◌∙◌, if◌then◌else◌}
 use Rattle.std.proofs.lemmas.List.{map-append, length-map, length-append, get_or-map}
 use Rattle.std.proofs.Math.Seq.{set-append_seam, get_or-append_seam}
 use Rattle.std.specs.Prelude.{option_map, is_some, not}
 use Rattle.std.specs.List.{take-map}
-use Rattle.demangle_text.specs.Shape.{Shape, plain_shape, appended}
+use Rattle.demangle_text.specs.Shape.{Shape, plain_shape}
 use Rattle.demangle_text.specs.State.{with_arg, last_args}
 use Rattle.demangle_quals.specs.declared.quals.Quals.{Quals}
 use Rattle.demangle_quals.specs.declared.quals.Pointer.{Pointer}
@@ -18,9 +18,9 @@ use Rattle.itanium_grammar.specs.Tree.{Tree, worded, temporary_of, construction_
 use Rattle.itanium_grammar.specs.Tree.{temporary_shape, construction_shape, thunk_shape, Operand, operand}
 use Rattle.itanium_grammar.specs.Tree.{shape_of_operand, literal_of, address_of, pre_of, unary_of, post_of, binary_of}
 use Rattle.itanium_grammar.specs.Tree.{greater_of, conditional_of, pre_shape, post_shape, binary_shape, greater_shape}
-use Rattle.itanium_grammar.specs.Tree.{conditional_shape, shape_of, bare_shape, own_quals, string_literal_of}
+use Rattle.itanium_grammar.specs.Tree.{conditional_shape, shape_of, bare_shape, own_quals}
 use Rattle.itanium_grammar.specs.Tree.{encoding_of, function_encoding, plain_text, abbreviation, name_in, ctor_dtor_of}
-use Rattle.itanium_grammar.specs.Tree.{with_args, nested_of, pointer_to, cv_of, array_of, member_of, function_to}
+use Rattle.itanium_grammar.specs.Tree.{with_args, pointer_to, cv_of, array_of, member_of, function_to}
 use Rattle.itanium_grammar.specs.Tree.{elaborated, elaborated_shape, abbreviation_shape, trees, shape_of, shape_each}
 use Rattle.itanium_grammar.specs.Tree.{in_parent, tagged_with, lambda_of, conversion_to, conversion_shape, pack_of}
 use Rattle.itanium_grammar.specs.Tree.{expansion_of, expanded}
@@ -102,10 +102,6 @@ pub shape-expanded : (in_pack : Bool) (t : Tree) → shape_of (expanded in_pack 
 shape-expanded true t = refl
 shape-expanded false t = shape-expansion_of t
 
-pub shape-string_literal_of : (encoding : Tree) → shape_of (string_literal_of encoding) ≡ appended (codes "::string literal") (shape_of encoding)
-unfolding shape_of
-shape-string_literal_of encoding = refl
-
 pub shape-encoding_of : (name : Tree) → shape_of (encoding_of name) ≡ with_name_qualifiers (bare_shape name) (own_quals name) true
 unfolding shape_of
 shape-encoding_of name = refl
@@ -165,10 +161,6 @@ shape-greater_of t u = refl
 pub shape-conditional_of : (o m n : Operand) → shape_of (conditional_of o m n) ≡ conditional_shape (shape_of_operand o) (shape_of_operand m) (shape_of_operand n)
 unfolding shape_of
 shape-conditional_of o m n = refl
-
-pub shape-nested_of : (name : Tree) (quals : Quals) (shown : Bool) → shape_of (nested_of name quals shown) ≡ with_name_qualifiers (shape_of name) quals shown
-unfolding shape_of
-shape-nested_of name quals shown = refl
 
 pub shape-in_parent : (parent : Option Tree) (leaf : Tree) → shape_of (in_parent parent leaf) ≡ parser.in_parent (option_map shape_of parent) (shape_of leaf)
 shape-in_parent None leaf = refl

@@ -1,5 +1,5 @@
 -- What a reader of symbols says, in the grammar's words, and what follows for the answer.
-use Rattle.std.proofs.Common.{◌≡◌, ◌<◌, ℕ, ◌++◌, List, [], ◌∷◌, Bool, true, false, ◌&&◌, ◌==◌, ◌≤◌, ◌*◌, Option, Some}
+use Rattle.std.proofs.Common.{◌≡◌, ◌<◌, ℕ, ◌++◌, List, [], ◌∷◌, Bool, true, false, Option, Some}
 use Rattle.std.proofs.Common.{None, Result, Ok, Err, ap, if◌then◌else◌, map, ◌∙◌, sym, refl, subst, arith, length, drop}
 use Rattle.std.proofs.Common.{get_or, ◌+◌, max}
 use Rattle.std.proofs.lemmas.Simd.{map-map}
@@ -16,13 +16,13 @@ use Rattle.itanium_syntax.specs.Bytes.{begins}
 use Rattle.itanium_syntax.proofs.Fronts.{IsAfter, after_then}
 use Rattle.itanium_grammar.specs.Tree.{shape_of, printing}
 use Rattle.itanium_grammar.specs.Grammar.{Position, Cost}
-use Rattle.itanium_grammar.specs.Answer.{after_prefix, start, suffix, Mangled, max_depth, HasAnswer, HasNoAnswer, IsAnswerOf, HasCountsOf, HasComponentsOf, HasSavedOf, HasBounds}
+use Rattle.itanium_grammar.specs.Answer.{after_prefix, start, suffix, Mangled, max_depth, HasAnswer, HasNoAnswer, IsAnswerOf, HasCountsOf, HasComponentsOf, HasSavedOf}
 use Rattle.itanium_grammar.proofs.Agreement.{inside_takes}
 use Rattle.itanium_reader.specs.declared.reader.Reader.{Reader}
 use Rattle.itanium_reader.specs.declared.stop.Stop.{Stop}
 use Rattle.itanium_reader.specs.declared.stop.Stop.TheVariants.{Unreadable, Memory}
 use Rattle.itanium_reader.specs.Parser.{ParserState, begun}
-use Rattle.itanium_reader.specs.Outcome.{state, Gives, TakesSome, SavedBounds, MostSaved}
+use Rattle.itanium_reader.specs.Outcome.{state, Gives}
 use Rattle.itanium_demangle.specs.Meaning.{StandsFor, parse_mangled, state_at, HasReading, HasNoReading, ReadsAs}
 use Rattle.itanium_demangle.specs.Demangler.{IsPrinted, IsText, answer_text, component_texts, component_shapes}
 use Rattle.itanium_demangle.proofs.Readers.{mangled}
@@ -82,15 +82,6 @@ suffix_from symbol rest utf8 after = go (begins (46 ∷ []) rest) refl
     go true e = rw after.is (cut_at_dot symbol after.count utf8 (ap (begins (46 ∷ [])) (sym after.is) ∙ e))
     go false e = IsUtf8-nil
 
-more_of_both : (t : Bool) (word bytes : List ℕ) → (t && begins word bytes) ≡ true → begins word bytes ≡ true
-more_of_both true word bytes e = e
-more_of_both false word bytes e = cc
-
-begins_takes : (word bytes : List ℕ) → begins word bytes ≡ true → length word ≤ length bytes
-begins_takes [] bytes e = omega arith
-begins_takes (a ∷ word) [] e = cc
-begins_takes (a ∷ word) (b ∷ bytes) e = let more = begins_takes word bytes (more_of_both (b == a) word bytes e) in omega (arith, more)
-
 prefix_after : (symbol inside : List ℕ) → after_prefix symbol ≡ Some inside → IsAfter inside symbol
 prefix_after symbol inside e = go (begins (95 ∷ 90 ∷ []) symbol) (begins (95 ∷ 95 ∷ 90 ∷ []) symbol) e
   where
@@ -98,22 +89,6 @@ prefix_after symbol inside e = go (begins (95 ∷ 90 ∷ []) symbol) (begins (95
     go true t e = record { count = 2; is = cc }
     go false true e = record { count = 3; is = cc }
     go false false e = cc
-
-prefix_takes : (symbol inside : List ℕ) → after_prefix symbol ≡ Some inside → length inside + 2 ≤ length symbol
-prefix_takes symbol inside e = go (begins (95 ∷ 90 ∷ []) symbol) (begins (95 ∷ 95 ∷ 90 ∷ []) symbol) refl refl e
-  where
-    two : begins (95 ∷ 90 ∷ []) symbol ≡ true → 2 ≤ length symbol
-    two b = begins_takes (95 ∷ 90 ∷ []) symbol b
-
-    three : begins (95 ∷ 95 ∷ 90 ∷ []) symbol ≡ true → 3 ≤ length symbol
-    three b = begins_takes (95 ∷ 95 ∷ 90 ∷ []) symbol b
-
-    go : (s t : Bool) → begins (95 ∷ 90 ∷ []) symbol ≡ s → begins (95 ∷ 95 ∷ 90 ∷ []) symbol ≡ t
-        → (if s then Some (drop 2 symbol) else (if t then Some (drop 3 symbol) else None)) ≡ Some inside
-        → length inside + 2 ≤ length symbol
-    go true t b c e = let is : drop 2 symbol ≡ inside = cc in rw (sym is) (omega (arith, length-drop 2 symbol, two b))
-    go false true b c e = let is : drop 3 symbol ≡ inside = cc in rw (sym is) (omega (arith, length-drop 3 symbol, three c))
-    go false false b c e = cc
 
 pub not_read : (full : Bool) (symbol inside : List ℕ) → after_prefix symbol ≡ Some inside → HasNoReading (Mangled full (start inside)) max_depth → HasNoAnswer full symbol
 not_read full symbol inside prefix none tree next cost reading within utf8 =
@@ -167,16 +142,6 @@ counted full symbol inside found after prefix has tree next cost reading within 
     let peak : cost.peak ≡ has.cost.peak = ap (λ (c : Cost). c.peak) same.2 in
     (omega (arith, entered, count), omega (arith, most, peak))
 
--- where there is no reading within the limits, nothing is asked of the counts
-pub uncounted : (full : Bool) (symbol inside : List ℕ) (entered most_saved : ℕ) → after_prefix symbol ≡ Some inside → HasNoReading (Mangled full (start inside)) max_depth → HasCountsOf full symbol entered most_saved
-uncounted full symbol inside entered most_saved prefix none tree next cost reading within =
-    let here : reading.inside ≡ inside = cc in
-    absurd (none tree next cost (subst (λ v. Mangled full (start v) tree next cost) here reading.reading) within)
-
--- without a prefix neither
-pub uncounted_prefix : (full : Bool) (symbol : List ℕ) (entered most_saved : ℕ) → after_prefix symbol ≡ None → HasCountsOf full symbol entered most_saved
-uncounted_prefix full symbol entered most_saved none tree next cost reading within = let p = reading.prefix in cc
-
 -- the components that a reading which was found leaves saved are those of every reading
 left_saved : (full : Bool) (symbol inside : List ℕ) (e m : ℕ) (found : Shape) (after : ParserState) (components : List (List ℕ)) (answer : List ℕ) → after_prefix symbol ≡ Some inside
     → HasReading (Mangled full (start inside)) shape_of max_depth e m found after → components ≡ map text after.saved → HasComponentsOf full symbol (Some answer) components
@@ -216,25 +181,3 @@ pub kept_text : (printing after : List ℕ) (buffer : Box Buffer Global) (answer
     → IsText (answer_text answered (Some buffer))
 kept_text printing after buffer false printed good = tt
 kept_text printing after buffer true printed good = subst IsUtf8 (sym printed.1) (IsUtf8-append printing after printed.0 good)
-
--- what is entered and saved over what follows the prefix is within the bounds of the symbol
-pub within_bounds : (symbol inside : List ℕ) (before after : ParserState) → after_prefix symbol ≡ Some inside → before ≡ begun inside
-    → after.entered ≤ before.entered + 2 * length before.rest + 2 → MostSaved 0 before after → HasBounds symbol after.entered after.most_saved
-within_bounds symbol inside before after prefix starts entered saved =
-    let shorter : length inside + 2 ≤ length symbol = prefix_takes symbol inside prefix in
-    let none : before.entered ≡ 0 = ap (λ (s : ParserState). s.entered) starts in
-    let left : length before.rest ≡ length inside = ap (λ (s : ParserState). length s.rest) starts in
-    let most : before.most_saved ≡ 0 = ap (λ (s : ParserState). s.most_saved) starts in
-    let empty : length before.saved ≡ 0 = ap (λ (s : ParserState). length s.saved) starts in
-    (omega (arith, shorter, none, left, entered), omega (arith, shorter, left, most, empty, saved))
-
--- the same of a reading that was found
-pub read_within : (symbol inside : List ℕ) (before after : ParserState) (u : Unit {0}) → after_prefix symbol ≡ Some inside → before ≡ begun inside
-    → TakesSome {A = Unit {0}} 2 (Ok u) before after → SavedBounds {A = Unit {0}} 1 (Ok u) before after → HasBounds symbol after.entered after.most_saved
-read_within symbol inside before after u prefix starts bounds saved = within_bounds symbol inside before after prefix starts (omega (arith, bounds.counted)) saved.most
-
--- and of a run that failed
-pub unread_within : (symbol inside : List ℕ) (before after : ParserState) (stop : Stop) → after_prefix symbol ≡ Some inside → before ≡ begun inside → stop ≡ Unreadable
-    → TakesSome {A = Unit {0}} 2 (Err stop) before after → SavedBounds {A = Unit {0}} 1 (Err stop) before after → HasBounds symbol after.entered after.most_saved
-unread_within symbol inside before after Unreadable prefix starts is bounds saved = within_bounds symbol inside before after prefix starts bounds saved
-unread_within symbol inside before after Memory prefix starts is bounds saved = cc

@@ -3,14 +3,14 @@ use Rattle.std.proofs.Common.{◌≡◌, ◌<◌, ◌≤◌, ℕ, ◌+◌, ◌*�
 use Rattle.std.specs.List.{concat}
 use Rattle.std.proofs.lemmas.Bool.Decides.{nat_tests}
 use Rattle.std.proofs.lemmas.Fmt.{length-decimal-le}
-use Rattle.std.proofs.lemmas.List.{length-append, length-drop}
+use Rattle.std.proofs.lemmas.List.{length-append}
 use Rattle.std.proofs.lemmas.Option.{some_pair_parts, cond_some}
 use Rattle.itanium_syntax.specs.declared.context.Context.{Context}
 use Rattle.itanium_syntax.specs.declared.numerals.Radix.{Radix}
 use Rattle.itanium_syntax.specs.Bytes.{begins}
 use Rattle.itanium_syntax.specs.Scalars.{numeral, plus_one, before_underscore, index_of}
 use Rattle.itanium_syntax.specs.Specials.{begins_t_and, special_text, special_close}
-use Rattle.itanium_grammar.specs.Answer.{max_text, longest_printing, after_prefix, start, suffix, Mangled, HasAnswer, IsAnswerOf, HasLengthOf}
+use Rattle.itanium_grammar.specs.Answer.{max_text, longest_printing, start, suffix, Mangled, HasAnswer, IsAnswerOf, HasLengthOf}
 use Rattle.itanium_syntax.specs.Encodings.{encoding_case}
 use Rattle.itanium_syntax.proofs.Fronts.{alone_after_name}
 use Rattle.itanium_grammar.specs.Tree.{Tree, shape_of, printing, worded, temporary_of, construction_of}
@@ -18,7 +18,7 @@ use Rattle.itanium_grammar.specs.Grammar.{Position, Cost, Name, TypeOf, Thunk, S
 use Rattle.itanium_grammar.specs.Grammar.{thunk, type_special, name_special, temporary_special, construction_special}
 use Rattle.itanium_grammar.specs.Grammar.{thunk_special, name_encoding}
 use Rattle.itanium_grammar.specs.Cases.{EncodingEnd, AfterName, SpecialCase, EncodingCase}
-use Rattle.itanium_grammar.proofs.Agreement.{one_reading, inside_takes}
+use Rattle.itanium_grammar.proofs.Agreement.{one_reading}
 
 -- what special names print
 worded_prints : (word : List ℕ) (t : Tree) (close : List ℕ) → printing (worded word t close) ≡ concat (word ∷ printing t ∷ close ∷ [])
@@ -143,27 +143,6 @@ pub answer_wide : (full : Bool) (bytes answer : List ℕ) (has : HasAnswer full 
 answer_wide full bytes answer has =
     let wide = inside_wide full has.reading.inside has.tree has.next has.cost has.reading.reading has.within.width_fits in
     omega (arith, ap length has.answer_is, length-append (printing has.tree) (suffix has.next.rest), wide)
-
--- what is after the prefix, and the suffix in it, is no longer than the symbol
-inside_short : (bytes inside : List ℕ) → after_prefix bytes ≡ Some inside → length inside ≤ length bytes
-inside_short bytes inside is = go (begins (codes "_Z") bytes) (begins (codes "__Z") bytes) is
-  where
-    go : (a b : Bool) → (if a then Some (drop 2 bytes) else if b then Some (drop 3 bytes) else None) ≡ Some inside → length inside ≤ length bytes
-    go true b e = let same : drop 2 bytes ≡ inside = cc in omega (arith, ap length same, length-drop 2 bytes)
-    go false true e = let same : drop 3 bytes ≡ inside = cc in omega (arith, ap length same, length-drop 3 bytes)
-    go false false e = cc
-
-suffix_short : (rest : List ℕ) → length (suffix rest) ≤ length rest
-suffix_short rest = go (begins (codes ".") rest)
-  where
-    go : (a : Bool) → length (if a then rest else []) ≤ length rest
-    go true = omega arith
-    go false = omega arith
-
-pub answer_short : (full : Bool) (bytes answer : List ℕ) → HasAnswer full bytes answer → length answer ≤ longest_printing full + length bytes
-answer_short full bytes answer has =
-    let takes = (inside_takes full has.reading.inside has.tree has.next has.cost has.reading.reading).shorter in
-    omega (arith, answer_wide full bytes answer has, suffix_short has.next.rest, takes, inside_short bytes has.reading.inside has.reading.prefix)
 
 -- so long is an answer at most
 pub answer_length : (full : Bool) (bytes : List ℕ) (answer : Option (List ℕ)) → IsAnswerOf full bytes answer → HasLengthOf full bytes answer

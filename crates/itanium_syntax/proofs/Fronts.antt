@@ -221,11 +221,6 @@ pub no_params_some : (end : EncodingEnd) (bytes : List ℕ) → params_case end 
 no_params_some end [] e = cc
 no_params_some end (b ∷ bytes) _ = omega arith
 
--- a letter that stands there is gone past
-letter_shorter : (letter : ℕ) (bytes : List ℕ) → begins (letter ∷ []) bytes ≡ true → length (past_letter letter bytes) < length bytes
-letter_shorter letter [] e = cc
-letter_shorter letter (b ∷ bytes) e = rw e (omega arith)
-
 -- qualifiers have a letter
 pub cv_shorter : (bytes : List ℕ) → begins_one_of (codes "rVK") bytes ≡ true → length (past_cv bytes) < length bytes
 cv_shorter [] e = cc

@@ -21,18 +21,6 @@ use Rattle.symfilter_engine.proofs.ChunkBytes.{nothing_read}
 use Rattle.symfilter_engine.proofs.WordTurns.{no_word_kept, none_replaced, replaced_on, given_more, front_after, front_passed, front_replaced, words_replaced, words_front, whole_words, all_but_kept, replaced_begun, last_on, last_begun, replaced_kept}
 use Rattle.symfilter_engine.proofs.FilteredText.{none_filtered, filtered_begins, piece_filtered, piece_begins, next_unwritten, lines_before, WritesFiltered-append, WritesBeginning-append}
 
--- the whole lines of these bytes were written, and what is left isn't one
-ended_filtered : (placement : Placement) (all lines rest : List ℕ) (n : ℕ) (t t' : Option (List ℕ))
-    → FiltersUpTo placement lines [] t t' → lines ≡ take n all → rest ≡ drop n all → FiltersUpTo placement all rest t t'
-ended_filtered placement all lines rest n t t' so_far lines_are rest_is =
-    record {
-      whole = so_far.whole;
-      text = so_far.text;
-      given_is = sym (take-append-drop n all) ∙ ap (λ l. l ++ drop n all) (sym lines_are ∙ so_far.given_is ∙ append-nil so_far.whole) ∙ ap (λ l. so_far.whole ++ l) (sym rest_is);
-      filtered = so_far.filtered;
-      written = so_far.written;
-    }
-
 -- nothing was written yet
 none_written : (placement : Placement) (given : List ℕ) (at : Option (List ℕ)) → WritesChunkUpTo placement false given given false at at
 none_written (Lines printing) given at = none_filtered (Lines printing) given at
@@ -290,12 +278,6 @@ none_read placement source sink = read_fault placement false [] source source so
 
 pub none_whole : (placement : Placement) (source sink : Option (List ℕ)) → FiltersWhole placement source source sink sink
 none_whole placement source sink = whole_written placement [] [] source source sink sink (Consumes-nil source) (none_written placement [] sink)
-
--- a chunk of lines was written up to its last line feed
-pub lines_written : (placement : Placement) (printing : Printing) (mid_word : Bool) (bytes : List ℕ) (n : ℕ) (t t' : Option (List ℕ)) → placement ≡ Lines printing
-    → FiltersUpTo placement (take n bytes) [] t t' → WritesChunkUpTo placement mid_word bytes (drop n bytes) false t t'
-lines_written (Lines p) printing mid_word bytes n t t' is so_far = ended_filtered (Lines p) bytes (take n bytes) (drop n bytes) n t t' so_far refl refl
-lines_written (Words options) printing mid_word bytes n t t' is so_far = absurd (cc)
 
 -- a beginning of its text was
 pub lines_front : (placement : Placement) (printing : Printing) (mid_word : Bool) (bytes : List ℕ) (n : ℕ) (t t' : Option (List ℕ)) → placement ≡ Lines printing

@@ -69,10 +69,6 @@ pub whole_after : (placement : Placement) (lines : List ℕ) (n : ℕ) → AreWh
 whole_after (Lines printing) lines n whole = ended_after lines n whole
 whole_after (Words options) lines n whole = whole-drop lines n whole
 
--- lines are whole
-pub whole_lines : (placement : Placement) (printing : Printing) (lines : List ℕ) → placement ≡ Lines printing → AreWhole placement lines → EndsInLineFeed lines
-whole_lines placement printing lines is whole = subst (λ s. AreWhole s lines) is whole
-
 -- so are words
 pub whole_words : (placement : Placement) (options : ReplaceOptions) (text : List ℕ) → placement ≡ Words options → AreWhole placement text → ends_word text ≡ false
 whole_words placement options text is whole = subst (λ s. AreWhole s text) is whole
