@@ -31,9 +31,10 @@ whole = $(sort $(1) $(foreach it,$(call uses,$(1)),$(call whole,$(it))))
 files = crates.txt $(shell find $(wildcard $(foreach part,src specs proofs,$(1:%=crates/%/$(part)))) -name '*.rt' -o -name '*.antt')
 sources = $(call files,$(call whole,$(1)))
 
-# The libraries, and where a proved build of one is: in the folder out, beside those below it.
+# The libraries, and where a proved build of one is.
 libraries = $(shell sed -nE 's/^([a-z_]+):.*/\1/p' crates.txt | while read -r it; do test ! -e crates/$$it/src/lib.rt || echo $$it; done)
-built = $(1:%=out/%.rlib/format)
+place = crates/$(1)/out/made
+built = $(foreach it,$(1),$(call place,$(it))/$(it).rlib/format)
 
 # The toolchain, or a sentence where it isn't there.
 needs_rt = command -v rt >/dev/null || { echo 'make: there is no command rt. Install the Rattle toolchain, which proves \
@@ -53,37 +54,39 @@ symfilter: $(symfilter)
 # crates/*/out, and don't see what is built here. One process takes a third less of a processor than four: `make -j4`
 # has several crates proved side by side.
 kit = kit=$$(dirname "$$(rt doc)")
-prove = $(kit) && "$$kit/bin/rattle" build --crate-name $(1) crates/$(1)/src/$(2).rt --jobs 1 --links $(1)= \
+prove = mkdir -p $(place) && $(kit) && \
+    "$$kit/bin/rattle" build --crate-name $(1) crates/$(1)/src/$(2).rt --jobs 1 --links $(1)= \
     --extern "std=$$kit/rlibs/std.rlib" -L "dependency=$$kit/rlibs" \
-    $(foreach it,$(call uses,$(1)),--extern $(it)=out/$(it).rlib) -L dependency=out \
+    $(foreach it,$(call uses,$(1)),--extern $(it)=$(call place,$(it))/$(it).rlib) \
+    $(foreach it,$(filter-out $(1),$(call whole,$(1))),-L dependency=$(call place,$(it))) \
     --antt-project "$$kit/rattle/logic/antt-project.json" --logic-built "$$kit/logic_built" $(3)
 
 define library_rule
 $(call built,$(1)): $(call files,$(1)) $(call built,$(call uses,$(1)))
 	@$$(needs_rt)
-	@mkdir -p out
-	$$(call prove,$(1),lib,--statements -o out/$(1).rlib)
+	$$(call prove,$(1),lib,--statements -o $(place)/$(1).rlib)
 	touch $$@
 endef
 $(foreach it,$(libraries),$(eval $(call library_rule,$(it))))
+
+# Builds the libraries below a program or a library for C. The lock is for `make -j4`, which may build several of these.
+below = flock crates.txt $(MAKE) $(call built,$(call uses,$(1)))
 
 # A program: it is proved, compiled by LLVM, linked, and run.
 define program_rule
 $($(1)): $(call sources,$(1))
 	@$$(needs_rt)
-	$$(MAKE) $(call built,$(call uses,$(1)))
-	mkdir -p crates/$(1)/out
-	$$(call prove,$(1),main,--backend llvm --toolchain "$$$$kit/toolchain" -o out/$(1).o)
+	+$$(call below,$(1))
+	$$(call prove,$(1),main,--backend llvm --toolchain "$$$$kit/toolchain" -o $(place)/$(1).o)
 	$$(kit) && "$$$$kit/bin/rattle-link" --target x86_64-unknown-linux-gnu --toolchain "$$$$kit/toolchain" -o $$@ \
-	    out/$(1).o "$$$$kit/c/libos_c.a" "$$$$kit/c/liblibc_c.a"
+	    $(place)/$(1).o "$$$$kit/c/libos_c.a" "$$$$kit/c/liblibc_c.a"
 	$$@ <crates/$(1)/stdin
 endef
 $(foreach it,symfilter cosvigle,$(eval $(call program_rule,$(it))))
 
 $(library): $(call sources,cosvigle_c)
 	@$(needs_rt)
-	$(MAKE) $(call built,$(call uses,cosvigle_c))
-	mkdir -p $(@D)
+	+$(call below,cosvigle_c)
 	$(call prove,cosvigle_c,lib,--crate-type staticlib --backend llvm --toolchain "$$kit/toolchain" -o $@)
 
 # One archive out of the crate's and the toolchain's library where malloc is called, which each library for C needs.
