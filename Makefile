@@ -3,7 +3,7 @@
 # its sources, one crate after another. After `make -j4 all libcosvigle.so.0` it needs no toolchain: run it by sudo if
 # PREFIX needs that.
 #
-#     make -j4                                 twenty to sixty minutes where nothing is proved yet
+#     make -j4                                 seventeen to fifty minutes where nothing is proved yet
 #     make -j4 cosvigle                        the program alone
 #     make install PREFIX=/usr DESTDIR=/tmp/x  PREFIX: /usr/local unless given; DESTDIR: put in front, for packages;
 #                  LIBDIR=/usr/lib64           BINDIR, LIBDIR, INCLUDEDIR, MANDIR: below PREFIX unless given
@@ -50,7 +50,7 @@ cosvigle: $(cosvigle)
 symfilter: $(symfilter)
 
 # Proves and builds a crate: its name, its file in src/, and what is built. It takes of the crates below it their
-# statements alone, as `rt ci` does, which is a tenth less work than `rt lib` and `rt run` have. These keep more, in
+# statements alone, as `rt ci` does, which is a fifth less work than `rt lib` and `rt run` have. These keep more, in
 # crates/*/out, and don't see what is built here. One process takes a third less of a processor than four: `make -j4`
 # has several crates proved side by side.
 kit = kit=$$(dirname "$$(rt doc)")

@@ -21,8 +21,6 @@ mask_of n lanes long few =
 pub low_from : (bytes : List ℕ) (from to : ℕ) → ((i : ℕ) → from ≤ i → i < to → ltb 127 (get_or bytes i 0) ≡ false) → AreAscii bytes from to
 low_from bytes from to each i above below = omega (arith, ltb-false 127 (get_or bytes i 0) (each i above below))
 
-]
-
 -- they are UTF-8
 pub ascii_utf8 : (bytes : List ℕ) → AreAscii bytes 0 (length bytes) → IsUtf8 bytes
 ascii_utf8 bytes all = IsUtf8-from_ascii bytes (λ i. elim (cases_lt i (length bytes)) [

@@ -1,6 +1,5 @@
 use Rattle.std.proofs.Common.{rules, ◌≡◌, Some, None, ◌∙◌}
 use Rattle.demangle_text.specs.declared.pieces.Kind.TheVariants.{Function}
-use Rattle.demangle_text.specs.Shape.{text}
 use Rattle.demangle_text.specs.Calls.{kind_of}
 use Rattle.demangle_text.specs.State.{shape}
 use Rattle.demangle_edit.proofs.Declarators.{plain_form}
