@@ -14,6 +14,7 @@
 mod args;
 mod encodings;
 mod expressions;
+mod frames;
 mod names;
 mod specials;
 mod types;

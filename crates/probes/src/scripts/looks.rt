@@ -12,7 +12,7 @@ fn own_at(buf: &Buffer, piece: Piece, from: usize, to: usize) -> Option<Piece>
     requires living { IsLiving buf.now piece }
     ensures living { IfSome result (IsLiving buf.now) }
 {
-    if from > to || to > buf.len(piece) || buf.kind(piece) == Some(Kind::Function) {
+    if from > to || to > buf.len(piece) || matches!(buf.kind(piece), Some(Kind::Function)) {
         return None;
     }
     Some(buf.own_at(piece, from, to))
