@@ -1,26 +1,36 @@
 -- Steps through the letters and names of options.
 use Rattle.std.proofs.Common.{◌≡◌, ◌≢◌, ℕ, suc, ◌+◌, ◌<◌, List, [], ◌∷◌, Bool, true, false, ◌&&◌, ◌==◌, if◌then◌else◌, length, take, drop, get_or, refl, ap, ◌∙◌, arith}
-use Rattle.std.proofs.lemmas.Bool.{ne_eqb}
+use Rattle.std.proofs.Common.{ne_eqb, eq-eqb}
 use Rattle.std.proofs.lemmas.List.{length-drop}
 use Rattle.std.proofs.Math.Seq.{drop-cons}
+use Rattle.std.specs.List.{starts_with}
 use Rattle.itanium_syntax.specs.Bytes.{begins}
 use Rattle.cosvigle.specs.declared.options.Flags.{Flags}
 use Rattle.cosvigle.specs.declared.options.EarlyExit.TheVariants as instead
 use Rattle.cosvigle.specs.declared.options.OptionState.{OptionState}
 use Rattle.cosvigle.specs.declared.options.OptionState.TheVariants.{Ready, NeedsValue, Exit}
 use Rattle.cosvigle.specs.declared.option_names.Found.{Found}
-use Rattle.cosvigle.specs.Options.{after_letter, after_format, letters, with_value, after_valued, name_len, find_option, after_found, after_name}
+use Rattle.cosvigle.specs.declared.option_names.Found.TheVariants.{Exact}
+use Rattle.cosvigle.specs.Options.{match_name, with_match, after_letter, after_format, letters, with_value, after_valued, name_len, find_option, after_found, after_name}
 
-begins_cons : (x y : Bool) → false ≡ y → false ≡ (x && y)
-begins_cons true y none = none
-begins_cons false y none = refl
+either_way : (a b : ℕ) → (a == b) ≡ (b == a)
+either_way a b = grind arith
 
--- no longer one
-pub begins_short : (front bytes : List ℕ) → length bytes < length front → false ≡ begins front bytes
-begins_short [] bytes short = absurd (omega (arith, short))
-begins_short (c ∷ front) [] short = refl
-begins_short (c ∷ front) (b ∷ bytes) short =
-    begins_cons (b == c) (begins front bytes) (begins_short front bytes (omega (arith, short)))
+-- whether a name begins with the bytes, as std says it and as the definitions do
+pub name_begins : (bytes name : List ℕ) → starts_with ◌==◌ name bytes ≡ begins bytes name
+name_begins [] name = refl
+name_begins (c ∷ bytes) [] = refl
+name_begins (c ∷ bytes) (b ∷ name) = rw (either_way c b, name_begins bytes name) refl
+
+-- what a name adds to the options found: nothing, its option alone, or its option beside others
+pub begins_not : (found : Found) (bytes name : List ℕ) (letter : ℕ) → begins bytes name ≡ false → found ≡ match_name found bytes name letter
+begins_not found bytes name letter other = rw other refl
+
+pub begins_whole : (found : Found) (bytes name : List ℕ) (letter : ℕ) → begins bytes name ≡ true → length name ≡ length bytes → Exact letter ≡ match_name found bytes name letter
+begins_whole found bytes name letter begun whole = rw (begun, eq-eqb _ _ whole) refl
+
+pub begins_more : (found : Found) (bytes name : List ℕ) (letter : ℕ) → begins bytes name ≡ true → length name ≢ length bytes → with_match found letter ≡ match_name found bytes name letter
+begins_more found bytes name letter begun more = rw (begun, ne_eqb _ _ more) refl
 
 -- the value after a letter
 letters_some : (next : Flags) (bytes : List ℕ) → 0 < length bytes → letters (NeedsValue next) bytes ≡ after_format next bytes

@@ -1,6 +1,5 @@
 //! The names of options, and how they may be shortened.
 ghost use Rattle.std.specs.Prelude.{◌≡◌};
-ghost use Rattle.itanium_syntax.specs.Bytes.{begins};
 ghost use Rattle.cosvigle.specs.Options as spec;
 
 /// The options whose names begin with the given bytes. An option is identified by its letter.
@@ -27,26 +26,11 @@ fn with_match(found: Found, letter: u8) -> Found
     }
 }
 
-/// Returns whether the bytes begin with `front`.
-fn begins(bytes: &[u8], front: &[u8]) -> bool
-    ensures value { result ≡ begins front.now bytes.now }
-{
-    if bytes.len() < front.len() {
-        return false;
-    }
-    for at in 0..front.len() {
-        if bytes[at] != front[at] {
-            return false;
-        }
-    }
-    true
-}
-
 /// Adds the option with this name and letter to the options found, if its name begins with the bytes.
 fn match_name(found: Found, bytes: &[u8], name: &[u8], letter: u8) -> Found
     ensures value { result ≡ spec.match_name found bytes.now name.now letter }
 {
-    if !begins(name, bytes) {
+    if !name.starts_with(bytes) {
         return found;
     }
     if name.len() == bytes.len() {

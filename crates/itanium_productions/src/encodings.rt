@@ -51,9 +51,8 @@ pub(crate) fn read_return(
         ReturnCase::SomeReturnType => {
             let mark = reader.buffer.open();
             read_type(reader, depth, context)?;
-            let empty = reader.buffer.push(b"")?;
-            reader.buffer.close(mark, empty)?;
-            Ok(())
+            reader.found = reader.buffer.push(b"")?;
+            reader.close_found(mark)
         }
     }
 }
@@ -82,18 +81,18 @@ pub(crate) fn end_encoding(
     let templ = reader.buffer.templ(name);
     let ctor = reader.buffer.ctor(name);
     read_return(reader, depth, context, end, templ, ctor)?;
-    match encoding_params_case(end, reader.rest) {
+    let ended = match encoding_params_case(end, reader.rest) {
         EncodingParamsCase::NoEncodingParams => {
-            reader.found = apply_name_qualifiers(&mut reader.buffer, name, quals, true)?;
-            Ok(())
+            apply_name_qualifiers(&mut reader.buffer, name, quals, true)
         }
         EncodingParamsCase::SomeEncodingParams => {
             let list = open_params(&mut reader.buffer, name)?;
             read_params(reader, depth, context.inside_params(end), end, false, list)?;
-            reader.found = close_params(&mut reader.buffer, reader.found, quals)?;
-            Ok(())
+            close_params(&mut reader.buffer, reader.found, quals)
         }
-    }
+    };
+    reader.found = ended?;
+    Ok(())
 }
 
 /// Reads `<encoding> ::= <special-name> | <name> [<return type>] [<parameter types>]`. If `end` is `AfterName`, reads

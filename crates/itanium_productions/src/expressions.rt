@@ -1,8 +1,8 @@
 //! Literals, external names and expressions (Itanium C++ ABI 5.1, "Expressions").
 #![tactic(auto, using(itanium_reader::proofs::Rules::buffers))]
 
-ghost use Rattle.std.specs.Prelude.{◌≡◌, ◌<◌, ◌++◌, IfOk, OnOk, length};
-ghost use Rattle.demangle_text.specs.State.{shape, IsEdit, IsLiving, IsRun, Lives, SameFrame, main_bytes};
+ghost use Rattle.std.specs.Prelude.{◌≡◌, ◌<◌, IfOk, OnOk, length};
+ghost use Rattle.demangle_text.specs.State.{shape, IsEdit, IsLiving, IsRun, Lives};
 ghost use Rattle.demangle_text.specs.Shape.{text};
 ghost use Rattle.itanium_grammar.specs.Tree.{greater_shape};
 ghost use Rattle.itanium_reader.specs.Parser as spec;

@@ -1,9 +1,8 @@
 //! Names (Itanium C++ ABI 5.1.2).
 #![tactic(auto, using(itanium_reader::proofs::Rules::buffers))]
 
-ghost use Rattle.std.specs.Prelude.{◌≡◌, ◌++◌, None, Some, IfOk, OnOk, true, false};
-ghost use Rattle.demangle_text.specs.State.{IsLiving, shape, IsRun, SameFrame, main_bytes};
-ghost use Rattle.demangle_text.specs.Shape.{text};
+ghost use Rattle.std.specs.Prelude.{◌≡◌, None, Some, IfOk, OnOk, true, false};
+ghost use Rattle.demangle_text.specs.State.{IsLiving, shape, IsRun};
 ghost use Rattle.demangle_text.specs.Calls.{IsLast};
 ghost use Rattle.itanium_syntax.specs.Names.{ordinary_case, first_segment_case, unscoped_case, first_segment_is_candidate};
 ghost use Rattle.itanium_syntax.specs.Context.{inside_lambda};

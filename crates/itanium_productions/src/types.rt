@@ -1,9 +1,8 @@
 //! Types (Itanium C++ ABI 5.1.5). Five readers aren't inlined, to keep the stack frame of other types small.
 #![tactic(auto, using(itanium_reader::proofs::Rules::buffers))]
 
-ghost use Rattle.std.specs.Prelude.{◌≡◌, ◌<◌, ◌++◌, OnOk, length, false};
-ghost use Rattle.demangle_text.specs.State.{IsLiving, shape, IsRun, SameFrame, main_bytes};
-ghost use Rattle.demangle_text.specs.Shape.{text};
+ghost use Rattle.std.specs.Prelude.{◌≡◌, ◌<◌, OnOk, length, false};
+ghost use Rattle.demangle_text.specs.State.{IsLiving, shape, IsRun};
 ghost use Rattle.itanium_syntax.specs.Args.{attached_case};
 ghost use Rattle.itanium_syntax.specs.Types.{params_case, past_cv};
 ghost use Rattle.itanium_reader.specs.Parser as spec;

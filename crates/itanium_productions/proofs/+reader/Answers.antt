@@ -3,7 +3,7 @@ use Rattle.itanium_productions.proofs.OwnQualifiers.{names}
 use Rattle.itanium_reader.proofs.Rules.{first_segments, nested_names, outer_names, unqualified_names}
 use Rattle.itanium_reader.proofs.Rules.{typed_lists, words}
 use Rattle.std.proofs.lemmas.Grind.{common_steps}
-use Rattle.std.proofs.Common.{◌≡◌, ◌<◌, ◌+◌, ◌*◌, ◌^◌, ◌∙◌, ℕ, List, [], ◌∷◌, ◌++◌, length, drop, refl, rules, sym, ap, subst, arith, append_assoc, max, true, Option, Some}
+use Rattle.std.proofs.Common.{◌≡◌, ◌<◌, ◌+◌, ◌*◌, ◌^◌, ◌∙◌, ℕ, List, [], ◌∷◌, ◌++◌, length, drop, refl, rules, sym, ap, subst, arith, append_assoc, max, Bool, true, false, ◌≤◌, Option, Some}
 use Rattle.std.proofs.Common.{codes}
 use Rattle.std.proofs.lemmas.List.{append-nil, length-append, length-drop}
 use Rattle.std.proofs.lemmas.Result.{err_from_is_err_and}
@@ -24,7 +24,7 @@ use Rattle.demangle_edit.specs.Built.{default_arg_opened, parent_opened, enclose
 use Rattle.itanium_syntax.specs.Scalars.{ordinal}
 use Rattle.itanium_syntax.specs.Encodings.{entity_case}
 use Rattle.itanium_grammar.specs.Cases.{DefaultArgumentEntity, NameEntity}
-use Rattle.itanium_reader.specs.Outcome.{state, Gives, GivesCandidate, Bounds, CostBounds, Growth, SavedBounds}
+use Rattle.itanium_reader.specs.Outcome.{state, Gives, GivesCandidate, Bounds, CostBounds, Growth, SavedBounds, ChecksWidth, LoopSoFar}
 use Rattle.itanium_reader.specs.declared.stop.Stop.{Stop}
 use Rattle.itanium_reader.specs.declared.stop.Stop.TheVariants.{Unreadable, Memory}
 use Rattle.itanium_reader.proofs.Unfold.{first_source_opens}
@@ -35,6 +35,7 @@ use Rattle.std.proofs.Common.{Ok, Err, None, Result}
 use Rattle.std.specs.Prelude.{IfOk, OnOk, IsOkUnless}
 use Rattle.itanium_reader.specs.declared.reader.Reader.{Reader}
 use Rattle.itanium_reader.specs.Parser as spec
+use Rattle.itanium_reader.specs.Parser.{is_too_wide}
 use Rattle.itanium_reader.proofs.Unfold.{stops, too_long, checked, in_any_case, on_success, thunk_read, thunk_wide}
 use Rattle.itanium_reader.proofs.Texts.{begun_front}
 use Rattle.itanium_reader.proofs.Turns.{source_segment, later_is, attached_start, attached_end, attached_more}
@@ -264,10 +265,24 @@ record LaterRead (unqualified : spec.ParsesName) (args : spec.Parses Shape) (nam
   later : IsLater unqualified args name s parsed
   given : Gives result after parsed
 
--- what a call gives that returns in time
-given_ok : {result : Result (Unit {0}) Stop} (after : Reader) {parsed : Option (Shape × spec.ParserState)} → result ≡ Ok tt → Gives result after parsed
-    → parsed ≡ Some (shape after.buffer.value after.found, state after)
-given_ok after {parsed} ok given = (subst (λ r. Gives r after parsed) ok given).1
+-- what follows for the whole: a later segment isn't read, it is too long, or the loop goes on
+module _ {whole : Option (Shape × spec.ParserState)} {unqualified : spec.ParsesName} {args : spec.Parses Shape} {candidate : Bool} {name : Shape} {s : spec.ParserState}
+    (so_far : LoopSoFar whole (spec.segment_turn unqualified args) (candidate, name) s) {result : Result (Unit {0}) Stop} {after : Reader}
+    (read : LaterRead unqualified args name s result after) where
+  segment_stops : (e : Stop) → result ≡ Err e → Gives (Err e) after whole
+  segment_stops e is = stops after e (subst (λ r. Gives r after read.parsed) is read.given)
+      (λ none. segments_none _ _ so_far read.later.goes_on (read.later.gives ∙ none))
+
+  segment_found : result ≡ Ok tt → read.parsed ≡ Some (shape after.buffer.value after.found, state after)
+  segment_found is = (subst (λ r. Gives r after read.parsed) is read.given).1
+
+  segment_wide : result ≡ Ok tt → (e : Stop) → ChecksWidth (Err e) (shape after.buffer.value after.found) → Gives (Err e) after whole
+  segment_wide is e width = too_long after (shape after.buffer.value after.found) e width (λ wide. segments_wide _ _ so_far read.later.goes_on (read.later.gives ∙ segment_found is) wide)
+
+  segment_more : {next : spec.ParserState} → result ≡ Ok tt → is_too_wide (shape after.buffer.value after.found) ≡ false → length after.rest.now < length s.rest
+      → next ≡ spec.past_initializer (spec.save (shape after.buffer.value after.found) (state after)) → length next.rest ≤ length after.rest.now
+      → LoopSoFar whole (spec.segment_turn unqualified args) (true, shape after.buffer.value after.found) next
+  segment_more is fits shorter left short = segments_read _ _ so_far read.later.goes_on (read.later.gives ∙ segment_found is) fits shorter left short
 
 pub names::read_segments-returns-in_err-read-clause-reads : goal.names::read_segments-returns-in_err-read-clause-reads
 names::read_segments-returns-in_err-read-clause-reads t c =
@@ -304,8 +319,7 @@ names::read_segments-returns-in_err-read-clause-reads t c =
     ] in
     let f = c.from_residual-in_err-read in
     let e = err_from_is_err_and f.result f.ensures.1 in
-    rw (e.1, e.2) (stops _ _ (subst (λ r. Gives r j.reader read.parsed) (c.in_err-read.was {u = tt}) read.given)
-    (λ none. segments_none _ _ c.loop-reader.invariant.reads read.later.goes_on (read.later.gives ∙ none)))
+    rw (e.1, e.2) (segment_stops c.loop-reader.invariant.reads read _ (c.in_err-read.was {u = tt}))
 
 pub names::read_segments-returns-in_err-check_width-clause-reads : goal.names::read_segments-returns-in_err-check_width-clause-reads
 names::read_segments-returns-in_err-check_width-clause-reads t c =
@@ -340,11 +354,9 @@ names::read_segments-returns-in_err-check_width-clause-reads t c =
             given = w.read_segment.ensures.reads;
           }
     ] in
-    let found = given_ok j.reader (c.in_ok-read.was {u = tt}) read.given in
     let f = c.from_residual-in_err-check_width in
     let e = err_from_is_err_and f.result f.ensures.1 in
-    rw (e.1, e.2) (too_long _ (shape j.reader.buffer.value j.reader.found) _ (c.in_err-check_width.ensures {u = tt}).fits
-    (λ wide. segments_wide _ _ c.loop-reader.invariant.reads {next = shape j.reader.buffer.value j.reader.found} {mid = state j.reader} read.later.goes_on (read.later.gives ∙ found) wide))
+    rw (e.1, e.2) (segment_wide c.loop-reader.invariant.reads read (c.in_ok-read.was {u = tt}) _ (c.in_err-check_width.ensures {u = tt}).fits)
 
 pub names::read_segments-loop-reader-preserved : goal.names::read_segments-loop-reader-preserved
 names::read_segments-loop-reader-preserved t c =
@@ -379,10 +391,9 @@ names::read_segments-loop-reader-preserved t c =
             given = w.read_segment.ensures.reads;
           }
     ] in
-    let found = given_ok j.reader (c.in_ok-read.was {u = tt}) read.given in
     let longer = length-append (saved j.reader.buffer.value) (shape j.reader.buffer.value j.reader.found ∷ []) in
     record {
-      reads = segments_read _ _ c.loop-reader.invariant.reads {next = shape j.reader.buffer.value j.reader.found} {mid = state j.reader} read.later.goes_on (read.later.gives ∙ found) (search rules) (search rules) refl (search rules);
+      reads = segment_more c.loop-reader.invariant.reads read (c.in_ok-read.was {u = tt}) (search rules) (search rules) refl (search rules);
       living = grind (arith, common_steps);
       last = grind (arith, common_steps);
       run = search rules;
