@@ -4,7 +4,7 @@
 # PREFIX needs that.
 #
 #     make -j4                                 seventeen to fifty minutes where nothing is proved yet
-#     make -j4 cosvigle                        the program alone
+#     make cosvigle                            the program alone
 #     make install PREFIX=/usr DESTDIR=/tmp/x  PREFIX: /usr/local unless given; DESTDIR: put in front, for packages;
 #                  LIBDIR=/usr/lib64           BINDIR, LIBDIR, INCLUDEDIR, MANDIR: below PREFIX unless given
 #     make uninstall                           removes what `make install` with the same variables installed
