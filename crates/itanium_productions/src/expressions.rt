@@ -9,7 +9,7 @@ ghost use Rattle.itanium_reader.specs.Parser as spec;
 ghost use Rattle.itanium_reader.specs.Outcome.{state, Gives, CountFits, TakesSome, SavedBounds};
 
 use crate::encodings::read_encoding;
-use crate::frames::{Frame, read_framed, read_worded};
+use crate::frames::{Framed, read_framed, read_worded};
 use demangle_edit::{Glue, address, glue, write_opened_literal};
 use demangle_text::{Buffer, Piece, Place};
 use itanium_reader::{ReadResult, Reader, Stop};
@@ -43,7 +43,7 @@ pub(crate) fn read_expr_primary(reader: &mut Reader, depth: usize, context: Cont
             // Most literals print their type in parentheses. The `(` is printed before the type is read, so the type
             // need not move.
             let paren = reader.buffer.push(b"(")?;
-            read_framed(reader, depth, context, Frame::TypeFrame)?;
+            read_framed(reader, depth, context, Framed::FramedType)?;
             let Some((value, rest)) = literal_value(reader.rest) else {
                 return Err(Stop::Unreadable);
             };
@@ -71,7 +71,14 @@ pub(crate) fn read_pre(reader: &mut Reader, depth: usize, context: Context) -> R
 {
     let operator = expression_text(reader.rest).as_bytes();
     reader.skip(3);
-    read_worded(reader, depth, context, operator, Frame::ExpressionFrame, b"")
+    read_worded(
+        reader,
+        depth,
+        context,
+        operator,
+        Framed::FramedExpression,
+        b"",
+    )
 }
 
 /// Reads `ad <expression>` for an external name, and prints `&` in front of it.
@@ -104,7 +111,7 @@ pub(crate) fn read_unary(reader: &mut Reader, depth: usize, context: Context) ->
 {
     let operator = expression_text(reader.rest).as_bytes();
     reader.skip(2);
-    read_worded(reader, depth, context, operator, Frame::OperandFrame, b"")
+    read_worded(reader, depth, context, operator, Framed::FramedOperand, b"")
 }
 
 /// Reads `pp <expression>` or `mm <expression>`, a postfix increment or decrement.
@@ -141,7 +148,7 @@ pub(crate) fn read_binary(reader: &mut Reader, depth: usize, context: Context) -
     reader.skip(2);
     read_operand(reader, depth, context)?;
     let left = reader.found;
-    read_framed(reader, depth, context, Frame::OperandFrame)?;
+    read_framed(reader, depth, context, Framed::FramedOperand)?;
     reader.print_binary(left, text)
 }
 
@@ -172,7 +179,7 @@ pub(crate) fn read_greater(reader: &mut Reader, depth: usize, context: Context) 
     reader.skip(2);
     read_expression(reader, depth, context)?;
     let left = reader.found;
-    read_framed(reader, depth, context, Frame::ExpressionFrame)?;
+    read_framed(reader, depth, context, Framed::FramedExpression)?;
     reader.found = join_greater(&mut reader.buffer, left, reader.found)?;
     Ok(())
 }
@@ -191,10 +198,10 @@ pub(crate) fn read_conditional(reader: &mut Reader, depth: usize, context: Conte
     reader.skip(2);
     read_operand(reader, depth, context)?;
     let condition = reader.found;
-    read_framed(reader, depth, context, Frame::OperandFrame)?;
+    read_framed(reader, depth, context, Framed::FramedOperand)?;
     reader.print_binary(condition, "?")?;
     let begun = reader.found;
-    read_framed(reader, depth, context, Frame::OperandFrame)?;
+    read_framed(reader, depth, context, Framed::FramedOperand)?;
     reader.print_binary(begun, " : ")
 }
 

@@ -15,29 +15,29 @@ use itanium_syntax::context::Context;
 
 /// What is read in a frame of its own.
 #[derive(Clone, Copy)]
-pub(crate) enum Frame {
+pub(crate) enum Framed {
     /// `<type>`
-    TypeFrame,
+    FramedType,
     /// `<name>`, whose own qualifiers are printed after it
-    NameFrame,
+    FramedName,
     /// `<expression>`
-    ExpressionFrame,
+    FramedExpression,
     /// `<expression>`, in parentheses unless it is an external name
-    OperandFrame,
+    FramedOperand,
 }
 
-/// Reads a production in a frame of its own. Pieces that lived before keep their shapes. The output afterwards is the
-/// old output followed by the text of `found`.
+/// Reads the production that `framed` names in a frame of its own. Pieces that lived before keep their shapes. The
+/// output afterwards is the old output followed by the text of `found`.
 #[cycle(reader)]
 #[inline(always)]
 pub(crate) fn read_framed(
     reader: &mut Reader,
     depth: usize,
     context: Context,
-    frame: Frame,
+    framed: Framed,
 ) -> ReadResult
     requires count_fits { CountFits 2 (state reader.old) }
-    ensures reads { Gives result reader.new (spec.parse_framed frame depth context (state reader.old)) }
+    ensures reads { Gives result reader.new (spec.parse_framed framed depth context (state reader.old)) }
     ensures kept { OnOk result (SameFrame reader.old.buffer.value reader.new.buffer.value) }
     ensures output { OnOk result (main_bytes reader.new.buffer.value
         ≡ main_bytes reader.old.buffer.value ++ text (shape reader.new.buffer.value reader.new.found)) }
@@ -45,18 +45,18 @@ pub(crate) fn read_framed(
     ensures saved { SavedBounds 0 result (state reader.old) (state reader.new) }
 {
     let mark = reader.buffer.open();
-    let read = match frame {
-        Frame::TypeFrame => read_type(reader, depth, context),
-        Frame::NameFrame => read_name(reader, depth, context, false),
-        Frame::ExpressionFrame => read_expression(reader, depth, context),
-        Frame::OperandFrame => read_operand(reader, depth, context),
+    let read = match framed {
+        Framed::FramedType => read_type(reader, depth, context),
+        Framed::FramedName => read_name(reader, depth, context, false),
+        Framed::FramedExpression => read_expression(reader, depth, context),
+        Framed::FramedOperand => read_operand(reader, depth, context),
     };
     read?;
     reader.close_found(mark)
 }
 
-/// Prints `words`, reads a production in a frame of its own, so that its text follows them and need not move, and
-/// prints `close`. Afterwards `found` is the whole.
+/// Prints `words`, reads a production in a frame of its own, and prints `close`. The production's text is printed right
+/// after the words, so it need not move. Afterwards `found` is the whole.
 #[cycle(reader)]
 #[inline(always)]
 pub(crate) fn read_worded(
@@ -64,17 +64,17 @@ pub(crate) fn read_worded(
     depth: usize,
     context: Context,
     words: &[u8],
-    frame: Frame,
+    framed: Framed,
     close: &[u8],
 ) -> ReadResult
     requires count_fits { CountFits 2 (state reader.old) }
     ensures reads { Gives result reader.new (spec.parse_between words.now
-        (spec.parse_framed frame depth context) close.now (state reader.old)) }
+        (spec.parse_framed framed depth context) close.now (state reader.old)) }
     ensures run { OnOk result (IsRun reader.old.buffer.value reader.new.buffer.value) }
     ensures bounds { TakesSome 2 result (state reader.old) (state reader.new) }
     ensures saved { SavedBounds 0 result (state reader.old) (state reader.new) }
 {
     let begun = reader.buffer.push(words)?;
-    read_framed(reader, depth, context, frame)?;
+    read_framed(reader, depth, context, framed)?;
     reader.join_words(begun, close)
 }

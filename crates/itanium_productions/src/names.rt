@@ -358,4 +358,3 @@ pub fn read_name(reader: &mut Reader, depth: usize, context: Context, bare: bool
     reader.print_quals(quals, shown)?;
     reader.check_width()
 }
-

@@ -7,7 +7,7 @@ ghost use Rattle.itanium_reader.specs.Parser as spec;
 ghost use Rattle.itanium_reader.specs.Outcome.{state, Gives, CountFits, TakesSome, SavedBounds};
 
 use crate::encodings::read_encoding;
-use crate::frames::{Frame, read_framed, read_worded};
+use crate::frames::{Framed, read_framed, read_worded};
 use crate::types::read_type;
 use itanium_reader::{ReadResult, Reader, Stop};
 use itanium_syntax::context::Context;
@@ -26,7 +26,7 @@ pub(crate) fn read_temporary(reader: &mut Reader, depth: usize, context: Context
     ensures saved { SavedBounds 1 result (state reader.old) (state reader.new) }
 {
     reader.skip(2);
-    read_framed(reader, depth, context, Frame::NameFrame)?;
+    read_framed(reader, depth, context, Framed::FramedName)?;
     reader.end_temporary()
 }
 
@@ -50,7 +50,7 @@ pub(crate) fn read_construction(reader: &mut Reader, depth: usize, context: Cont
     };
     reader.rest = rest;
     let begun = reader.buffer.push(b"construction vtable for ")?;
-    read_framed(reader, depth, context, Frame::TypeFrame)?;
+    read_framed(reader, depth, context, Framed::FramedType)?;
     let whole = reader.buffer.up_to_end(begun);
     reader.found = reader.buffer.join(whole, b"-in-", class)?;
     Ok(())
@@ -100,8 +100,8 @@ pub fn read_special_name(
     ensures saved { SavedBounds 1 result (state reader.old) (state reader.new) }
 {
     let inner = match special_case(reader.rest) {
-        SpecialCase::TypeSpecial => Frame::TypeFrame,
-        SpecialCase::NameSpecial => Frame::NameFrame,
+        SpecialCase::TypeSpecial => Framed::FramedType,
+        SpecialCase::NameSpecial => Framed::FramedName,
         SpecialCase::TemporarySpecial => return read_temporary(reader, depth, context),
         SpecialCase::ConstructionSpecial => return read_construction(reader, depth, context),
         SpecialCase::ThunkSpecial => return read_thunk(reader, depth, context, end),

@@ -9,7 +9,7 @@ ghost use Rattle.itanium_reader.specs.Parser as spec;
 ghost use Rattle.itanium_reader.specs.Outcome.{state, Gives, CountFits, TakesSome, MayTakeNone, SavedBounds};
 
 use crate::args::read_template_args;
-use crate::frames::{Frame, read_framed, read_worded};
+use crate::frames::{Framed, read_framed, read_worded};
 use crate::names::read_name;
 use demangle_edit::{
     Pointer, Quals, append_piece, close_function, expand, open_function, wrap_array, wrap_cv,
@@ -168,7 +168,7 @@ pub(crate) fn read_elaborated(reader: &mut Reader, depth: usize, context: Contex
 {
     let word = elaborated_text(reader.rest);
     reader.skip(2);
-    read_worded(reader, depth, context, word, Frame::NameFrame, b"")?;
+    read_worded(reader, depth, context, word, Framed::FramedName, b"")?;
     reader.save_found()
 }
 
@@ -189,7 +189,7 @@ pub(crate) fn read_pointer_to_member_type(
     reader.skip(1);
     read_type(reader, depth, context)?;
     let class = reader.found;
-    read_framed(reader, depth, context, Frame::TypeFrame)?;
+    read_framed(reader, depth, context, Framed::FramedType)?;
     reader.make_member_pointer(class)
 }
 
@@ -293,7 +293,7 @@ pub(crate) fn read_params(
             }
             TypeListCase::NextType => {
                 list = reader.separate_list(list, first)?;
-                read_framed(reader, depth, context, Frame::TypeFrame)?;
+                read_framed(reader, depth, context, Framed::FramedType)?;
                 list = append_piece(&mut reader.buffer, list, b"", reader.found)?;
                 if reader.is_too_wide(list) {
                     return Err(Stop::Unreadable);

@@ -1,6 +1,6 @@
 use Rattle.itanium_reader.proofs.Rules.{argument_lists, arguments, encodings, expressions, local_names, packs, primaries, specials, thunks}
 use Rattle.itanium_productions.proofs.OwnQualifiers.{names}
-use Rattle.itanium_reader.proofs.Rules.{first_segments, nested_names, outer_names, unqualified_names}
+use Rattle.itanium_reader.proofs.Rules.{nested_names, outer_names, unqualified_names}
 use Rattle.itanium_reader.proofs.Rules.{typed_lists, words}
 use Rattle.std.proofs.lemmas.Grind.{common_steps}
 use Rattle.std.proofs.Common.{◌≡◌, ◌<◌, ◌+◌, ◌*◌, ◌^◌, ◌∙◌, ℕ, List, [], ◌∷◌, ◌++◌, length, drop, refl, rules, sym, ap, subst, arith, append_assoc, max, Bool, true, false, ◌≤◌, Option, Some}
@@ -24,14 +24,10 @@ use Rattle.demangle_edit.specs.Built.{default_arg_opened, parent_opened, enclose
 use Rattle.itanium_syntax.specs.Scalars.{ordinal}
 use Rattle.itanium_syntax.specs.Encodings.{entity_case}
 use Rattle.itanium_grammar.specs.Cases.{DefaultArgumentEntity, NameEntity}
-use Rattle.itanium_reader.specs.Outcome.{state, Gives, GivesCandidate, Bounds, CostBounds, Growth, SavedBounds, ChecksWidth, LoopSoFar}
+use Rattle.itanium_reader.specs.Outcome.{state, Gives, Bounds, CostBounds, Growth, SavedBounds, ChecksWidth, LoopSoFar}
 use Rattle.itanium_reader.specs.declared.stop.Stop.{Stop}
 use Rattle.itanium_reader.specs.declared.stop.Stop.TheVariants.{Unreadable, Memory}
-use Rattle.itanium_reader.proofs.Unfold.{first_source_opens}
-use Rattle.itanium_syntax.specs.Names.{first_segment_case}
-use Rattle.itanium_syntax.specs.Calls.{begins_source}
-use Rattle.itanium_syntax.specs.declared.context.Context.{Context}
-use Rattle.std.proofs.Common.{Ok, Err, None, Result}
+use Rattle.std.proofs.Common.{Ok, Err, Result}
 use Rattle.std.specs.Prelude.{IfOk, OnOk, IsOkUnless}
 use Rattle.itanium_reader.specs.declared.reader.Reader.{Reader}
 use Rattle.itanium_reader.specs.Parser as spec
@@ -544,22 +540,6 @@ specials::read_construction-returns-clause-reads t c =
       construction_read type (state c.args.reader.now) (ap type (sym c.skip.ensures.state) ∙ class_read.reads.1) offset (ap type (sym before) ∙ base_read.reads.1) built
           ∙ ap (λ (a : spec.ParserState). Some (shape joined_in c.in_ok-reader.field-0, a)) (sym ended),
     )
-
--- a <source-name> is the first segment, and its tags aren't read
-first_untagged : (type param : spec.Parses Shape) (x : Context) (s : spec.ParserState) {name : Shape} {mid : spec.ParserState} → begins_source s.rest ≡ true
-    → spec.parse_source s ≡ Some (name, mid) → spec.parse_tags name mid ≡ None → spec.first_as (first_segment_case s.rest) (spec.parse_unqualified type param) x s ≡ None
-first_untagged type param x s begins read none = first_source_opens type param x s begins ∙ rw (read, none) refl
-
--- a <source-name> with its tags is the first segment
-first_tagged : (type param : spec.Parses Shape) (x : Context) (s : spec.ParserState) {name found : Shape} {mid after : spec.ParserState} → begins_source s.rest ≡ true
-    → spec.parse_source s ≡ Some (name, mid) → spec.parse_tags name mid ≡ Some (found, after)
-    → spec.first_as (first_segment_case s.rest) (spec.parse_unqualified type param) x s ≡ Some (found, spec.save_if true found after)
-first_tagged type param x s begins read tags = first_source_opens type param x s begins ∙ rw (read, tags) refl
-
--- a first segment isn't read where what it calls isn't
-first_stops : (after : Reader) {inner whole : Option (Shape × spec.ParserState)} (e : Stop) → Gives (Err e) after inner → (inner ≡ None → whole ≡ None) → GivesCandidate (Err e) after whole
-first_stops after Unreadable none follows = follows none
-first_stops after Memory gives follows = tt
 
 pub types::read_cv-returns-in-CvFunction-clause-reads : goal.types::read_cv-returns-in-CvFunction-clause-reads
 types::read_cv-returns-in-CvFunction-clause-reads t c = grind (arith, buffers)

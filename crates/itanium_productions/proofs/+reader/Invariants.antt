@@ -27,7 +27,7 @@ framed d = 16 * d + 1
 abbrev list : ℕ → ℕ
 list d = 16 * d + 2
 
--- what a list is put after, or what is beside something in a frame
+-- what a list is put after, or what reads something in a frame and does more
 abbrev listed : ℕ → ℕ
 listed d = 16 * d + 3
 

@@ -1,5 +1,4 @@
-use Rattle.std.proofs.Common.{◌≡◌, true, false, rules, sym, ◌∙◌}
-use Rattle.itanium_syntax.specs.Bytes.{begins}
+use Rattle.std.proofs.Common.{rules, sym, ◌∙◌}
 use Rattle.cosvigle.proofs.Steps.{name_begins, begins_not, begins_whole, begins_more}
 use Rattle.cosvigle.proofs.option_names.match_name.Goals as goal
 
