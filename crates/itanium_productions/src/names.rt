@@ -1,8 +1,9 @@
 //! Names (Itanium C++ ABI 5.1.2).
 #![tactic(auto, using(itanium_reader::proofs::Rules::buffers))]
 
-ghost use Rattle.std.specs.Prelude.{◌≡◌, None, Some, IfOk, OnOk, true, false};
-ghost use Rattle.demangle_text.specs.State.{IsLiving, shape, IsRun};
+ghost use Rattle.std.specs.Prelude.{◌≡◌, ◌++◌, None, Some, IfOk, OnOk, true, false};
+ghost use Rattle.demangle_text.specs.State.{IsLiving, shape, IsRun, SameFrame, main_bytes};
+ghost use Rattle.demangle_text.specs.Shape.{text};
 ghost use Rattle.demangle_text.specs.Calls.{IsLast};
 ghost use Rattle.itanium_syntax.specs.Names.{ordinary_case, first_segment_case, unscoped_case, first_segment_is_candidate};
 ghost use Rattle.itanium_syntax.specs.Context.{inside_lambda};
@@ -185,20 +186,32 @@ pub(crate) fn read_first_segment(
     ensures bounds { TakesSome 0 result (state reader.old) (state reader.new) }
     ensures saved { SavedBounds 1 result (state reader.old) (state reader.new) }
 {
-    let (read, candidate) = match first_segment_case(reader.rest) {
+    if begins_source(reader.rest) {
+        reader.read_source_name()?;
+        reader.read_tags()?;
+        return Ok(true);
+    }
+    match first_segment_case(reader.rest) {
         FirstSegmentCase::TemplateParamFirst => {
             reader.read_template_param(context)?;
-            (reader.copy_found_to_end(), true)
+            reader.copy_found_to_end()?;
+            Ok(true)
         }
-        FirstSegmentCase::StdFirst => (reader.read_std(), false),
+        FirstSegmentCase::StdFirst => {
+            reader.skip(2);
+            reader.found = reader.buffer.push(b"std")?;
+            Ok(false)
+        }
         FirstSegmentCase::SubstitutionFirst => {
             reader.read_substitution()?;
-            (reader.copy_found_to_end(), false)
+            reader.copy_found_to_end()?;
+            Ok(false)
         }
-        FirstSegmentCase::NameFirst => (read_unqualified_name(reader, depth, context), true),
-    };
-    read?;
-    Ok(candidate)
+        FirstSegmentCase::NameFirst => {
+            read_unqualified_name(reader, depth, context)?;
+            Ok(true)
+        }
+    }
 }
 
 /// Reads `<nested-name> ::= N [<CV-qualifiers>] [<ref-qualifier>] <prefix> E | N H <prefix> E`, after its `N`. Here
@@ -249,26 +262,27 @@ pub(crate) fn read_segments(reader: &mut Reader, depth: usize, context: Context)
 {
     let mut candidate = read_first_segment(reader, depth, context)?;
     loop {
-        let read = if begins_source(reader.rest) {
-            reader.read_source_segment(candidate)
-        } else {
-            reader.skip_initializer();
-            match segment_case(reader.rest) {
-                SegmentCase::EndOfSegments => {
-                    reader.end_nested_name(candidate);
-                    return Ok(());
-                }
-                SegmentCase::ArgsSegment => {
-                    reader.save_if(candidate)?;
-                    read_template_args(reader, depth, context, true)
-                }
-                SegmentCase::NameSegment => {
-                    reader.save_if(candidate)?;
-                    read_segment(reader, depth, context)
-                }
+        if begins_source(reader.rest) {
+            reader.read_source_segment(candidate)?;
+            reader.check_width()?;
+            candidate = true;
+            continue;
+        }
+        reader.skip_initializer();
+        match segment_case(reader.rest) {
+            SegmentCase::EndOfSegments => {
+                reader.end_nested_name(candidate);
+                return Ok(());
             }
-        };
-        read?;
+            SegmentCase::ArgsSegment => {
+                reader.save_if(candidate)?;
+                read_template_args(reader, depth, context, true)?;
+            }
+            SegmentCase::NameSegment => {
+                reader.save_if(candidate)?;
+                read_segment(reader, depth, context)?;
+            }
+        }
         reader.check_width()?;
         candidate = true;
     }
@@ -289,7 +303,8 @@ pub(crate) fn read_unscoped_name(reader: &mut Reader, depth: usize, context: Con
 {
     let read = match unscoped_case(reader.rest) {
         UnscopedCase::StdName => {
-            reader.read_std()?;
+            reader.skip(2);
+            reader.found = reader.buffer.push(b"std")?;
             read_segment(reader, depth, context)
         }
         UnscopedCase::SubstitutionName => {
@@ -330,31 +345,52 @@ pub fn read_name(reader: &mut Reader, depth: usize, context: Context, bare: bool
     ensures saved { SavedBounds 1 result (state reader.old) (state reader.new) }
 {
     let depth = reader.enter(depth)?;
-    let case = name_case(reader.rest);
-    let read = match case {
+    let shown = match name_case(reader.rest) {
         NameCase::NestedName => {
             reader.skip(1);
-            read_nested_name(reader, depth, context)
+            read_nested_name(reader, depth, context)?;
+            context.words_shown
         }
         NameCase::LocalName => {
             reader.skip(1);
-            read_local_name(reader, depth, context)
+            read_local_name(reader, depth, context)?;
+            true
         }
         NameCase::UnscopedName => {
-            let read = read_unscoped_name(reader, depth, context);
+            read_unscoped_name(reader, depth, context)?;
             reader.quals = None;
-            read
+            context.words_shown
         }
     };
-    read?;
     reader.check_width()?;
     if bare {
         return Ok(());
     }
-    let Some(quals) = reader.quals else {
-        return Ok(());
-    };
-    let shown = context.words_shown || matches!(case, NameCase::LocalName);
-    reader.print_quals(quals, shown)?;
-    reader.check_width()
+    if let Some(quals) = reader.quals {
+        reader.print_quals(quals, shown)?;
+        reader.check_width()?;
+    }
+    Ok(())
+}
+
+/// Reads a `<name>` in its own frame. Pieces that lived before keep their shapes. The output afterwards is the old
+/// output followed by the name's text.
+#[cycle(reader)]
+pub(crate) fn framed_name(
+    reader: &mut Reader,
+    depth: usize,
+    context: Context,
+    bare: bool,
+) -> ReadResult
+    requires count_fits { CountFits 1 (state reader.old) }
+    ensures reads { GivesName bare result reader.new depth context (state reader.old) }
+    ensures kept { OnOk result (SameFrame reader.old.buffer.value reader.new.buffer.value) }
+    ensures output { OnOk result (main_bytes reader.new.buffer.value
+        ≡ main_bytes reader.old.buffer.value ++ text (shape reader.new.buffer.value reader.new.found)) }
+    ensures bounds { TakesSome 1 result (state reader.old) (state reader.new) }
+    ensures saved { SavedBounds 1 result (state reader.old) (state reader.new) }
+{
+    let mark = reader.buffer.open();
+    read_name(reader, depth, context, bare)?;
+    reader.close_found(mark)
 }
