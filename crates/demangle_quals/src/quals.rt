@@ -3,7 +3,7 @@ ghost use Rattle.std.specs.Prelude.{◌≡◌};
 ghost use Rattle.demangle_quals.specs.Quals.{words_text, reference_text, has_quals, no_quals};
 
 /// The reference qualifier of a member function, the ABI's `<ref-qualifier>`.
-#[derive(Clone, Copy, Debug, PartialEq, Eq)]
+#[derive(Clone, Copy)]
 pub enum Reference {
     /// `&`
     Left,
@@ -13,7 +13,7 @@ pub enum Reference {
 
 /// The qualifiers of a type, of a member function's name or of a function type: the ABI's
 /// `<CV-qualifiers>`, and a reference qualifier if there is one.
-#[derive(Clone, Copy, Debug, PartialEq, Eq)]
+#[derive(Clone, Copy)]
 pub struct Quals {
     /// `const`
     pub constant: bool,
@@ -26,7 +26,7 @@ pub struct Quals {
 }
 
 /// A pointer, or one of the two references.
-#[derive(Clone, Copy, Debug, PartialEq, Eq)]
+#[derive(Clone, Copy)]
 pub enum Pointer {
     /// `*`
     Star,

@@ -5,7 +5,7 @@ ghost use Rattle.demangle_text.specs.Pieces.{whole_outline, outline_of, IsAt, Is
 ghost use Rattle.demangle_text.specs.Shape.{moved};
 
 /// What a declarator declares.
-#[derive(Clone, Copy, Debug, PartialEq, Eq)]
+#[derive(Clone, Copy)]
 pub enum Kind {
     /// An array, whose `after` holds its dimensions.
     Array,
@@ -14,7 +14,7 @@ pub enum Kind {
 }
 
 /// Where bytes are inserted into a text.
-#[derive(Clone, Copy, Debug, PartialEq, Eq)]
+#[derive(Clone, Copy)]
 pub enum Place {
     /// In front of the text.
     Start,

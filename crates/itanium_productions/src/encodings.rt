@@ -11,7 +11,7 @@ ghost use Rattle.itanium_grammar.specs.Cases.{AtE};
 ghost use Rattle.itanium_reader.specs.Parser as spec;
 ghost use Rattle.itanium_reader.specs.Outcome.{state, Gives, GivesBareName, Leaves, CountFits, TakesSome, MayTakeNone, SavedBounds};
 
-use crate::names::{framed_name, read_name};
+use crate::names::read_name;
 use crate::specials::read_special_name;
 use crate::types::{read_params, read_type};
 use demangle_edit::{
@@ -29,6 +29,7 @@ use itanium_syntax::numerals::ordinal;
 
 /// Reads the return type of an `<encoding>`, if there is one, and removes its text from the output. The components
 /// that it saved and the scopes that it opened stay. `templ` and `ctor` are the flags of the name in front of it.
+/// Afterwards `found` isn't the name: if a return type was read, `found` is an empty text.
 #[cycle(reader)]
 pub(crate) fn read_return(
     reader: &mut Reader,
@@ -51,9 +52,8 @@ pub(crate) fn read_return(
         ReturnCase::SomeReturnType => {
             let mark = reader.buffer.open();
             read_type(reader, depth, context)?;
-            let empty = reader.buffer.push(b"")?;
-            reader.buffer.close(mark, empty)?;
-            Ok(())
+            reader.found = reader.buffer.push(b"")?;
+            reader.close_found(mark)
         }
     }
 }
@@ -82,18 +82,18 @@ pub(crate) fn end_encoding(
     let templ = reader.buffer.templ(name);
     let ctor = reader.buffer.ctor(name);
     read_return(reader, depth, context, end, templ, ctor)?;
-    match encoding_params_case(end, reader.rest) {
+    let ended = match encoding_params_case(end, reader.rest) {
         EncodingParamsCase::NoEncodingParams => {
-            reader.found = apply_name_qualifiers(&mut reader.buffer, name, quals, true)?;
-            Ok(())
+            apply_name_qualifiers(&mut reader.buffer, name, quals, true)
         }
         EncodingParamsCase::SomeEncodingParams => {
             let list = open_params(&mut reader.buffer, name)?;
             read_params(reader, depth, context.inside_params(end), end, false, list)?;
-            reader.found = close_params(&mut reader.buffer, reader.found, quals)?;
-            Ok(())
+            close_params(&mut reader.buffer, reader.found, quals)
         }
-    }
+    };
+    reader.found = ended?;
+    Ok(())
 }
 
 /// Reads `<encoding> ::= <special-name> | <name> [<return type>] [<parameter types>]`. If `end` is `AfterName`, reads
@@ -141,12 +141,12 @@ pub(crate) fn read_entity(
     ensures bounds { TakesSome 0 result (state reader.old) (state reader.new) }
     ensures saved { SavedBounds 1 result (state reader.old) (state reader.new) }
 {
-    match entity_case(reader.rest) {
+    let opened = match entity_case(reader.rest) {
         EntityCase::StringLiteralEntity => {
             reader.skip(2);
             reader.found = reader.buffer.append(encoding, b"::string literal")?;
             reader.quals = None;
-            Ok(())
+            return Ok(());
         }
         EntityCase::DefaultArgumentEntity => {
             reader.skip(2);
@@ -154,20 +154,19 @@ pub(crate) fn read_entity(
                 return Err(Stop::Unreadable);
             };
             reader.rest = rest;
-            let opened = open_default_arg(&mut reader.buffer, encoding, number)?;
-            framed_name(reader, depth, context, true)?;
-            reader.found = close_opened(&mut reader.buffer, opened, reader.found)?;
-            Ok(())
+            open_default_arg(&mut reader.buffer, encoding, number)
         }
         EntityCase::NameEntity => {
             reader.skip(1);
-            let opened = open_parent(&mut reader.buffer, encoding)?;
-            framed_name(reader, depth, context, true)?;
-            reader.found = close_opened(&mut reader.buffer, opened, reader.found)?;
-            Ok(())
+            open_parent(&mut reader.buffer, encoding)
         }
-        EntityCase::UnreadableEntity => Err(Stop::Unreadable),
-    }
+        EntityCase::UnreadableEntity => return Err(Stop::Unreadable),
+    }?;
+    let mark = reader.buffer.open();
+    read_name(reader, depth, context, true)?;
+    reader.close_found(mark)?;
+    reader.found = close_opened(&mut reader.buffer, opened, reader.found)?;
+    Ok(())
 }
 
 /// Reads `<local-name> ::= Z <encoding> E <name> | Z <encoding> E s | Z <encoding> E d [<number>] _ <name>`, after its

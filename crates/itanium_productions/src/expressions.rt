@@ -1,15 +1,15 @@
 //! Literals, external names and expressions (Itanium C++ ABI 5.1, "Expressions").
 #![tactic(auto, using(itanium_reader::proofs::Rules::buffers))]
 
-ghost use Rattle.std.specs.Prelude.{◌≡◌, ◌<◌, ◌++◌, IfOk, OnOk, length};
-ghost use Rattle.demangle_text.specs.State.{shape, IsEdit, IsLiving, IsRun, Lives, SameFrame, main_bytes};
+ghost use Rattle.std.specs.Prelude.{◌≡◌, ◌<◌, IfOk, OnOk, length};
+ghost use Rattle.demangle_text.specs.State.{shape, IsEdit, IsLiving, IsRun, Lives};
 ghost use Rattle.demangle_text.specs.Shape.{text};
 ghost use Rattle.itanium_grammar.specs.Tree.{greater_shape};
 ghost use Rattle.itanium_reader.specs.Parser as spec;
 ghost use Rattle.itanium_reader.specs.Outcome.{state, Gives, CountFits, TakesSome, SavedBounds};
 
 use crate::encodings::read_encoding;
-use crate::types::framed_type;
+use crate::frames::{Framed, read_framed, read_worded};
 use demangle_edit::{Glue, address, glue, write_opened_literal};
 use demangle_text::{Buffer, Piece, Place};
 use itanium_reader::{ReadResult, Reader, Stop};
@@ -43,7 +43,7 @@ pub(crate) fn read_expr_primary(reader: &mut Reader, depth: usize, context: Cont
             // Most literals print their type in parentheses. The `(` is printed before the type is read, so the type
             // need not move.
             let paren = reader.buffer.push(b"(")?;
-            framed_type(reader, depth, context)?;
+            read_framed(reader, depth, context, Framed::FramedType)?;
             let Some((value, rest)) = literal_value(reader.rest) else {
                 return Err(Stop::Unreadable);
             };
@@ -60,7 +60,6 @@ pub(crate) fn read_expr_primary(reader: &mut Reader, depth: usize, context: Cont
 }
 
 /// Reads `pp_ <expression>` or `mm_ <expression>`, a prefix increment or decrement.
-#[tactic(auto, using(itanium_reader::proofs::Rules::words))]
 #[cycle(reader)]
 pub(crate) fn read_pre(reader: &mut Reader, depth: usize, context: Context) -> ReadResult
     requires count_fits { CountFits 0 (state reader.old) }
@@ -70,12 +69,16 @@ pub(crate) fn read_pre(reader: &mut Reader, depth: usize, context: Context) -> R
     ensures bounds { TakesSome 0 result (state reader.old) (state reader.new) }
     ensures saved { SavedBounds 1 result (state reader.old) (state reader.new) }
 {
-    // The operator is printed before the operand is read, so the operand's text need not move.
     let operator = expression_text(reader.rest).as_bytes();
     reader.skip(3);
-    let front = reader.buffer.push(operator)?;
-    framed_expression(reader, depth, context)?;
-    reader.join_words(front, b"")
+    read_worded(
+        reader,
+        depth,
+        context,
+        operator,
+        Framed::FramedExpression,
+        b"",
+    )
 }
 
 /// Reads `ad <expression>` for an external name, and prints `&` in front of it.
@@ -96,7 +99,6 @@ pub(crate) fn read_address(reader: &mut Reader, depth: usize, context: Context) 
 }
 
 /// Reads the two letters of a unary operator and its operand. The operator is printed in front.
-#[tactic(auto, using(itanium_reader::proofs::Rules::words))]
 #[cycle(reader)]
 pub(crate) fn read_unary(reader: &mut Reader, depth: usize, context: Context) -> ReadResult
     requires count_fits { CountFits 0 (state reader.old) }
@@ -109,9 +111,7 @@ pub(crate) fn read_unary(reader: &mut Reader, depth: usize, context: Context) ->
 {
     let operator = expression_text(reader.rest).as_bytes();
     reader.skip(2);
-    let front = reader.buffer.push(operator)?;
-    framed_operand(reader, depth, context)?;
-    reader.join_words(front, b"")
+    read_worded(reader, depth, context, operator, Framed::FramedOperand, b"")
 }
 
 /// Reads `pp <expression>` or `mm <expression>`, a postfix increment or decrement.
@@ -148,7 +148,7 @@ pub(crate) fn read_binary(reader: &mut Reader, depth: usize, context: Context) -
     reader.skip(2);
     read_operand(reader, depth, context)?;
     let left = reader.found;
-    framed_operand(reader, depth, context)?;
+    read_framed(reader, depth, context, Framed::FramedOperand)?;
     reader.print_binary(left, text)
 }
 
@@ -179,7 +179,7 @@ pub(crate) fn read_greater(reader: &mut Reader, depth: usize, context: Context) 
     reader.skip(2);
     read_expression(reader, depth, context)?;
     let left = reader.found;
-    framed_expression(reader, depth, context)?;
+    read_framed(reader, depth, context, Framed::FramedExpression)?;
     reader.found = join_greater(&mut reader.buffer, left, reader.found)?;
     Ok(())
 }
@@ -198,10 +198,10 @@ pub(crate) fn read_conditional(reader: &mut Reader, depth: usize, context: Conte
     reader.skip(2);
     read_operand(reader, depth, context)?;
     let condition = reader.found;
-    framed_operand(reader, depth, context)?;
+    read_framed(reader, depth, context, Framed::FramedOperand)?;
     reader.print_binary(condition, "?")?;
     let begun = reader.found;
-    framed_operand(reader, depth, context)?;
+    read_framed(reader, depth, context, Framed::FramedOperand)?;
     reader.print_binary(begun, " : ")
 }
 
@@ -246,39 +246,4 @@ pub(crate) fn read_operand(reader: &mut Reader, depth: usize, context: Context) 
     let paren = !is_external(reader.rest);
     read_expression(reader, depth, context)?;
     reader.print_operand(paren)
-}
-
-/// Reads an operand in its own frame. Pieces that lived before keep their shapes. The output afterwards is the old
-/// output followed by the operand's text.
-#[cycle(reader)]
-pub(crate) fn framed_operand(reader: &mut Reader, depth: usize, context: Context) -> ReadResult
-    requires count_fits { CountFits 1 (state reader.old) }
-    ensures reads { Gives result reader.new
-        (spec.operand_by (spec.parse_expression depth context) (state reader.old)) }
-    ensures kept { OnOk result (SameFrame reader.old.buffer.value reader.new.buffer.value) }
-    ensures output { OnOk result (main_bytes reader.new.buffer.value
-        ≡ main_bytes reader.old.buffer.value ++ text (shape reader.new.buffer.value reader.new.found)) }
-    ensures bounds { TakesSome 1 result (state reader.old) (state reader.new) }
-    ensures saved { SavedBounds 1 result (state reader.old) (state reader.new) }
-{
-    let mark = reader.buffer.open();
-    read_operand(reader, depth, context)?;
-    reader.close_found(mark)
-}
-
-/// Reads an `<expression>` in its own frame. Pieces that lived before keep their shapes. The output afterwards is the
-/// old output followed by the expression's text.
-#[cycle(reader)]
-pub(crate) fn framed_expression(reader: &mut Reader, depth: usize, context: Context) -> ReadResult
-    requires count_fits { CountFits 1 (state reader.old) }
-    ensures reads { Gives result reader.new (spec.parse_expression depth context (state reader.old)) }
-    ensures kept { OnOk result (SameFrame reader.old.buffer.value reader.new.buffer.value) }
-    ensures output { OnOk result (main_bytes reader.new.buffer.value
-        ≡ main_bytes reader.old.buffer.value ++ text (shape reader.new.buffer.value reader.new.found)) }
-    ensures bounds { TakesSome 1 result (state reader.old) (state reader.new) }
-    ensures saved { SavedBounds 1 result (state reader.old) (state reader.new) }
-{
-    let mark = reader.buffer.open();
-    read_expression(reader, depth, context)?;
-    reader.close_found(mark)
 }

@@ -4,7 +4,7 @@
 //! method of `Reader` in `itanium_reader`.
 //!
 //! The readers call one another, so they are proved together. Each equals its function in `specs/Parser` of
-//! `itanium_reader`. Only `itanium_demangle` uses this crate. `itanium_demangle` proves that the parser agrees with
+//! `itanium_reader`, and those of `frames.rt` equal theirs in `specs/Frames`. Only `itanium_demangle` uses this crate. `itanium_demangle` proves that the parser agrees with
 //! the grammar.
 //!
 //! The readers call the methods of `itanium_reader`. Begin with `read_name` in `names.rt`, and then read `read_type`
@@ -14,6 +14,7 @@
 mod args;
 mod encodings;
 mod expressions;
+mod frames;
 mod names;
 mod specials;
 mod types;

@@ -1,9 +1,8 @@
 //! Names (Itanium C++ ABI 5.1.2).
 #![tactic(auto, using(itanium_reader::proofs::Rules::buffers))]
 
-ghost use Rattle.std.specs.Prelude.{◌≡◌, ◌++◌, None, Some, IfOk, OnOk, true, false};
-ghost use Rattle.demangle_text.specs.State.{IsLiving, shape, IsRun, SameFrame, main_bytes};
-ghost use Rattle.demangle_text.specs.Shape.{text};
+ghost use Rattle.std.specs.Prelude.{◌≡◌, None, Some, IfOk, OnOk, true, false};
+ghost use Rattle.demangle_text.specs.State.{IsLiving, shape, IsRun};
 ghost use Rattle.demangle_text.specs.Calls.{IsLast};
 ghost use Rattle.itanium_syntax.specs.Names.{ordinary_case, first_segment_case, unscoped_case, first_segment_is_candidate};
 ghost use Rattle.itanium_syntax.specs.Context.{inside_lambda};
@@ -186,32 +185,20 @@ pub(crate) fn read_first_segment(
     ensures bounds { TakesSome 0 result (state reader.old) (state reader.new) }
     ensures saved { SavedBounds 1 result (state reader.old) (state reader.new) }
 {
-    if begins_source(reader.rest) {
-        reader.read_source_name()?;
-        reader.read_tags()?;
-        return Ok(true);
-    }
-    match first_segment_case(reader.rest) {
+    let (read, candidate) = match first_segment_case(reader.rest) {
         FirstSegmentCase::TemplateParamFirst => {
             reader.read_template_param(context)?;
-            reader.copy_found_to_end()?;
-            Ok(true)
+            (reader.copy_found_to_end(), true)
         }
-        FirstSegmentCase::StdFirst => {
-            reader.skip(2);
-            reader.found = reader.buffer.push(b"std")?;
-            Ok(false)
-        }
+        FirstSegmentCase::StdFirst => (reader.read_std(), false),
         FirstSegmentCase::SubstitutionFirst => {
             reader.read_substitution()?;
-            reader.copy_found_to_end()?;
-            Ok(false)
+            (reader.copy_found_to_end(), false)
         }
-        FirstSegmentCase::NameFirst => {
-            read_unqualified_name(reader, depth, context)?;
-            Ok(true)
-        }
-    }
+        FirstSegmentCase::NameFirst => (read_unqualified_name(reader, depth, context), true),
+    };
+    read?;
+    Ok(candidate)
 }
 
 /// Reads `<nested-name> ::= N [<CV-qualifiers>] [<ref-qualifier>] <prefix> E | N H <prefix> E`, after its `N`. Here
@@ -262,27 +249,26 @@ pub(crate) fn read_segments(reader: &mut Reader, depth: usize, context: Context)
 {
     let mut candidate = read_first_segment(reader, depth, context)?;
     loop {
-        if begins_source(reader.rest) {
-            reader.read_source_segment(candidate)?;
-            reader.check_width()?;
-            candidate = true;
-            continue;
-        }
-        reader.skip_initializer();
-        match segment_case(reader.rest) {
-            SegmentCase::EndOfSegments => {
-                reader.end_nested_name(candidate);
-                return Ok(());
+        let read = if begins_source(reader.rest) {
+            reader.read_source_segment(candidate)
+        } else {
+            reader.skip_initializer();
+            match segment_case(reader.rest) {
+                SegmentCase::EndOfSegments => {
+                    reader.end_nested_name(candidate);
+                    return Ok(());
+                }
+                SegmentCase::ArgsSegment => {
+                    reader.save_if(candidate)?;
+                    read_template_args(reader, depth, context, true)
+                }
+                SegmentCase::NameSegment => {
+                    reader.save_if(candidate)?;
+                    read_segment(reader, depth, context)
+                }
             }
-            SegmentCase::ArgsSegment => {
-                reader.save_if(candidate)?;
-                read_template_args(reader, depth, context, true)?;
-            }
-            SegmentCase::NameSegment => {
-                reader.save_if(candidate)?;
-                read_segment(reader, depth, context)?;
-            }
-        }
+        };
+        read?;
         reader.check_width()?;
         candidate = true;
     }
@@ -303,8 +289,7 @@ pub(crate) fn read_unscoped_name(reader: &mut Reader, depth: usize, context: Con
 {
     let read = match unscoped_case(reader.rest) {
         UnscopedCase::StdName => {
-            reader.skip(2);
-            reader.found = reader.buffer.push(b"std")?;
+            reader.read_std()?;
             read_segment(reader, depth, context)
         }
         UnscopedCase::SubstitutionName => {
@@ -345,52 +330,31 @@ pub fn read_name(reader: &mut Reader, depth: usize, context: Context, bare: bool
     ensures saved { SavedBounds 1 result (state reader.old) (state reader.new) }
 {
     let depth = reader.enter(depth)?;
-    let shown = match name_case(reader.rest) {
+    let case = name_case(reader.rest);
+    let read = match case {
         NameCase::NestedName => {
             reader.skip(1);
-            read_nested_name(reader, depth, context)?;
-            context.words_shown
+            read_nested_name(reader, depth, context)
         }
         NameCase::LocalName => {
             reader.skip(1);
-            read_local_name(reader, depth, context)?;
-            true
+            read_local_name(reader, depth, context)
         }
         NameCase::UnscopedName => {
-            read_unscoped_name(reader, depth, context)?;
+            let read = read_unscoped_name(reader, depth, context);
             reader.quals = None;
-            context.words_shown
+            read
         }
     };
+    read?;
     reader.check_width()?;
     if bare {
         return Ok(());
     }
-    if let Some(quals) = reader.quals {
-        reader.print_quals(quals, shown)?;
-        reader.check_width()?;
-    }
-    Ok(())
-}
-
-/// Reads a `<name>` in its own frame. Pieces that lived before keep their shapes. The output afterwards is the old
-/// output followed by the name's text.
-#[cycle(reader)]
-pub(crate) fn framed_name(
-    reader: &mut Reader,
-    depth: usize,
-    context: Context,
-    bare: bool,
-) -> ReadResult
-    requires count_fits { CountFits 1 (state reader.old) }
-    ensures reads { GivesName bare result reader.new depth context (state reader.old) }
-    ensures kept { OnOk result (SameFrame reader.old.buffer.value reader.new.buffer.value) }
-    ensures output { OnOk result (main_bytes reader.new.buffer.value
-        ≡ main_bytes reader.old.buffer.value ++ text (shape reader.new.buffer.value reader.new.found)) }
-    ensures bounds { TakesSome 1 result (state reader.old) (state reader.new) }
-    ensures saved { SavedBounds 1 result (state reader.old) (state reader.new) }
-{
-    let mark = reader.buffer.open();
-    read_name(reader, depth, context, bare)?;
-    reader.close_found(mark)
+    let Some(quals) = reader.quals else {
+        return Ok(());
+    };
+    let shown = context.words_shown || matches!(case, NameCase::LocalName);
+    reader.print_quals(quals, shown)?;
+    reader.check_width()
 }

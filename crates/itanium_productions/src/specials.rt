@@ -7,51 +7,13 @@ ghost use Rattle.itanium_reader.specs.Parser as spec;
 ghost use Rattle.itanium_reader.specs.Outcome.{state, Gives, CountFits, TakesSome, SavedBounds};
 
 use crate::encodings::read_encoding;
-use crate::names::framed_name;
-use crate::types::{framed_type, read_type};
+use crate::frames::{Framed, read_framed, read_worded};
+use crate::types::read_type;
 use itanium_reader::{ReadResult, Reader, Stop};
 use itanium_syntax::context::Context;
 use itanium_syntax::encodings::EncodingEnd;
 use itanium_syntax::offsets::past_base_offset;
 use itanium_syntax::specials::{SpecialCase, special_case, special_close, special_text};
-
-/// Reads `TV <type>`, `TT <type>`, `TI <type>`, `TS <type>` or `TF <type>`.
-#[tactic(auto, using(itanium_reader::proofs::Rules::words))]
-#[cycle(reader)]
-pub(crate) fn read_type_special(reader: &mut Reader, depth: usize, context: Context) -> ReadResult
-    requires count_fits { CountFits 0 (state reader.old) }
-    requires some { 0 < length reader.old.rest.now }
-    ensures reads { Gives result reader.new (spec.parse_worded (spec.parse_type depth context) (state reader.old)) }
-    ensures run { OnOk result (IsRun reader.old.buffer.value reader.new.buffer.value) }
-    ensures bounds { TakesSome 0 result (state reader.old) (state reader.new) }
-    ensures saved { SavedBounds 1 result (state reader.old) (state reader.new) }
-{
-    let words = special_text(reader.rest);
-    let close = special_close(reader.rest);
-    reader.skip(2);
-    let begun = reader.buffer.push(words)?;
-    framed_type(reader, depth, context)?;
-    reader.join_words(begun, close)
-}
-
-/// Reads `TH <name>`, `TW <name>` or `GV <name>`.
-#[tactic(auto, using(itanium_reader::proofs::Rules::words))]
-#[cycle(reader)]
-pub(crate) fn read_name_special(reader: &mut Reader, depth: usize, context: Context) -> ReadResult
-    requires count_fits { CountFits 0 (state reader.old) }
-    requires some { 0 < length reader.old.rest.now }
-    ensures reads { Gives result reader.new (spec.parse_worded (spec.parse_name depth context) (state reader.old)) }
-    ensures run { OnOk result (IsRun reader.old.buffer.value reader.new.buffer.value) }
-    ensures bounds { TakesSome 0 result (state reader.old) (state reader.new) }
-    ensures saved { SavedBounds 1 result (state reader.old) (state reader.new) }
-{
-    let words = special_text(reader.rest);
-    let close = special_close(reader.rest);
-    reader.skip(2);
-    let begun = reader.buffer.push(words)?;
-    framed_name(reader, depth, context, false)?;
-    reader.join_words(begun, close)
-}
 
 /// Reads `GR <name> [<seq-id>] _`, a reference temporary.
 #[cycle(reader)]
@@ -64,7 +26,7 @@ pub(crate) fn read_temporary(reader: &mut Reader, depth: usize, context: Context
     ensures saved { SavedBounds 1 result (state reader.old) (state reader.new) }
 {
     reader.skip(2);
-    framed_name(reader, depth, context, false)?;
+    read_framed(reader, depth, context, Framed::FramedName)?;
     reader.end_temporary()
 }
 
@@ -88,7 +50,7 @@ pub(crate) fn read_construction(reader: &mut Reader, depth: usize, context: Cont
     };
     reader.rest = rest;
     let begun = reader.buffer.push(b"construction vtable for ")?;
-    framed_type(reader, depth, context)?;
+    read_framed(reader, depth, context, Framed::FramedType)?;
     let whole = reader.buffer.up_to_end(begun);
     reader.found = reader.buffer.join(whole, b"-in-", class)?;
     Ok(())
@@ -137,12 +99,16 @@ pub fn read_special_name(
     ensures bounds { TakesSome 1 result (state reader.old) (state reader.new) }
     ensures saved { SavedBounds 1 result (state reader.old) (state reader.new) }
 {
-    match special_case(reader.rest) {
-        SpecialCase::TypeSpecial => read_type_special(reader, depth, context),
-        SpecialCase::NameSpecial => read_name_special(reader, depth, context),
-        SpecialCase::TemporarySpecial => read_temporary(reader, depth, context),
-        SpecialCase::ConstructionSpecial => read_construction(reader, depth, context),
-        SpecialCase::ThunkSpecial => read_thunk(reader, depth, context, end),
-        SpecialCase::UnreadableSpecial => Err(Stop::Unreadable),
-    }
+    let inner = match special_case(reader.rest) {
+        SpecialCase::TypeSpecial => Framed::FramedType,
+        SpecialCase::NameSpecial => Framed::FramedName,
+        SpecialCase::TemporarySpecial => return read_temporary(reader, depth, context),
+        SpecialCase::ConstructionSpecial => return read_construction(reader, depth, context),
+        SpecialCase::ThunkSpecial => return read_thunk(reader, depth, context, end),
+        SpecialCase::UnreadableSpecial => return Err(Stop::Unreadable),
+    };
+    let words = special_text(reader.rest);
+    let close = special_close(reader.rest);
+    reader.skip(2);
+    read_worded(reader, depth, context, words, inner, close)
 }

@@ -1,16 +1,16 @@
 //! Types (Itanium C++ ABI 5.1.5). Five readers aren't inlined, to keep the stack frame of other types small.
 #![tactic(auto, using(itanium_reader::proofs::Rules::buffers))]
 
-ghost use Rattle.std.specs.Prelude.{◌≡◌, ◌<◌, ◌++◌, OnOk, length, false};
-ghost use Rattle.demangle_text.specs.State.{IsLiving, shape, IsRun, SameFrame, main_bytes};
-ghost use Rattle.demangle_text.specs.Shape.{text};
+ghost use Rattle.std.specs.Prelude.{◌≡◌, ◌<◌, OnOk, length, false};
+ghost use Rattle.demangle_text.specs.State.{IsLiving, shape, IsRun};
 ghost use Rattle.itanium_syntax.specs.Args.{attached_case};
 ghost use Rattle.itanium_syntax.specs.Types.{params_case, past_cv};
 ghost use Rattle.itanium_reader.specs.Parser as spec;
 ghost use Rattle.itanium_reader.specs.Outcome.{state, Gives, CountFits, TakesSome, MayTakeNone, SavedBounds};
 
 use crate::args::read_template_args;
-use crate::names::{framed_name, read_name};
+use crate::frames::{Framed, read_framed, read_worded};
+use crate::names::read_name;
 use demangle_edit::{
     Pointer, Quals, append_piece, close_function, expand, open_function, wrap_array, wrap_cv,
 };
@@ -77,14 +77,8 @@ pub(crate) fn read_type(reader: &mut Reader, depth: usize, context: Context) -> 
             read_type_attached(reader, depth, context)
         }
         TypeCase::PointerType(kind) => read_pointer(reader, depth, context, kind),
-        TypeCase::CvType => {
-            read_cv(reader, depth, context)?;
-            reader.save_found()
-        }
-        TypeCase::FunctionType => {
-            read_function_type(reader, depth, context, Quals::none())?;
-            reader.save_found()
-        }
+        TypeCase::CvType => read_cv(reader, depth, context),
+        TypeCase::FunctionType => read_function_type(reader, depth, context, Quals::none()),
         TypeCase::ArrayType => read_array_type(reader, depth, context),
         TypeCase::PointerToMemberType => read_pointer_to_member_type(reader, depth, context),
         TypeCase::ExpansionType => read_expansion(reader, depth, context),
@@ -161,39 +155,21 @@ pub(crate) fn read_pointer(
     reader.make_pointer(kind)
 }
 
-/// Reads `<class-enum-type> ::= Ts <name> | Tu <name> | Te <name>`.
-#[tactic(auto, using(itanium_reader::proofs::Rules::words))]
+/// Reads `<class-enum-type> ::= Ts <name> | Tu <name> | Te <name>`, and saves it as a component.
 #[cycle(reader)]
 #[inline(never)]
 pub(crate) fn read_elaborated(reader: &mut Reader, depth: usize, context: Context) -> ReadResult
     requires count_fits { CountFits 1 (state reader.old) }
+    requires some { 0 < length reader.old.rest.now }
     ensures reads { Gives result reader.new (spec.parse_elaborated (spec.parse_name depth context) (state reader.old)) }
     ensures run { OnOk result (IsRun reader.old.buffer.value reader.new.buffer.value) }
     ensures bounds { TakesSome 1 result (state reader.old) (state reader.new) }
     ensures saved { SavedBounds 0 result (state reader.old) (state reader.new) }
 {
-    let word = reader.buffer.push(elaborated_text(reader.rest))?;
+    let word = elaborated_text(reader.rest);
     reader.skip(2);
-    framed_name(reader, depth, context, false)?;
-    reader.join_words(word, b"")?;
+    read_worded(reader, depth, context, word, Framed::FramedName, b"")?;
     reader.save_found()
-}
-
-/// Reads a `<type>` in its own frame. Pieces that lived before keep their shapes. The output afterwards is the old
-/// output followed by the type's text.
-#[cycle(reader)]
-pub(crate) fn framed_type(reader: &mut Reader, depth: usize, context: Context) -> ReadResult
-    requires count_fits { CountFits 2 (state reader.old) }
-    ensures reads { Gives result reader.new (spec.parse_type depth context (state reader.old)) }
-    ensures kept { OnOk result (SameFrame reader.old.buffer.value reader.new.buffer.value) }
-    ensures output { OnOk result (main_bytes reader.new.buffer.value
-        ≡ main_bytes reader.old.buffer.value ++ text (shape reader.new.buffer.value reader.new.found)) }
-    ensures bounds { TakesSome 2 result (state reader.old) (state reader.new) }
-    ensures saved { SavedBounds 0 result (state reader.old) (state reader.new) }
-{
-    let mark = reader.buffer.open();
-    read_type(reader, depth, context)?;
-    reader.close_found(mark)
 }
 
 /// Reads `<pointer-to-member-type> ::= M <type> <type>`: first the class, then the member's type in its own frame.
@@ -213,20 +189,22 @@ pub(crate) fn read_pointer_to_member_type(
     reader.skip(1);
     read_type(reader, depth, context)?;
     let class = reader.found;
-    framed_type(reader, depth, context)?;
+    read_framed(reader, depth, context, Framed::FramedType)?;
     reader.make_member_pointer(class)
 }
 
-/// Reads `<qualified-type> ::= <CV-qualifiers> <type>`. The qualifiers of a function type become part of that type.
+/// Reads `<qualified-type> ::= <CV-qualifiers> <type>`, and saves it as a component. The qualifiers of a function type
+/// become part of that type.
 #[cycle(reader)]
 #[inline(never)]
 pub(crate) fn read_cv(reader: &mut Reader, depth: usize, context: Context) -> ReadResult
     requires count_fits { CountFits 1 (state reader.old) }
     requires some { length (past_cv reader.old.rest.now) < length reader.old.rest.now }
-    ensures reads { Gives result reader.new (spec.parse_cv (spec.parse_type depth context) (state reader.old)) }
+    ensures reads { Gives result reader.new
+        (spec.saved_by (spec.parse_cv (spec.parse_type depth context)) (state reader.old)) }
     ensures run { OnOk result (IsRun reader.old.buffer.value reader.new.buffer.value) }
     ensures bounds { TakesSome 0 result (state reader.old) (state reader.new) }
-    ensures saved { SavedBounds 1 result (state reader.old) (state reader.new) }
+    ensures saved { SavedBounds 0 result (state reader.old) (state reader.new) }
 {
     let (quals, rest) = cv_quals(reader.rest);
     reader.rest = rest;
@@ -235,13 +213,14 @@ pub(crate) fn read_cv(reader: &mut Reader, depth: usize, context: Context) -> Re
         CvCase::CvOther => {
             read_type(reader, depth, context)?;
             reader.found = wrap_cv(&mut reader.buffer, reader.found, quals)?;
-            Ok(())
+            reader.save_found()
         }
     }
 }
 
-/// Reads `<function-type> ::= F <return type> <parameter types> [<ref-qualifier>] E`. `quals` are the qualifiers that
-/// stood in front of the `F`. Returns `Stop::Unreadable` for a function type with `Y` (extern "C").
+/// Reads `<function-type> ::= F <return type> <parameter types> [<ref-qualifier>] E`, and saves it as a component.
+/// `quals` are the qualifiers that stood in front of the `F`. Returns `Stop::Unreadable` for a function type with `Y`
+/// (extern "C").
 #[cycle(reader)]
 #[inline(never)]
 pub(crate) fn read_function_type(
@@ -252,11 +231,11 @@ pub(crate) fn read_function_type(
 ) -> ReadResult
     requires count_fits { CountFits 1 (state reader.old) }
     requires some { 0 < length reader.old.rest.now }
-    ensures reads { Gives result reader.new (spec.parse_function
-        (spec.parse_type depth context) quals (state reader.old)) }
+    ensures reads { Gives result reader.new
+        (spec.saved_by (spec.parse_function (spec.parse_type depth context) quals) (state reader.old)) }
     ensures run { OnOk result (IsRun reader.old.buffer.value reader.new.buffer.value) }
     ensures bounds { TakesSome 0 result (state reader.old) (state reader.new) }
-    ensures saved { SavedBounds 1 result (state reader.old) (state reader.new) }
+    ensures saved { SavedBounds 0 result (state reader.old) (state reader.new) }
 {
     match function_case(reader.rest) {
         FunctionCase::ExternFunction => Err(Stop::Unreadable),
@@ -273,7 +252,7 @@ pub(crate) fn read_function_type(
             reader.found = close_function(&mut reader.buffer, reader.found, front, all)?;
             reader.rest = rest;
             reader.skip(1);
-            Ok(())
+            reader.save_found()
         }
     }
 }
@@ -314,7 +293,7 @@ pub(crate) fn read_params(
             }
             TypeListCase::NextType => {
                 list = reader.separate_list(list, first)?;
-                framed_type(reader, depth, context)?;
+                read_framed(reader, depth, context, Framed::FramedType)?;
                 list = append_piece(&mut reader.buffer, list, b"", reader.found)?;
                 if reader.is_too_wide(list) {
                     return Err(Stop::Unreadable);

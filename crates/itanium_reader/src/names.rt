@@ -1,5 +1,6 @@
 //! Names (Itanium C++ ABI 5.1.2).
-ghost use Rattle.std.specs.Prelude.{◌≡◌, Some, OnOk, IsOkUnless};
+ghost use Rattle.std.specs.Prelude.{◌≡◌, Some, OnOk, IsOkUnless, codes};
+ghost use Rattle.demangle_text.specs.Shape.{plain_shape};
 ghost use Rattle.demangle_text.specs.State.{IsLiving, shape, Lives, IsRun};
 ghost use Rattle.demangle_text.specs.Calls.{IsLast};
 ghost use Rattle.demangle_edit.specs.Names.{qualified_ctor, with_name_qualifiers};
@@ -43,6 +44,19 @@ impl<'a> Reader<'a> {
         self.buffer.append_name(&mut self.found, b"::", text)?;
         self.rest = &bytes[to..];
         self.read_tags()
+    }
+
+    /// Skips the two bytes of the abbreviation `St`, and prints `std`.
+    pub fn read_std(&mut self) -> ReadResult
+        ensures shape { OnOk result (Lives self.new.buffer.value self.new.found (plain_shape (codes "std"))) }
+        ensures state { OnOk result (state self.new ≡ spec.skip 2 (state self.old)) }
+        ensures run { OnOk result (IsRun self.old.buffer.value self.new.buffer.value) }
+        ensures last { OnOk result (IsLast self.new.buffer.value self.new.found) }
+        ensures memory { IsOkUnless result Memory }
+    {
+        self.skip(2);
+        self.found = self.buffer.push(b"std")?;
+        Ok(())
     }
 
     /// Skips the two bytes of a `<ctor-dtor-name>` and replaces the class in `found` by its constructor, or by its

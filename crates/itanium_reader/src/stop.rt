@@ -5,7 +5,7 @@ ghost use Rattle.itanium_reader.specs.declared.stop.Stop.TheVariants.{Memory};
 use std::alloc::AllocError;
 
 /// Why a reader stops before its production has ended.
-#[derive(Clone, Copy, Debug, PartialEq, Eq)]
+#[derive(Clone, Copy)]
 pub enum Stop {
     /// The bytes aren't read as the production within the limits: they begin another one, or end early; an index is
     /// past the end of the table or of the scope; a type has no such form, as an array of functions; a literal isn't

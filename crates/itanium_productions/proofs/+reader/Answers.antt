@@ -1,13 +1,15 @@
 use Rattle.itanium_reader.proofs.Rules.{argument_lists, arguments, encodings, expressions, local_names, packs, primaries, specials, thunks}
 use Rattle.itanium_productions.proofs.OwnQualifiers.{names}
-use Rattle.itanium_reader.proofs.Rules.{first_segments, nested_names, outer_names, unqualified_names}
+use Rattle.itanium_reader.proofs.Rules.{nested_names, outer_names, unqualified_names}
 use Rattle.itanium_reader.proofs.Rules.{typed_lists, words}
 use Rattle.std.proofs.lemmas.Grind.{common_steps}
-use Rattle.std.proofs.Common.{◌≡◌, ◌<◌, ◌+◌, ◌*◌, ◌^◌, ◌∙◌, ℕ, List, [], ◌∷◌, ◌++◌, length, drop, refl, rules, sym, ap, subst, arith, append_assoc, max, true, Option, Some}
+use Rattle.std.proofs.Common.{◌≡◌, ◌<◌, ◌+◌, ◌*◌, ◌^◌, ◌∙◌, ℕ, List, [], ◌∷◌, ◌++◌, length, drop, refl, rules, sym, ap, subst, arith, append_assoc, max, Bool, true, false, ◌≤◌, Option, Some}
 use Rattle.std.proofs.Common.{codes}
 use Rattle.std.proofs.lemmas.List.{append-nil, length-append, length-drop}
 use Rattle.std.proofs.lemmas.Result.{err_from_is_err_and}
-use Rattle.demangle_text.specs.State.{shape, SameFrame, KeepsAll, IsEdit, IsRun, Opens, main_bytes, saved, scopes}
+use Rattle.demangle_text.specs.declared.pieces.Piece.{Piece}
+use Rattle.std.specs.declared.alloc.AllocError.{AllocError}
+use Rattle.demangle_text.specs.State.{shape, Lives, SameFrame, KeepsAll, IsEdit, IsRun, Opens, main_bytes, saved, scopes}
 use Rattle.demangle_text.specs.Shape.{Shape, plain_shape, text, text_len, appended}
 use Rattle.demangle_text.specs.Calls.{joined, text_after}
 use Rattle.demangle_text.specs.declared.buffer.Buffer.{Buffer}
@@ -17,22 +19,19 @@ use Rattle.demangle_text.proofs.Laws.{runs, IsRun-edit, IsRun-same, IsRun-trans,
 use Rattle.demangle_text.proofs.Laws.{text_after-more, text_after-same, text_after-last, text_after-follows}
 use Rattle.demangle_edit.specs.Built.{arguments_opened, separator}
 use Rattle.demangle_quals.specs.declared.quals.Quals.{Quals}
-use Rattle.demangle_edit.specs.Names.{default_arg_shape}
-use Rattle.demangle_edit.specs.Built.{default_arg_opened, enclosed}
+use Rattle.demangle_edit.specs.Names.{default_arg_shape, qualified}
+use Rattle.demangle_edit.specs.Built.{default_arg_opened, parent_opened, enclosed}
 use Rattle.itanium_syntax.specs.Scalars.{ordinal}
 use Rattle.itanium_syntax.specs.Encodings.{entity_case}
-use Rattle.itanium_grammar.specs.Cases.{DefaultArgumentEntity}
-use Rattle.itanium_reader.specs.Outcome.{state, Gives, GivesCandidate, Bounds, CostBounds}
+use Rattle.itanium_grammar.specs.Cases.{DefaultArgumentEntity, NameEntity}
+use Rattle.itanium_reader.specs.Outcome.{state, Gives, Bounds, CostBounds, Growth, SavedBounds, ChecksWidth, LoopSoFar}
 use Rattle.itanium_reader.specs.declared.stop.Stop.{Stop}
 use Rattle.itanium_reader.specs.declared.stop.Stop.TheVariants.{Unreadable, Memory}
-use Rattle.itanium_reader.proofs.Unfold.{first_source_opens}
-use Rattle.itanium_syntax.specs.Names.{first_segment_case}
-use Rattle.itanium_syntax.specs.Calls.{begins_source}
-use Rattle.itanium_syntax.specs.declared.context.Context.{Context}
-use Rattle.std.proofs.Common.{Ok, Err, None, Result}
-use Rattle.std.specs.Prelude.{OnOk, IsOkUnless}
+use Rattle.std.proofs.Common.{Ok, Err, Result}
+use Rattle.std.specs.Prelude.{IfOk, OnOk, IsOkUnless}
 use Rattle.itanium_reader.specs.declared.reader.Reader.{Reader}
 use Rattle.itanium_reader.specs.Parser as spec
+use Rattle.itanium_reader.specs.Parser.{is_too_wide}
 use Rattle.itanium_reader.proofs.Unfold.{stops, too_long, checked, in_any_case, on_success, thunk_read, thunk_wide}
 use Rattle.itanium_reader.proofs.Texts.{begun_front}
 use Rattle.itanium_reader.proofs.Turns.{source_segment, later_is, attached_start, attached_end, attached_more}
@@ -43,9 +42,10 @@ use Rattle.itanium_reader.proofs.Turns.{pack_wide, typed_wide, items_wide}
 use Rattle.itanium_syntax.specs.Context.{inside_lambda}
 use Rattle.itanium_grammar.specs.Cases.{SegmentCase, ArgsSegment, NameSegment, EndOfSegments}
 use Rattle.itanium_syntax.specs.Names.{segment_case}
-use Rattle.itanium_productions.proofs.+reader.Goals.{names::read_segments-in-ArgsSegment+in_ok-save_if-in-ArgsSegment+in_ok-read_template_args-in-ArgsSegment, names::read_segments-in-NameSegment+in_ok-save_if-in-NameSegment+in_ok-read_segment-in-NameSegment}
 use Rattle.itanium_reader.proofs.Rules.{buffers, types}
 use Rattle.itanium_grammar.specs.Tree.{worded_shape, construction_shape}
+use Rattle.itanium_productions.proofs.+reader.Goals.{names::read_segments-then-begins_source, names::read_segments-else-begins_source+in-ArgsSegment+in_ok-save_if-in-ArgsSegment, names::read_segments-else-begins_source+in-NameSegment+in_ok-save_if-in-NameSegment}
+use Rattle.itanium_productions.proofs.+reader.Goals.{encodings::read_entity-in-DefaultArgumentEntity+in-Some, encodings::read_entity-in-NameEntity}
 use Rattle.itanium_productions.proofs.+reader.Goals as goal
 
 pub args::read_template_args-loop-reader-init : goal.args::read_template_args-loop-reader-init
@@ -192,23 +192,23 @@ pub types::read_params-returns-in-EndOfTypes-clause-reads : goal.types::read_par
 types::read_params-returns-in-EndOfTypes-clause-reads t c =
     (c.loop-list.invariant.living, typed_end _ _ _ c.loop-list.invariant.reads (sym c.in-EndOfTypes.ensures.case))
 
-pub types::read_params-returns-in_err-framed_type-in-NextType-clause-reads : goal.types::read_params-returns-in_err-framed_type-in-NextType-clause-reads
-types::read_params-returns-in_err-framed_type-in-NextType-clause-reads t c =
-    let r = c.from_residual-in_err-framed_type-in-NextType in
+pub types::read_params-returns-in_err-read_framed-in-NextType-clause-reads : goal.types::read_params-returns-in_err-read_framed-in-NextType-clause-reads
+types::read_params-returns-in_err-read_framed-in-NextType-clause-reads t c =
+    let r = c.from_residual-in_err-read_framed-in-NextType in
     let e = err_from_is_err_and r.result r.ensures.1 in
-    rw (e.1, e.2) (stops _ _ (c.in_err-framed_type-in-NextType.ensures {u = tt}).reads
+    rw (e.1, e.2) (stops _ _ (c.in_err-read_framed-in-NextType.ensures {u = tt}).reads
     (λ none. typed_fail _ _ _ c.loop-list.invariant.reads (sym c.in-NextType.ensures.case) (search rules)))
 
 pub types::read_params-returns-then-is_too_wide-clause-reads : goal.types::read_params-returns-then-is_too_wide-clause-reads
 types::read_params-returns-then-is_too_wide-clause-reads t c =
-    typed_wide _ _ _ c.loop-list.invariant.reads {next = shape c.framed_type.new.reader.buffer.value c.framed_type.new.reader.found}
-    {found = shape c.append_piece.new.buf c.in_ok-list-in-NextType-2.list} {after = state c.framed_type.new.reader}
+    typed_wide _ _ _ c.loop-list.invariant.reads {next = shape c.read_framed.new.reader.buffer.value c.read_framed.new.reader.found}
+    {found = shape c.append_piece.new.buf c.in_ok-list-in-NextType-2.list} {after = state c.read_framed.new.reader}
     (sym c.in-NextType.ensures.case) (search rules) (search rules) (search rules)
 
 pub types::read_params-loop-list-preserved : goal.types::read_params-loop-list-preserved
 types::read_params-loop-list-preserved t c = record {
   reads = typed_more _ _ _ c.loop-list.invariant.reads
-      {next = shape c.framed_type.new.reader.buffer.value c.framed_type.new.reader.found}
+      {next = shape c.read_framed.new.reader.buffer.value c.read_framed.new.reader.found}
       (sym c.in-NextType.ensures.case) (search rules) (search rules) (search rules) (search rules);
   living = grind (arith, common_steps);
   run = search rules;
@@ -228,73 +228,18 @@ default_argument_found : (bare : spec.ParsesBareName) (encoding : Shape) (s : sp
     → found ≡ default_arg_shape encoding number entity → after ≡ mid → spec.entity_as (entity_case s.rest) bare encoding s ≡ Some ((found, quals), after)
 default_argument_found bare encoding s case counted read built same = rw (case, counted, read, built, same) refl
 
-pub encodings::read_entity-returns-in_ok-reader-in-DefaultArgumentEntity-clause-reads : goal.encodings::read_entity-returns-in_ok-reader-in-DefaultArgumentEntity-clause-reads
-encodings::read_entity-returns-in_ok-reader-in-DefaultArgumentEntity-clause-reads t c =
-    let entity = c.framed_name.new.reader in
-    let began = (c.in_ok-opened-in-DefaultArgumentEntity.ensures {u = tt}).shape in
-    let kept = (c.in_ok-framed_name-in-DefaultArgumentEntity.ensures {u = tt}).kept.pieces c.in_ok-opened-in-DefaultArgumentEntity.opened began.living in
-    let closed = rw c.deref_mut-in-DefaultArgumentEntity-2.ensures.value at (c.in_ok-reader-in-DefaultArgumentEntity.ensures {u = tt}).shape.shape_is in (
-      search rules,
-      default_argument_found (spec.parse_bare_name c.args.depth c.args.context)
-          (shape c.args.reader.now.buffer.value c.args.encoding) (state c.args.reader.now) {number = c.in-Some.number}
-          {rest = c.in-Some.rest.now} {entity = shape entity.buffer.value entity.found} {mid = state entity}
-          (search rules) (search rules) (search rules)
-          (closed ∙ ap (λ (s : Shape). enclosed s (shape entity.buffer.value entity.found))
-          {x = shape entity.buffer.value c.in_ok-opened-in-DefaultArgumentEntity.opened}
-          {y = default_arg_opened (shape c.args.reader.now.buffer.value c.args.encoding) c.in-Some.number}
-          (cc (kept.shape_is, began.shape_is, c.deref_mut-in-DefaultArgumentEntity.ensures.value)))
-          (search rules),
-    )
+-- another entity is found
+named_entity_found : (bare : spec.ParsesBareName) (encoding : Shape) (s : spec.ParserState) {entity found : Shape} {quals : Quals} {mid after : spec.ParserState}
+    → entity_case s.rest ≡ NameEntity → bare (spec.skip 1 s) ≡ Some ((entity, quals), mid)
+    → found ≡ qualified encoding entity → after ≡ mid → spec.entity_as (entity_case s.rest) bare encoding s ≡ Some ((found, quals), after)
+named_entity_found bare encoding s case read built same = rw (case, read, built, same) refl
 
-pub names::read_segments-returns-in_err-read_source_segment-clause-reads : goal.names::read_segments-returns-in_err-read_source_segment-clause-reads
-names::read_segments-returns-in_err-read_source_segment-clause-reads t c =
-    let type = spec.parse_type c.args.depth c.args.context in
-    let param = spec.parse_type c.args.depth (inside_lambda c.args.context) in
-    let args = spec.parse_args c.args.depth c.args.context true in
-    let r = c.loop-reader.reader in
-    let name = shape r.buffer.value r.found in
-    let case = source_segment type param args name (spec.save_if c.loop-reader.candidate name (state r)) (search rules) in
-    let f = c.from_residual-in_err-read_source_segment in
-    let e = err_from_is_err_and f.result f.ensures.1 in
-    rw (e.1, e.2) (stops _ _ (c.in_err-read_source_segment.ensures {u = tt}).reads
-    (λ none. segments_none _ _ c.loop-reader.invariant.reads case.0 (case.1 ∙ none)))
-
-pub names::read_segments-returns-in_err-check_width-clause-reads : goal.names::read_segments-returns-in_err-check_width-clause-reads
-names::read_segments-returns-in_err-check_width-clause-reads t c =
-    let type = spec.parse_type c.args.depth c.args.context in
-    let param = spec.parse_type c.args.depth (inside_lambda c.args.context) in
-    let args = spec.parse_args c.args.depth c.args.context true in
-    let r = c.loop-reader.reader in
-    let name = shape r.buffer.value r.found in
-    let case = source_segment type param args name (spec.save_if c.loop-reader.candidate name (state r)) (search rules) in
-    let new = c.read_source_segment.new.self in
-    let read = (c.in_ok-read_source_segment.ensures {u = tt}) in
-    let f = c.from_residual-in_err-check_width in
-    let e = err_from_is_err_and f.result f.ensures.1 in
-    rw (e.1, e.2) (too_long _ (shape new.buffer.value new.found) _ (c.in_err-check_width.ensures {u = tt}).fits
-    (λ wide. segments_wide _ _ c.loop-reader.invariant.reads {next = shape new.buffer.value new.found} {mid = state new} case.0 (case.1 ∙ read.reads.1) wide))
-
-pub names::read_segments-loop-reader-preserved-then-begins_source : goal.names::read_segments-loop-reader-preserved-then-begins_source
-names::read_segments-loop-reader-preserved-then-begins_source t c =
-    let type = spec.parse_type c.args.depth c.args.context in
-    let param = spec.parse_type c.args.depth (inside_lambda c.args.context) in
-    let args = spec.parse_args c.args.depth c.args.context true in
-    let r = c.loop-reader.reader in
-    let name = shape r.buffer.value r.found in
-    let case = source_segment type param args name (spec.save_if c.loop-reader.candidate name (state r)) (search rules) in
-    let new = c.read_source_segment.new.self in
-    let read = (c.in_ok-read_source_segment.ensures {u = tt}) in
-    let longer = length-append (saved new.buffer.value) (shape new.buffer.value new.found ∷ []) in
-    record {
-      reads = segments_read _ _ c.loop-reader.invariant.reads {next = shape new.buffer.value new.found} {mid = state new} case.0 (case.1 ∙ read.reads.1) (search rules)
-          (rw case.2 (search rules)) refl (search rules);
-      living = grind (arith, common_steps);
-      last = grind (arith, common_steps);
-      run = grind (arith, common_steps);
-      cost = grind (arith, common_steps);
-      list = omega (arith, longer, read.saved.list, c.loop-reader.invariant.list);
-      most = omega (arith, longer, read.saved.list, read.saved.most, c.loop-reader.invariant.list, c.loop-reader.invariant.most);
-    }
+-- what stands in front of an entity is opened, and the entity is read next
+record EntityOpens (bare : spec.ParsesBareName) (encoding : Shape) (s : spec.ParserState) (m : Reader) (opened : Piece) : Type 0 where
+  front : Shape
+  lives : Lives m.buffer.value opened front
+  gives : (entity found : Shape) (quals : Quals) (mid after : spec.ParserState) → bare (state m) ≡ Some ((entity, quals), mid) → found ≡ enclosed front entity → after ≡ mid
+      → spec.entity_as (entity_case s.rest) bare encoding s ≡ Some ((found, quals), after)
 
 pub names::read_segments-returns-in-EndOfSegments-clause-reads : goal.names::read_segments-returns-in-EndOfSegments-clause-reads
 names::read_segments-returns-in-EndOfSegments-clause-reads t c =
@@ -310,53 +255,104 @@ is_later : (unqualified : spec.ParsesName) (args : spec.Parses Shape) (name : Sh
     → segment_case s.rest ≡ case → shape r.buffer.value r.found ≡ name → state r ≡ s → IsLater unqualified args name s read
 is_later unqualified args name s case r gives goes_on there same left = record { goes_on = λ ended. goes_on (sym there ∙ ended); gives = later_is unqualified args name s there same left ∙ gives }
 
-pub names::read_segments-returns-in_err-read_template_args-in-ArgsSegment-clause-reads : goal.names::read_segments-returns-in_err-read_template_args-in-ArgsSegment-clause-reads
-names::read_segments-returns-in_err-read_template_args-in-ArgsSegment-clause-reads t c =
-    let type = spec.parse_type c.args.depth c.args.context in
-    let param = spec.parse_type c.args.depth (inside_lambda c.args.context) in
-    let args = spec.parse_args c.args.depth c.args.context true in
-    let r = c.loop-reader.reader in
-    let name = shape r.buffer.value r.found in
-    let s = spec.past_initializer (spec.save_if c.loop-reader.candidate name (state r)) in
-    let f = c.from_residual-in_err-read_template_args-in-ArgsSegment in
-    let e = err_from_is_err_and f.result f.ensures.1 in
-    rw (e.1, e.2) (stops _ _ (c.in_err-read_template_args-in-ArgsSegment.ensures {u = tt}).reads
-    (λ none. let later = is_later (spec.parse_unqualified type param) args name s ArgsSegment c.save_if.new.self none (λ ended. cc ended) (search rules) (search rules) (search rules) in
-    segments_none _ _ c.loop-reader.invariant.reads later.goes_on later.gives))
+-- what a later segment gives
+record LaterRead (unqualified : spec.ParsesName) (args : spec.Parses Shape) (name : Shape) (s : spec.ParserState) (result : Result (Unit {0}) Stop) (after : Reader) : Type 0 where
+  parsed : Option (Shape × spec.ParserState)
+  later : IsLater unqualified args name s parsed
+  given : Gives result after parsed
 
-pub names::read_segments-returns-in_err-read_segment-in-NameSegment-clause-reads : goal.names::read_segments-returns-in_err-read_segment-in-NameSegment-clause-reads
-names::read_segments-returns-in_err-read_segment-in-NameSegment-clause-reads t c =
-    let type = spec.parse_type c.args.depth c.args.context in
-    let param = spec.parse_type c.args.depth (inside_lambda c.args.context) in
-    let args = spec.parse_args c.args.depth c.args.context true in
-    let r = c.loop-reader.reader in
-    let name = shape r.buffer.value r.found in
-    let s = spec.past_initializer (spec.save_if c.loop-reader.candidate name (state r)) in
-    let f = c.from_residual-in_err-read_segment-in-NameSegment in
-    let e = err_from_is_err_and f.result f.ensures.1 in
-    rw (e.1, e.2) (stops _ _ (c.in_err-read_segment-in-NameSegment.ensures {u = tt}).reads
-    (λ none. let later = is_later (spec.parse_unqualified type param) args name s NameSegment c.save_if-in-NameSegment.new.self none (λ ended. cc ended) (search rules) (search rules) (search rules) in
-    segments_none _ _ c.loop-reader.invariant.reads later.goes_on later.gives))
+-- what follows for the whole: a later segment isn't read, it is too long, or the loop goes on
+module _ {whole : Option (Shape × spec.ParserState)} {unqualified : spec.ParsesName} {args : spec.Parses Shape} {candidate : Bool} {name : Shape} {s : spec.ParserState}
+    (so_far : LoopSoFar whole (spec.segment_turn unqualified args) (candidate, name) s) {result : Result (Unit {0}) Stop} {after : Reader}
+    (read : LaterRead unqualified args name s result after) where
+  segment_stops : (e : Stop) → result ≡ Err e → Gives (Err e) after whole
+  segment_stops e is = stops after e (subst (λ r. Gives r after read.parsed) is read.given)
+      (λ none. segments_none _ _ so_far read.later.goes_on (read.later.gives ∙ none))
 
-pub names::read_segments-returns-in_err-check_width-2-clause-reads : goal.names::read_segments-returns-in_err-check_width-2-clause-reads
-names::read_segments-returns-in_err-check_width-2-clause-reads t c =
+  segment_found : result ≡ Ok tt → read.parsed ≡ Some (shape after.buffer.value after.found, state after)
+  segment_found is = (subst (λ r. Gives r after read.parsed) is read.given).1
+
+  segment_wide : result ≡ Ok tt → (e : Stop) → ChecksWidth (Err e) (shape after.buffer.value after.found) → Gives (Err e) after whole
+  segment_wide is e width = too_long after (shape after.buffer.value after.found) e width (λ wide. segments_wide _ _ so_far read.later.goes_on (read.later.gives ∙ segment_found is) wide)
+
+  segment_more : {next : spec.ParserState} → result ≡ Ok tt → is_too_wide (shape after.buffer.value after.found) ≡ false → length after.rest.now < length s.rest
+      → next ≡ spec.past_initializer (spec.save (shape after.buffer.value after.found) (state after)) → length next.rest ≤ length after.rest.now
+      → LoopSoFar whole (spec.segment_turn unqualified args) (true, shape after.buffer.value after.found) next
+  segment_more is fits shorter left short = segments_read _ _ so_far read.later.goes_on (read.later.gives ∙ segment_found is) fits shorter left short
+
+pub names::read_segments-returns-in_err-read-clause-reads : goal.names::read_segments-returns-in_err-read-clause-reads
+names::read_segments-returns-in_err-read-clause-reads t c =
     let type = spec.parse_type c.args.depth c.args.context in
     let param = spec.parse_type c.args.depth (inside_lambda c.args.context) in
     let args = spec.parse_args c.args.depth c.args.context true in
     let r = c.loop-reader.reader in
     let name = shape r.buffer.value r.found in
-    let s = spec.past_initializer (spec.save_if c.loop-reader.candidate name (state r)) in
-    let m = c.match-segment_case.reader in
-    let later : IsLater (spec.parse_unqualified type param) args name s (Some (shape m.buffer.value m.found, state m)) = elim c.match-segment_case.branch [
-      | names::read_segments-in-ArgsSegment+in_ok-save_if-in-ArgsSegment+in_ok-read_template_args-in-ArgsSegment w ↦
-          rw w.reader-is (is_later _ args name s ArgsSegment w.save_if.new.self (w.in_ok-read_template_args-in-ArgsSegment.ensures {u = tt}).reads.1 (λ ended. cc ended) (search rules) (search rules) (search rules))
-      | names::read_segments-in-NameSegment+in_ok-save_if-in-NameSegment+in_ok-read_segment-in-NameSegment w ↦
-          rw w.reader-is (is_later _ args name s NameSegment w.save_if-in-NameSegment.new.self (w.in_ok-read_segment-in-NameSegment.ensures {u = tt}).reads.1 (λ ended. cc ended) (search rules) (search rules) (search rules))
+    let source = spec.save_if c.loop-reader.candidate name (state r) in
+    let s = spec.past_initializer source in
+    let j = c.if-begins_source in
+    let read : LaterRead (spec.parse_unqualified type param) args name s j.read j.reader = elim j.branch [
+      | names::read_segments-then-begins_source w ↦
+          let case = source_segment type param args name source (search rules) in
+          rw (w.reader-is, w.read-is) record {
+            parsed = spec.parse_source_in (Some name) source;
+            later = record { goes_on = case.0; gives = case.1 };
+            given = w.read_source_segment-read.ensures.reads;
+          }
+      | names::read_segments-else-begins_source+in-ArgsSegment+in_ok-save_if-in-ArgsSegment w ↦
+          let saved = w.save_if.new.self in
+          rw (w.reader-is, w.read-is) record {
+            parsed = spec.later_segment ArgsSegment (spec.parse_unqualified type param) args (shape saved.buffer.value saved.found) (state saved);
+            later = is_later _ args name s ArgsSegment saved refl (λ ended. cc ended) (search rules) (search rules) (search rules);
+            given = w.read_template_args.ensures.reads;
+          }
+      | names::read_segments-else-begins_source+in-NameSegment+in_ok-save_if-in-NameSegment w ↦
+          let saved = w.save_if-in-NameSegment.new.self in
+          rw (w.reader-is, w.read-is) record {
+            parsed = spec.later_segment NameSegment (spec.parse_unqualified type param) args (shape saved.buffer.value saved.found) (state saved);
+            later = is_later _ args name s NameSegment saved refl (λ ended. cc ended) (search rules) (search rules) (search rules);
+            given = w.read_segment.ensures.reads;
+          }
     ] in
-    let f = c.from_residual-in_err-check_width-2 in
+    let f = c.from_residual-in_err-read in
     let e = err_from_is_err_and f.result f.ensures.1 in
-    rw (e.1, e.2) (too_long _ (shape m.buffer.value m.found) _ (c.in_err-check_width-2.ensures {u = tt}).fits
-    (λ wide. segments_wide _ _ c.loop-reader.invariant.reads {next = shape m.buffer.value m.found} {mid = state m} later.goes_on later.gives wide))
+    rw (e.1, e.2) (segment_stops c.loop-reader.invariant.reads read _ (c.in_err-read.was {u = tt}))
+
+pub names::read_segments-returns-in_err-check_width-clause-reads : goal.names::read_segments-returns-in_err-check_width-clause-reads
+names::read_segments-returns-in_err-check_width-clause-reads t c =
+    let type = spec.parse_type c.args.depth c.args.context in
+    let param = spec.parse_type c.args.depth (inside_lambda c.args.context) in
+    let args = spec.parse_args c.args.depth c.args.context true in
+    let r = c.loop-reader.reader in
+    let name = shape r.buffer.value r.found in
+    let source = spec.save_if c.loop-reader.candidate name (state r) in
+    let s = spec.past_initializer source in
+    let j = c.if-begins_source in
+    let read : LaterRead (spec.parse_unqualified type param) args name s j.read j.reader = elim j.branch [
+      | names::read_segments-then-begins_source w ↦
+          let case = source_segment type param args name source (search rules) in
+          rw (w.reader-is, w.read-is) record {
+            parsed = spec.parse_source_in (Some name) source;
+            later = record { goes_on = case.0; gives = case.1 };
+            given = w.read_source_segment-read.ensures.reads;
+          }
+      | names::read_segments-else-begins_source+in-ArgsSegment+in_ok-save_if-in-ArgsSegment w ↦
+          let saved = w.save_if.new.self in
+          rw (w.reader-is, w.read-is) record {
+            parsed = spec.later_segment ArgsSegment (spec.parse_unqualified type param) args (shape saved.buffer.value saved.found) (state saved);
+            later = is_later _ args name s ArgsSegment saved refl (λ ended. cc ended) (search rules) (search rules) (search rules);
+            given = w.read_template_args.ensures.reads;
+          }
+      | names::read_segments-else-begins_source+in-NameSegment+in_ok-save_if-in-NameSegment w ↦
+          let saved = w.save_if-in-NameSegment.new.self in
+          rw (w.reader-is, w.read-is) record {
+            parsed = spec.later_segment NameSegment (spec.parse_unqualified type param) args (shape saved.buffer.value saved.found) (state saved);
+            later = is_later _ args name s NameSegment saved refl (λ ended. cc ended) (search rules) (search rules) (search rules);
+            given = w.read_segment.ensures.reads;
+          }
+    ] in
+    let f = c.from_residual-in_err-check_width in
+    let e = err_from_is_err_and f.result f.ensures.1 in
+    rw (e.1, e.2) (segment_wide c.loop-reader.invariant.reads read (c.in_ok-read.was {u = tt}) _ (c.in_err-check_width.ensures {u = tt}).fits)
 
 pub names::read_segments-loop-reader-preserved : goal.names::read_segments-loop-reader-preserved
 names::read_segments-loop-reader-preserved t c =
@@ -365,27 +361,45 @@ names::read_segments-loop-reader-preserved t c =
     let args = spec.parse_args c.args.depth c.args.context true in
     let r = c.loop-reader.reader in
     let name = shape r.buffer.value r.found in
-    let s = spec.past_initializer (spec.save_if c.loop-reader.candidate name (state r)) in
-    let m = c.match-segment_case.reader in
-    let later : IsLater (spec.parse_unqualified type param) args name s (Some (shape m.buffer.value m.found, state m)) = elim c.match-segment_case.branch [
-      | names::read_segments-in-ArgsSegment+in_ok-save_if-in-ArgsSegment+in_ok-read_template_args-in-ArgsSegment w ↦
-          rw w.reader-is (is_later _ args name s ArgsSegment w.save_if.new.self (w.in_ok-read_template_args-in-ArgsSegment.ensures {u = tt}).reads.1 (λ ended. cc ended) (search rules) (search rules) (search rules))
-      | names::read_segments-in-NameSegment+in_ok-save_if-in-NameSegment+in_ok-read_segment-in-NameSegment w ↦
-          rw w.reader-is (is_later _ args name s NameSegment w.save_if-in-NameSegment.new.self (w.in_ok-read_segment-in-NameSegment.ensures {u = tt}).reads.1 (λ ended. cc ended) (search rules) (search rules) (search rules))
+    let source = spec.save_if c.loop-reader.candidate name (state r) in
+    let s = spec.past_initializer source in
+    let j = c.if-begins_source in
+    let read : LaterRead (spec.parse_unqualified type param) args name s j.read j.reader = elim j.branch [
+      | names::read_segments-then-begins_source w ↦
+          let case = source_segment type param args name source (search rules) in
+          rw (w.reader-is, w.read-is) record {
+            parsed = spec.parse_source_in (Some name) source;
+            later = record { goes_on = case.0; gives = case.1 };
+            given = w.read_source_segment-read.ensures.reads;
+          }
+      | names::read_segments-else-begins_source+in-ArgsSegment+in_ok-save_if-in-ArgsSegment w ↦
+          let saved = w.save_if.new.self in
+          rw (w.reader-is, w.read-is) record {
+            parsed = spec.later_segment ArgsSegment (spec.parse_unqualified type param) args (shape saved.buffer.value saved.found) (state saved);
+            later = is_later _ args name s ArgsSegment saved refl (λ ended. cc ended) (search rules) (search rules) (search rules);
+            given = w.read_template_args.ensures.reads;
+          }
+      | names::read_segments-else-begins_source+in-NameSegment+in_ok-save_if-in-NameSegment w ↦
+          let saved = w.save_if-in-NameSegment.new.self in
+          rw (w.reader-is, w.read-is) record {
+            parsed = spec.later_segment NameSegment (spec.parse_unqualified type param) args (shape saved.buffer.value saved.found) (state saved);
+            later = is_later _ args name s NameSegment saved refl (λ ended. cc ended) (search rules) (search rules) (search rules);
+            given = w.read_segment.ensures.reads;
+          }
     ] in
-    let longer = length-append (saved m.buffer.value) (shape m.buffer.value m.found ∷ []) in
+    let longer = length-append (saved j.reader.buffer.value) (shape j.reader.buffer.value j.reader.found ∷ []) in
     record {
-      reads = segments_read _ _ c.loop-reader.invariant.reads {next = shape m.buffer.value m.found} {mid = state m} later.goes_on later.gives (search rules) (search rules) refl (search rules);
+      reads = segment_more c.loop-reader.invariant.reads read (c.in_ok-read.was {u = tt}) (search rules) (search rules) refl (search rules);
       living = grind (arith, common_steps);
       last = grind (arith, common_steps);
-      run = grind (arith, common_steps);
+      run = search rules;
       cost = grind (arith, common_steps);
       list = search (rules, longer);
       most = search (rules, longer);
     }
 
-pub specials::read_construction-framed_type-requires : goal.specials::read_construction-framed_type-requires
-specials::read_construction-framed_type-requires t c =
+pub specials::read_construction-read_framed-requires : goal.specials::read_construction-read_framed-requires
+specials::read_construction-read_framed-requires t c =
     let left = ap (λ (s : spec.ParserState). length s.rest) c.skip.ensures.state in
     let entered = ap (λ (s : spec.ParserState). s.entered) c.skip.ensures.state in
     let two = length-drop 2 c.args.reader.now.rest.now in
@@ -400,10 +414,10 @@ specials::read_construction-returns-clause-bounds t c =
     let entered = ap (λ (s : spec.ParserState). s.entered) c.skip.ensures.state in
     let two = length-drop 2 c.args.reader.now.rest.now in
     let class = (c.in_ok-read_type.ensures {u = tt}).bounds in
-    let base = (c.in_ok-framed_type.ensures {u = tt}).bounds in
+    let base = (c.in_ok-read_framed.ensures {u = tt}).bounds in
     let before = ap (λ (s : spec.ParserState). length s.scopes) c.skip.ensures.state in
     let pushed : scopes c.push.new.self ≡ scopes c.read_type.new.reader.buffer.value = cc (c.in_ok-begun.ensures.kept.lists.scopes_same, c.deref_mut.ensures.value) in
-    let joined : scopes c.join.new.self ≡ scopes c.framed_type.new.reader.buffer.value = cc (c.in_ok-reader.ensures.edit.lists.scopes_same, c.deref_mut-2.ensures.value) in
+    let joined : scopes c.join.new.self ≡ scopes c.read_framed.new.reader.buffer.value = cc (c.in_ok-reader.ensures.edit.lists.scopes_same, c.deref_mut-2.ensures.value) in
     record {
       taken = omega (arith, left, two, class.taken, base.taken, c.in-Some.ensures.shorter, c.requires.some);
       counted = omega (arith, left, entered, two, class.counted, base.counted, c.in-Some.ensures.shorter, c.requires.some);
@@ -415,11 +429,11 @@ specials::read_construction-returns-clause-saved t c =
     let left = ap (λ (s : spec.ParserState). length s.rest) c.skip.ensures.state in
     let two = length-drop 2 c.args.reader.now.rest.now in
     let class = (c.in_ok-read_type.ensures {u = tt}).saved in
-    let base = (c.in_ok-framed_type.ensures {u = tt}).saved in
+    let base = (c.in_ok-read_framed.ensures {u = tt}).saved in
     let before = ap (λ (s : spec.ParserState). length s.saved) c.skip.ensures.state in
     let most = ap (λ (s : spec.ParserState). s.most_saved) c.skip.ensures.state in
     let pushed : saved c.push.new.self ≡ saved c.read_type.new.reader.buffer.value = cc (c.in_ok-begun.ensures.kept.lists.saved_same, c.deref_mut.ensures.value) in
-    let joined : saved c.join.new.self ≡ saved c.framed_type.new.reader.buffer.value = cc (c.in_ok-reader.ensures.edit.lists.saved_same, c.deref_mut-2.ensures.value) in
+    let joined : saved c.join.new.self ≡ saved c.read_framed.new.reader.buffer.value = cc (c.in_ok-reader.ensures.edit.lists.saved_same, c.deref_mut-2.ensures.value) in
     record {
       list = omega (arith, left, two, before, class.list, ap length pushed, base.list, ap length joined, c.in-Some.ensures.shorter, c.requires.some);
       most = omega (arith, left, two, before, most, class.list, class.most, ap length pushed, base.list, base.most, ap length joined, c.in-Some.ensures.shorter);
@@ -463,19 +477,6 @@ specials::read_thunk-returns-clause-run t c =
     let first : IsRun c.args.reader.now.buffer.value opened.buffer.value = search rules in
     in_any_case c.check_width.result (IsRun-trans _ _ _ first (IsRun-trans _ _ _ (IsRun-same _ _ kept) c.in_ok-join_words.ensures.run))
 
--- an operator, and what was read right after it
-pub expressions::read_pre-join_words-requires-clause-after : goal.expressions::read_pre-join_words-requires-clause-after
-expressions::read_pre-join_words-requires-clause-after t c =
-    let front = c.in_ok-front.ensures {u = tt} in
-    text_after-follows c.push.new.self c.framed_expression.new.reader.buffer.value c.in_ok-front.front _ front.shape.living
-    (IsLast-push _ _ _ front.kept front.mark front.stands) (c.in_ok-framed_expression.ensures {u = tt}).output
-
-pub expressions::read_unary-join_words-requires-clause-after : goal.expressions::read_unary-join_words-requires-clause-after
-expressions::read_unary-join_words-requires-clause-after t c =
-    let front = c.in_ok-front.ensures {u = tt} in
-    text_after-follows c.push.new.self c.framed_operand.new.reader.buffer.value c.in_ok-front.front _ front.shape.living
-    (IsLast-push _ _ _ front.kept front.mark front.stands) (c.in_ok-framed_operand.ensures {u = tt}).output
-
 -- a construction vtable, part by part
 construction_read : (type : spec.Parses Shape) (s : spec.ParserState) {first second found : Shape} {mid after : spec.ParserState} {rest : List ℕ} → type (spec.skip 2 s) ≡ Some (first, mid)
     → past_base_offset mid.rest ≡ Some rest → type (spec.with_rest rest mid) ≡ Some (second, after) → found ≡ construction_shape second first → spec.parse_construction type s ≡ Some (found, after)
@@ -486,10 +487,10 @@ specials::read_construction-returns-clause-reads t c =
     let type = spec.parse_type c.args.depth c.args.context in
     let class_read = c.in_ok-read_type.ensures {u = tt} in
     let push = c.in_ok-begun.ensures {u = tt} in
-    let base_read = c.in_ok-framed_type.ensures {u = tt} in
+    let base_read = c.in_ok-read_framed.ensures {u = tt} in
     let join = c.in_ok-reader.ensures {u = tt} in
     let one = c.read_type.new.reader in
-    let two = c.framed_type.new.reader in
+    let two = c.read_framed.new.reader in
     let pushed = c.push.new.self in
     let joined_in = c.join.new.self in
     let b = two.buffer.value in
@@ -540,47 +541,8 @@ specials::read_construction-returns-clause-reads t c =
           ∙ ap (λ (a : spec.ParserState). Some (shape joined_in c.in_ok-reader.field-0, a)) (sym ended),
     )
 
--- a <source-name> is the first segment, and its tags aren't read
-first_untagged : (type param : spec.Parses Shape) (x : Context) (s : spec.ParserState) {name : Shape} {mid : spec.ParserState} → begins_source s.rest ≡ true
-    → spec.parse_source s ≡ Some (name, mid) → spec.parse_tags name mid ≡ None → spec.first_as (first_segment_case s.rest) (spec.parse_unqualified type param) x s ≡ None
-first_untagged type param x s begins read none = first_source_opens type param x s begins ∙ rw (read, none) refl
-
--- a <source-name> with its tags is the first segment
-first_tagged : (type param : spec.Parses Shape) (x : Context) (s : spec.ParserState) {name found : Shape} {mid after : spec.ParserState} → begins_source s.rest ≡ true
-    → spec.parse_source s ≡ Some (name, mid) → spec.parse_tags name mid ≡ Some (found, after)
-    → spec.first_as (first_segment_case s.rest) (spec.parse_unqualified type param) x s ≡ Some (found, spec.save_if true found after)
-first_tagged type param x s begins read tags = first_source_opens type param x s begins ∙ rw (read, tags) refl
-
--- a first segment isn't read where what it calls isn't
-first_stops : (after : Reader) {inner whole : Option (Shape × spec.ParserState)} (e : Stop) → Gives (Err e) after inner → (inner ≡ None → whole ≡ None) → GivesCandidate (Err e) after whole
-first_stops after Unreadable none follows = follows none
-first_stops after Memory gives follows = tt
-
-pub names::read_first_segment-returns-in_err-read_tags-clause-reads : goal.names::read_first_segment-returns-in_err-read_tags-clause-reads
-names::read_first_segment-returns-in_err-read_tags-clause-reads t c =
-    let r = c.from_residual-in_err-read_tags in
-    let e = err_from_is_err_and r.result r.ensures.1 in
-    let named = c.read_source_name.new.self in
-    rw (e.1, e.2) (first_stops _ _ (c.in_err-read_tags.ensures {u = tt}).reads
-    (λ none. first_untagged (spec.parse_type c.args.depth c.args.context) (spec.parse_type c.args.depth (inside_lambda c.args.context)) c.args.context (state c.args.reader.now)
-    {name = shape named.buffer.value named.found} {mid = state named} (search rules) (search rules) none))
-
-pub types::framed_type-read_type-requires : goal.types::framed_type-read_type-requires
-types::framed_type-read_type-requires t c = grind (arith, buffers)
-
-pub types::framed_type-returns-clause-kept : goal.types::framed_type-returns-clause-kept
-types::framed_type-returns-clause-kept t c = grind (arith, common_steps)
-
 pub types::read_cv-returns-in-CvFunction-clause-reads : goal.types::read_cv-returns-in-CvFunction-clause-reads
 types::read_cv-returns-in-CvFunction-clause-reads t c = grind (arith, buffers)
-
-pub types::read_elaborated-join_words-requires-clause-after : goal.types::read_elaborated-join_words-requires-clause-after
-types::read_elaborated-join_words-requires-clause-after t c =
-    let front = c.in_ok-word.ensures {u = tt} in
-    let named = c.framed_name.new.reader in
-    text_after-follows c.push.new.self named.buffer.value c.in_ok-word.word _ front.shape.living
-    (IsLast-push _ _ _ front.kept front.mark front.stands) (subst (λ (b : Buffer). main_bytes named.buffer.value ≡ main_bytes b ++ text (shape named.buffer.value named.found))
-    c.skip.ensures.buffer (c.in_ok-framed_name.ensures {u = tt}).output)
 
 pub types::read_expansion-returns-clause-saved : goal.types::read_expansion-returns-clause-saved
 types::read_expansion-returns-clause-saved t c = grind (arith, common_steps)
@@ -609,30 +571,9 @@ types::read_type-returns-in_err-read_template_param-in-TemplateParamType-clause-
 pub types::read_type-returns-in_err-read-clause-reads : goal.types::read_type-returns-in_err-read-clause-reads
 types::read_type-returns-in_err-read-clause-reads t c = grind (arith, types)
 
-pub types::read_type-returns-in_err-read_cv-in-CvType-clause-reads : goal.types::read_type-returns-in_err-read_cv-in-CvType-clause-reads
-types::read_type-returns-in_err-read_cv-in-CvType-clause-reads t c = grind (arith, types)
-
-pub types::read_type-returns-in_err-read_function_type-in-FunctionType-clause-reads : goal.types::read_type-returns-in_err-read_function_type-in-FunctionType-clause-reads
-types::read_type-returns-in_err-read_function_type-in-FunctionType-clause-reads t c = grind (arith, types)
-
 pub types::read_type-returns-clause-reads : goal.types::read_type-returns-clause-reads
 types::read_type-returns-clause-reads t c =
     checked c.check_width.result c.match-type_case.reader c.check_width.ensures.fits (search rules) (λ narrow. grind (arith, types)) (λ wide. grind (arith, types))
-
-pub names::framed_name-read_name-requires : goal.names::framed_name-read_name-requires
-names::framed_name-read_name-requires t c = grind (arith, buffers)
-
-pub names::framed_name-returns-clause-kept : goal.names::framed_name-returns-clause-kept
-names::framed_name-returns-clause-kept t c = grind (arith, common_steps)
-
-pub names::read_first_segment-returns-in_err-read_source_name-clause-reads : goal.names::read_first_segment-returns-in_err-read_source_name-clause-reads
-names::read_first_segment-returns-in_err-read_source_name-clause-reads t c = grind (arith, first_segments)
-
-pub names::read_first_segment-returns-in_ok-copy_found_to_end-in-TemplateParamFirst-clause-run : goal.names::read_first_segment-returns-in_ok-copy_found_to_end-in-TemplateParamFirst-clause-run
-names::read_first_segment-returns-in_ok-copy_found_to_end-in-TemplateParamFirst-clause-run t c = grind (arith, common_steps)
-
-pub names::read_first_segment-returns-in_ok-reader-in-StdFirst-clause-last : goal.names::read_first_segment-returns-in_ok-reader-in-StdFirst-clause-last
-names::read_first_segment-returns-in_ok-reader-in-StdFirst-clause-last t c = grind (arith, first_segments)
 
 pub names::read_nested_name-returns-in_err-read_segments-in-None-clause-reads : goal.names::read_nested_name-returns-in_err-read_segments-in-None-clause-reads
 names::read_nested_name-returns-in_err-read_segments-in-None-clause-reads t c = grind (arith, nested_names)
@@ -675,19 +616,8 @@ names::read_unqualified_name-returns-in_err-read-clause-reads t c = grind (arith
 pub names::read_unqualified_name-returns-clause-reads : goal.names::read_unqualified_name-returns-clause-reads
 names::read_unqualified_name-returns-clause-reads t c = grind (arith, outer_names)
 
-pub names::read_first_segment-returns-then-begins_source-clause-reads : goal.names::read_first_segment-returns-then-begins_source-clause-reads
-names::read_first_segment-returns-then-begins_source-clause-reads t c =
-    let named = c.read_source_name.new.self in (
-      search rules,
-      first_tagged (spec.parse_type c.args.depth c.args.context) (spec.parse_type c.args.depth (inside_lambda c.args.context)) c.args.context (state c.args.reader.now)
-          {name = shape named.buffer.value named.found} {mid = state named} (search rules) (search rules) (search rules),
-    )
-
 pub names::read_name-returns-then-bare-clause-reads : goal.names::read_name-returns-then-bare-clause-reads
 names::read_name-returns-then-bare-clause-reads t c = grind (arith, names)
-
-pub names::read_name-returns-in_ok-check_width-2-clause-reads : goal.names::read_name-returns-in_ok-check_width-2-clause-reads
-names::read_name-returns-in_ok-check_width-2-clause-reads t c = grind (arith, names)
 
 pub names::read_name-returns-in_default-clause-reads : goal.names::read_name-returns-in_default-clause-reads
 names::read_name-returns-in_default-clause-reads t c = grind (arith, names)
@@ -725,12 +655,6 @@ encodings::read_local_name-returns-in_err-read_encoding-clause-reads t c = grind
 pub encodings::read_local_name-returns-clause-reads : goal.encodings::read_local_name-returns-clause-reads
 encodings::read_local_name-returns-clause-reads t c = grind (arith, local_names)
 
-pub expressions::framed_expression-returns-clause-kept : goal.expressions::framed_expression-returns-clause-kept
-expressions::framed_expression-returns-clause-kept t c = grind (arith, common_steps)
-
-pub expressions::framed_operand-returns-clause-kept : goal.expressions::framed_operand-returns-clause-kept
-expressions::framed_operand-returns-clause-kept t c = grind (arith, common_steps)
-
 pub expressions::read_expr_primary-returns-in_err-read_encoding-in-ExternalName-clause-reads : goal.expressions::read_expr_primary-returns-in_err-read_encoding-in-ExternalName-clause-reads
 expressions::read_expr_primary-returns-in_err-read_encoding-in-ExternalName-clause-reads t c = grind (arith, primaries)
 
@@ -750,12 +674,6 @@ expressions::read_expression-returns-clause-reads t c =
 pub expressions::read_post-returns-clause-run : goal.expressions::read_post-returns-clause-run
 expressions::read_post-returns-clause-run t c = grind (arith, buffers)
 
-pub specials::read_name_special-join_words-requires-clause-after : goal.specials::read_name_special-join_words-requires-clause-after
-specials::read_name_special-join_words-requires-clause-after t c =
-    let front = c.in_ok-begun.ensures {u = tt} in
-    text_after-follows c.push.new.self c.framed_name.new.reader.buffer.value c.in_ok-begun.begun _ front.shape.living
-    (IsLast-push _ _ _ front.kept front.mark front.stands) (c.in_ok-framed_name.ensures {u = tt}).output
-
 pub specials::read_thunk-returns-in_err-depth-clause-reads : goal.specials::read_thunk-returns-in_err-depth-clause-reads
 specials::read_thunk-returns-in_err-depth-clause-reads t c = grind (arith, thunks)
 
@@ -764,12 +682,6 @@ specials::read_thunk-returns-in_err-open_thunk-clause-reads t c = grind (arith, 
 
 pub specials::read_thunk-returns-in_err-read_encoding-clause-reads : goal.specials::read_thunk-returns-in_err-read_encoding-clause-reads
 specials::read_thunk-returns-in_err-read_encoding-clause-reads t c = grind (arith, thunks)
-
-pub specials::read_type_special-join_words-requires-clause-after : goal.specials::read_type_special-join_words-requires-clause-after
-specials::read_type_special-join_words-requires-clause-after t c =
-    let front = c.in_ok-begun.ensures {u = tt} in
-    text_after-follows c.push.new.self c.framed_type.new.reader.buffer.value c.in_ok-begun.begun _ front.shape.living
-    (IsLast-push _ _ _ front.kept front.mark front.stands) (c.in_ok-framed_type.ensures {u = tt}).output
 
 pub args::read_template_arg-returns-clause-reads : goal.args::read_template_arg-returns-clause-reads
 args::read_template_arg-returns-clause-reads t c = grind (arith, arguments)
@@ -783,8 +695,8 @@ encodings::read_encoding-returns-in-NameEncoding-clause-reads t c = grind (arith
 pub encodings::read_encoding-returns-in_ok-read_name-in-FullEncoding-clause-reads : goal.encodings::read_encoding-returns-in_ok-read_name-in-FullEncoding-clause-reads
 encodings::read_encoding-returns-in_ok-read_name-in-FullEncoding-clause-reads t c = grind (arith, encodings)
 
-pub expressions::read_expr_primary-returns-in_err-framed_type-in-ValueLiteral-clause-reads : goal.expressions::read_expr_primary-returns-in_err-framed_type-in-ValueLiteral-clause-reads
-expressions::read_expr_primary-returns-in_err-framed_type-in-ValueLiteral-clause-reads t c = grind (arith, primaries)
+pub expressions::read_expr_primary-returns-in_err-read_framed-in-ValueLiteral-clause-reads : goal.expressions::read_expr_primary-returns-in_err-read_framed-in-ValueLiteral-clause-reads
+expressions::read_expr_primary-returns-in_err-read_framed-in-ValueLiteral-clause-reads t c = grind (arith, primaries)
 
 pub expressions::read_expr_primary-returns-in_default-clause-reads : goal.expressions::read_expr_primary-returns-in_default-clause-reads
 expressions::read_expr_primary-returns-in_default-clause-reads t c = grind (arith, primaries)
@@ -804,20 +716,8 @@ expressions::read_conditional-returns-clause-saved t c = grind (arith, buffers)
 pub names::read_name-returns-in_err-depth-clause-reads : goal.names::read_name-returns-in_err-depth-clause-reads
 names::read_name-returns-in_err-depth-clause-reads t c = grind (arith, names)
 
-pub names::read_name-returns-in_err-read_nested_name-in-NestedName-clause-reads : goal.names::read_name-returns-in_err-read_nested_name-in-NestedName-clause-reads
-names::read_name-returns-in_err-read_nested_name-in-NestedName-clause-reads t c = grind (arith, names)
-
-pub names::read_name-returns-in_err-read_local_name-in-LocalName-clause-reads : goal.names::read_name-returns-in_err-read_local_name-in-LocalName-clause-reads
-names::read_name-returns-in_err-read_local_name-in-LocalName-clause-reads t c = grind (arith, names)
-
-pub names::read_name-returns-in_err-read_unscoped_name-in-UnscopedName-clause-reads : goal.names::read_name-returns-in_err-read_unscoped_name-in-UnscopedName-clause-reads
-names::read_name-returns-in_err-read_unscoped_name-in-UnscopedName-clause-reads t c = grind (arith, names)
-
 pub names::read_name-returns-in_err-check_width-clause-reads : goal.names::read_name-returns-in_err-check_width-clause-reads
 names::read_name-returns-in_err-check_width-clause-reads t c = grind (arith, names)
-
-pub names::read_name-returns-in_err-check_width-2-clause-reads : goal.names::read_name-returns-in_err-check_width-2-clause-reads
-names::read_name-returns-in_err-check_width-2-clause-reads t c = grind (arith, names)
 
 pub args::read_template_arg-returns-in_err-read-clause-reads : goal.args::read_template_arg-returns-in_err-read-clause-reads
 args::read_template_arg-returns-in_err-read-clause-reads t c = grind (arith, arguments)
@@ -827,12 +727,6 @@ args::read_template_args-close_arguments-requires-clause-inner t c = grind (arit
 
 pub specials::read_construction-returns-clause-run : goal.specials::read_construction-returns-clause-run
 specials::read_construction-returns-clause-run t c = grind (arith, words)
-
-pub specials::read_special_name-returns-in-TypeSpecial-clause-reads : goal.specials::read_special_name-returns-in-TypeSpecial-clause-reads
-specials::read_special_name-returns-in-TypeSpecial-clause-reads t c = grind (arith, specials)
-
-pub specials::read_special_name-returns-in-NameSpecial-clause-reads : goal.specials::read_special_name-returns-in-NameSpecial-clause-reads
-specials::read_special_name-returns-in-NameSpecial-clause-reads t c = grind (arith, specials)
 
 pub specials::read_special_name-returns-in-TemporarySpecial-clause-reads : goal.specials::read_special_name-returns-in-TemporarySpecial-clause-reads
 specials::read_special_name-returns-in-TemporarySpecial-clause-reads t c = grind (arith, specials)
@@ -860,17 +754,33 @@ expressions::read_conditional-returns-clause-bounds t c =
     let before = ap (λ (s : spec.ParserState). length s.scopes) c.skip.ensures.state in
     let two = length-drop 2 c.args.reader.now.rest.now in
     let condition = (c.in_ok-read_operand.ensures {u = tt}).bounds in
-    let first = (c.in_ok-framed_operand.ensures {u = tt}).bounds in
+    let first = (c.in_ok-read_framed.ensures {u = tt}).bounds in
     let printed = (c.in_ok-print_binary.ensures {u = tt}).state in
     let printed_left = ap (λ (s : spec.ParserState). length s.rest) printed in
     let printed_entered = ap (λ (s : spec.ParserState). s.entered) printed in
     let printed_scopes = ap (λ (s : spec.ParserState). length s.scopes) printed in
-    let second = (c.in_ok-framed_operand-2.ensures {u = tt}).bounds in
+    let second = (c.in_ok-read_framed-2.ensures {u = tt}).bounds in
     edited_bounds 0 c.print_binary-2.result _ c.print_binary-2.ensures.memory c.print_binary-2.ensures.state record {
       taken = omega (arith, left, two, condition.taken, first.taken, printed_left, second.taken);
       counted = omega (arith, left, entered, two, condition.counted, first.counted, printed_left, printed_entered, second.counted, c.requires.some);
       scopes_stand = omega (arith, before, condition.scopes_stand, first.scopes_stand, printed_scopes, second.scopes_stand);
     }
+
+pub frames::read_framed-returns-clause-kept : goal.frames::read_framed-returns-clause-kept
+frames::read_framed-returns-clause-kept t c = on_success c.close_found.result (λ closed. grind (arith, common_steps)) c.close_found.ensures.closed
+
+pub frames::read_worded-join_words-requires-clause-after : goal.frames::read_worded-join_words-requires-clause-after
+frames::read_worded-join_words-requires-clause-after t c =
+    let begun = c.in_ok-begun.ensures {u = tt} in
+    text_after-follows c.push.new.self c.read_framed.new.reader.buffer.value c.in_ok-begun.begun _ begun.shape.living
+    (IsLast-push _ _ _ begun.kept begun.mark begun.stands) (c.in_ok-read_framed.ensures {u = tt}).output
+
+-- the same of how the substitution table grows
+edited_growth : (slack : ℕ) (result : Result (Unit {0}) Stop) {before mid : spec.ParserState} (after : spec.ParserState) → IsOkUnless result Memory
+    → OnOk result (after ≡ mid) → Growth slack before mid → SavedBounds slack result before after
+edited_growth slack (Ok u) {before} after memory same growth = subst (λ (s : spec.ParserState). Growth slack before s) (sym same) growth
+edited_growth slack (Err Unreadable) after memory same growth = absurd (cc memory)
+edited_growth slack (Err Memory) after memory same growth = tt
 
 pub types::read_function_type-returns-in_ok-reader-in-PlainFunction-clause-bounds : goal.types::read_function_type-returns-in_ok-reader-in-PlainFunction-clause-bounds
 types::read_function_type-returns-in_ok-reader-in-PlainFunction-clause-bounds t c =
@@ -889,7 +799,7 @@ types::read_function_type-returns-in_ok-reader-in-PlainFunction-clause-bounds t 
     let end_scopes = ap (λ (s : spec.ParserState). length s.scopes) c.skip-in-PlainFunction.ensures.state in
     let last = length-drop 1 c.ref_qualifier-reference.result.1.now in
     let within = c.ref_qualifier-reference.ensures.within in
-    record {
+    edited_bounds 0 c.save_found.result _ c.save_found.ensures.memory c.save_found.ensures.state record {
       taken = omega (arith, left, one, first.taken, params.taken, within, end_left, last, c.requires.some);
       counted = omega (arith, left, entered, one, first.counted, params.counted, within, end_left, end_entered, last, c.requires.some);
       scopes_stand = omega (arith, before, first.scopes_stand, ap length opened, params.scopes_stand, ap length closed, end_scopes);
@@ -912,7 +822,80 @@ types::read_function_type-returns-in_ok-reader-in-PlainFunction-clause-saved t c
     let end_most = ap (λ (s : spec.ParserState). s.most_saved) c.skip-in-PlainFunction.ensures.state in
     let last = length-drop 1 c.ref_qualifier-reference.result.1.now in
     let within = c.ref_qualifier-reference.ensures.within in
-    record {
-      list = omega (arith, left, one, before, first.list, ap length opened, params.list, ap length closed, within, end_left, end_saved, last, c.requires.some);
-      most = omega (arith, left, one, before, most, first.list, first.most, ap length opened, params.list, params.most, ap length closed, end_most, c.requires.some);
+    let kept = length-append (saved c.skip-in-PlainFunction.new.self.buffer.value) (shape c.skip-in-PlainFunction.new.self.buffer.value c.skip-in-PlainFunction.new.self.found ∷ []) in
+    edited_growth 0 c.save_found.result _ c.save_found.ensures.memory c.save_found.ensures.state record {
+      list = omega (arith, left, one, before, first.list, ap length opened, params.list, ap length closed, within, end_left, end_saved, last, kept, c.requires.some);
+      most = omega (arith, left, one, before, most, first.list, first.most, ap length opened, params.list, params.most, ap length closed, end_saved, end_most, kept, c.requires.some);
     }
+
+pub encodings::read_entity-returns-clause-run : goal.encodings::read_entity-returns-clause-run
+encodings::read_entity-returns-clause-run t c =
+    let m = c.match-entity_case.reader in
+    let edit : IsEdit c.args.reader.now.buffer.value m.buffer.value = elim c.match-entity_case.branch [
+      | encodings::read_entity-in-DefaultArgumentEntity+in-Some w ↦
+          let ok = sym w.branch'-is ∙ c.in_ok-opened.was {u = tt} in
+          let edits : IsEdit w.deref_mut-in-DefaultArgumentEntity.result.now w.open_default_arg.new.buf =
+          subst (λ (r : Result Piece AllocError). OnOk r (IsEdit w.deref_mut-in-DefaultArgumentEntity.result.now w.open_default_arg.new.buf)) ok w.open_default_arg.ensures.edit in
+          rw w.reader-is (search rules)
+      | encodings::read_entity-in-NameEntity w ↦
+          let ok = sym w.branch'-is ∙ c.in_ok-opened.was {u = tt} in
+          let edits : IsEdit w.deref_mut-in-NameEntity.result.now w.open_parent.new.buf =
+          subst (λ (r : Result Piece AllocError). OnOk r (IsEdit w.deref_mut-in-NameEntity.result.now w.open_parent.new.buf)) ok w.open_parent.ensures.edit in
+          rw w.reader-is (search rules)
+    ] in
+    let closed = c.close_found.new.self in
+    let opens : Opens m.buffer.value c.open-mark.new.self c.open-mark.result =
+    subst (λ (b : Buffer). Opens b c.open-mark.new.self c.open-mark.result) c.deref_mut-2.ensures.value c.open-mark.ensures.opens in
+    let since = IsSince-run _ _ _ _ (IsSince-opens _ _ _ opens) (c.in_ok-read_name.ensures {u = tt}).run in
+    let kept : SameFrame m.buffer.value closed.buffer.value = SameFrame-closed _ _ _ _ since (c.in_ok-close_found.ensures {u = tt}).closed in
+    let last : IsEdit closed.buffer.value c.close_opened.new.buf =
+    subst (λ (b : Buffer). IsEdit b c.close_opened.new.buf) c.deref_mut-3.ensures.value (c.in_ok-reader.ensures {u = tt}).edit in
+    IsRun-trans _ _ _ (IsRun-edit _ _ edit) (IsRun-trans _ _ _ (IsRun-same _ _ kept) (IsRun-edit _ _ last))
+
+pub encodings::read_entity-returns-clause-reads : goal.encodings::read_entity-returns-clause-reads
+encodings::read_entity-returns-clause-reads t c =
+    let bare = spec.parse_bare_name c.args.depth c.args.context in
+    let before = c.args.reader.now in
+    let encoding = shape before.buffer.value c.args.encoding in
+    let m = c.match-entity_case.reader in
+    let opened : EntityOpens bare encoding (state before) m c.in_ok-opened.opened = elim c.match-entity_case.branch [
+      | encodings::read_entity-in-DefaultArgumentEntity+in-Some w ↦
+          let ok = sym w.branch'-is ∙ c.in_ok-opened.was {u = tt} in
+          let edits : IsEdit w.deref_mut-in-DefaultArgumentEntity.result.now w.open_default_arg.new.buf =
+          subst (λ (r : Result Piece AllocError). OnOk r (IsEdit w.deref_mut-in-DefaultArgumentEntity.result.now w.open_default_arg.new.buf)) ok w.open_default_arg.ensures.edit in
+          let lives : Lives w.open_default_arg.new.buf c.in_ok-opened.opened (default_arg_opened (shape w.deref_mut-in-DefaultArgumentEntity.result.now c.args.encoding) w.in-Some.number) =
+          subst (λ (r : Result Piece AllocError). IfOk r (λ p. Lives w.open_default_arg.new.buf p (default_arg_opened (shape w.deref_mut-in-DefaultArgumentEntity.result.now c.args.encoding) w.in-Some.number)))
+          ok w.open_default_arg.ensures.shape in
+          rw w.reader-is record {
+            front = default_arg_opened encoding w.in-Some.number;
+            lives = search rules;
+            gives = λ entity found quals mid after read built same.
+                default_argument_found bare encoding (state before) {number = w.in-Some.number} {rest = w.in-Some.rest.now} {entity = entity} {found = found} {quals = quals} {mid = mid}
+                (search rules) (search rules) (ap bare (search rules) ∙ read) built same;
+          }
+      | encodings::read_entity-in-NameEntity w ↦
+          let ok = sym w.branch'-is ∙ c.in_ok-opened.was {u = tt} in
+          let edits : IsEdit w.deref_mut-in-NameEntity.result.now w.open_parent.new.buf =
+          subst (λ (r : Result Piece AllocError). OnOk r (IsEdit w.deref_mut-in-NameEntity.result.now w.open_parent.new.buf)) ok w.open_parent.ensures.edit in
+          let lives : Lives w.open_parent.new.buf c.in_ok-opened.opened (parent_opened (shape w.deref_mut-in-NameEntity.result.now c.args.encoding)) =
+          subst (λ (r : Result Piece AllocError). IfOk r (λ p. Lives w.open_parent.new.buf p (parent_opened (shape w.deref_mut-in-NameEntity.result.now c.args.encoding))))
+          ok w.open_parent.ensures.shape in
+          rw w.reader-is record {
+            front = parent_opened encoding;
+            lives = search rules;
+            gives = λ entity found quals mid after read built same.
+                named_entity_found bare encoding (state before) {entity = entity} {found = found} {quals = quals} {mid = mid} (search rules) (ap bare (search rules) ∙ read) built same;
+          }
+    ] in
+    let closed = c.close_found.new.self in
+    let opens : Opens m.buffer.value c.open-mark.new.self c.open-mark.result =
+    subst (λ (b : Buffer). Opens b c.open-mark.new.self c.open-mark.result) c.deref_mut-2.ensures.value c.open-mark.ensures.opens in
+    let since = IsSince-run _ _ _ _ (IsSince-opens _ _ _ opens) (c.in_ok-read_name.ensures {u = tt}).run in
+    let kept : SameFrame m.buffer.value closed.buffer.value = SameFrame-closed _ _ _ _ since (c.in_ok-close_found.ensures {u = tt}).closed in
+    let front = kept.pieces c.in_ok-opened.opened opened.lives.living in
+    let built = rw c.deref_mut-3.ensures.value at (c.in_ok-reader.ensures {u = tt}).shape.shape_is in (
+      search rules,
+      opened.gives (shape closed.buffer.value closed.found) _ _ (state closed) _ (search rules)
+          (built ∙ ap (λ (f : Shape). enclosed f (shape closed.buffer.value closed.found)) (front.shape_is ∙ opened.lives.shape_is))
+          (search rules),
+    )

@@ -23,11 +23,11 @@ production d = 16 * d
 abbrev framed : ℕ → ℕ
 framed d = 16 * d + 1
 
--- a list, or two in frames
+-- a list, or an operand in a frame
 abbrev list : ℕ → ℕ
 list d = 16 * d + 2
 
--- what a list is put after, or operands beside an operator
+-- what a list is put after, or what reads something in a frame and does more
 abbrev listed : ℕ → ℕ
 listed d = 16 * d + 3
 
@@ -142,9 +142,6 @@ invariant-args::read_template_args-loop-reader l = record {
 abbrev pub decreases-args::read_template_args-loop-reader : goal.decreases-args::read_template_args-loop-reader
 decreases-args::read_template_args-loop-reader l = length l.reader.rest.now
 
-abbrev pub decreases-types::framed_type : goal.decreases-types::framed_type
-decreases-types::framed_type l = framed l.depth
-
 abbrev pub decreases-types::read_function_type : goal.decreases-types::read_function_type
 decreases-types::read_function_type l = ended l.depth
 
@@ -152,7 +149,7 @@ abbrev pub decreases-types::read_cv : goal.decreases-types::read_cv
 decreases-types::read_cv l = ordinary_name l.depth
 
 abbrev pub decreases-types::read_pointer_to_member_type : goal.decreases-types::read_pointer_to_member_type
-decreases-types::read_pointer_to_member_type l = list l.depth
+decreases-types::read_pointer_to_member_type l = listed l.depth
 
 abbrev pub decreases-types::read_array_type : goal.decreases-types::read_array_type
 decreases-types::read_array_type l = framed l.depth
@@ -164,7 +161,7 @@ abbrev pub decreases-types::read_elaborated : goal.decreases-types::read_elabora
 decreases-types::read_elaborated l = ended l.depth
 
 abbrev pub decreases-types::read_params : goal.decreases-types::read_params
-decreases-types::read_params l = list l.depth
+decreases-types::read_params l = listed l.depth
 
 abbrev pub decreases-names::read_closure_type_name : goal.decreases-names::read_closure_type_name
 decreases-names::read_closure_type_name l = ended l.depth
@@ -183,9 +180,6 @@ decreases-names::read_segment l = segment l.depth
 
 abbrev pub decreases-names::read_ordinary_segment : goal.decreases-names::read_ordinary_segment
 decreases-names::read_ordinary_segment l = unqualified l.depth
-
-abbrev pub decreases-names::framed_name : goal.decreases-names::framed_name
-decreases-names::framed_name l = framed l.depth
 
 abbrev pub decreases-types::read_expansion : goal.decreases-types::read_expansion
 decreases-types::read_expansion l = framed l.depth
@@ -225,23 +219,11 @@ decreases-types::read_params-loop-list l = length l.reader.rest.now
 abbrev pub decreases-expressions::read_expression : goal.decreases-expressions::read_expression
 decreases-expressions::read_expression l = production l.depth
 
-abbrev pub decreases-expressions::framed_expression : goal.decreases-expressions::framed_expression
-decreases-expressions::framed_expression l = framed l.depth
-
 abbrev pub decreases-expressions::read_operand : goal.decreases-expressions::read_operand
 decreases-expressions::read_operand l = framed l.depth
 
-abbrev pub decreases-expressions::framed_operand : goal.decreases-expressions::framed_operand
-decreases-expressions::framed_operand l = list l.depth
-
-abbrev pub decreases-expressions::read_pre : goal.decreases-expressions::read_pre
-decreases-expressions::read_pre l = list l.depth
-
 abbrev pub decreases-expressions::read_address : goal.decreases-expressions::read_address
 decreases-expressions::read_address l = framed l.depth
-
-abbrev pub decreases-expressions::read_unary : goal.decreases-expressions::read_unary
-decreases-expressions::read_unary l = listed l.depth
 
 abbrev pub decreases-expressions::read_post : goal.decreases-expressions::read_post
 decreases-expressions::read_post l = listed l.depth
@@ -250,7 +232,7 @@ abbrev pub decreases-expressions::read_binary : goal.decreases-expressions::read
 decreases-expressions::read_binary l = listed l.depth
 
 abbrev pub decreases-expressions::read_greater : goal.decreases-expressions::read_greater
-decreases-expressions::read_greater l = list l.depth
+decreases-expressions::read_greater l = listed l.depth
 
 abbrev pub decreases-expressions::read_conditional : goal.decreases-expressions::read_conditional
 decreases-expressions::read_conditional l = ended l.depth
@@ -258,20 +240,26 @@ decreases-expressions::read_conditional l = ended l.depth
 abbrev pub decreases-expressions::read_expr_primary : goal.decreases-expressions::read_expr_primary
 decreases-expressions::read_expr_primary l = segment l.depth
 
-abbrev pub decreases-specials::read_type_special : goal.decreases-specials::read_type_special
-decreases-specials::read_type_special l = list l.depth
-
-abbrev pub decreases-specials::read_name_special : goal.decreases-specials::read_name_special
-decreases-specials::read_name_special l = ended l.depth
-
 abbrev pub decreases-specials::read_temporary : goal.decreases-specials::read_temporary
 decreases-specials::read_temporary l = ended l.depth
 
 abbrev pub decreases-specials::read_construction : goal.decreases-specials::read_construction
-decreases-specials::read_construction l = list l.depth
+decreases-specials::read_construction l = listed l.depth
 
 abbrev pub decreases-specials::read_thunk : goal.decreases-specials::read_thunk
 decreases-specials::read_thunk l = production l.depth
 
 abbrev pub decreases-specials::read_special_name : goal.decreases-specials::read_special_name
 decreases-specials::read_special_name l = ordinary_name l.depth
+
+abbrev pub decreases-frames::read_framed : goal.decreases-frames::read_framed
+decreases-frames::read_framed l = list l.depth
+
+abbrev pub decreases-frames::read_worded : goal.decreases-frames::read_worded
+decreases-frames::read_worded l = listed l.depth
+
+abbrev pub decreases-expressions::read_pre : goal.decreases-expressions::read_pre
+decreases-expressions::read_pre l = ended l.depth
+
+abbrev pub decreases-expressions::read_unary : goal.decreases-expressions::read_unary
+decreases-expressions::read_unary l = ended l.depth

@@ -65,7 +65,7 @@ fn must_end(
 fn must_be_function(buf: &Buffer, piece: Piece, group: bool) -> Result<(), Wrong>
     requires living { IsLiving buf.now piece }
 {
-    let holds = buf.kind(piece) == Some(Kind::Function) && buf.has_group(piece) == group;
+    let holds = matches!(buf.kind(piece), Some(Kind::Function)) && buf.has_group(piece) == group;
     must(holds, "a piece is no such function")
 }
 

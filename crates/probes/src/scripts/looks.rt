@@ -12,7 +12,7 @@ fn own_at(buf: &Buffer, piece: Piece, from: usize, to: usize) -> Option<Piece>
     requires living { IsLiving buf.now piece }
     ensures living { IfSome result (IsLiving buf.now) }
 {
-    if from > to || to > buf.len(piece) || buf.kind(piece) == Some(Kind::Function) {
+    if from > to || to > buf.len(piece) || matches!(buf.kind(piece), Some(Kind::Function)) {
         return None;
     }
     Some(buf.own_at(piece, from, to))
@@ -65,6 +65,16 @@ pub fn look(buf: &Buffer, piece: Piece, line: &Line, look: Look) -> Option<Piece
     }
 }
 
+/// Returns whether two pieces declare the same, or nothing both.
+fn are_same(one: Option<Kind>, other: Option<Kind>) -> bool {
+    matches!(
+        (one, other),
+        (None, None)
+            | (Some(Kind::Array), Some(Kind::Array))
+            | (Some(Kind::Function), Some(Kind::Function))
+    )
+}
+
 /// Returns whether the question about the piece has the answer yes.
 pub fn is_so(buf: &Buffer, piece: Piece, line: &Line, question: OfPiece) -> bool
     requires living { IsLiving buf.now piece }
@@ -73,7 +83,7 @@ pub fn is_so(buf: &Buffer, piece: Piece, line: &Line, question: OfPiece) -> bool
         OfPiece::Is => buf.bytes(piece) == line.text(0).as_bytes(),
         OfPiece::Own => buf.own_range(piece) == (line.number(2), line.number(3)),
         OfPiece::After => buf.after_at(piece) == Some(line.number(2)),
-        OfPiece::Declares(kind) => buf.kind(piece) == kind,
+        OfPiece::Declares(kind) => are_same(buf.kind(piece), kind),
         OfPiece::Grouped(group) => buf.has_group(piece) == group,
         OfPiece::Flags(templ, ctor) => buf.templ(piece) == templ && buf.ctor(piece) == ctor,
     }
