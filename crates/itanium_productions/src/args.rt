@@ -36,11 +36,11 @@ pub(crate) fn read_template_args(
     ensures bounds { TakesSome 1 result (state reader.old) (state reader.new) }
     ensures saved { SavedBounds 2 result (state reader.old) (state reader.new) }
 {
-    let depth = reader.enter(depth)?;
+    let depth = tri!(reader.enter(depth));
     reader.skip(1);
     // The arguments of a name outside of a type become a scope, to which later template parameters refer.
     let opens = context.opens_scope(of_name);
-    reader.open_scope_if(opens)?;
+    tri!(reader.open_scope_if(opens));
     let scopes = reader.buffer.scopes();
     let list = open_arguments(&mut reader.buffer, reader.found)?;
     // The text limit applies to the list from its `<` on, without the name in front.
@@ -58,9 +58,9 @@ pub(crate) fn read_template_args(
                 return Ok(());
             }
             ArgumentListCase::NextArgument => {
-                reader.separate(first)?;
-                read_template_arg(reader, depth, context)?;
-                reader.add_argument(opens, scopes)?;
+                tri!(reader.separate(first));
+                tri!(read_template_arg(reader, depth, context));
+                tri!(reader.add_argument(opens, scopes));
                 // Tested after each argument, so that the list can't grow far beyond the limit before its `E`.
                 if reader.buffer.len(reader.buffer.up_to_end(list)) > widest {
                     return Err(Stop::Unreadable);
@@ -85,7 +85,7 @@ pub(crate) fn read_argument_pack(reader: &mut Reader, depth: usize, context: Con
     ensures bounds { TakesSome 1 result (state reader.old) (state reader.new) }
     ensures saved { SavedBounds 1 result (state reader.old) (state reader.new) }
 {
-    let depth = reader.enter(depth)?;
+    let depth = tri!(reader.enter(depth));
     reader.skip(1);
     let inside = context.hiding_dots();
     let mut list = reader.buffer.push(b"")?;
@@ -99,7 +99,7 @@ pub(crate) fn read_argument_pack(reader: &mut Reader, depth: usize, context: Con
             }
             ArgumentListCase::NextArgument => {
                 list = reader.separate_list(list, first)?;
-                read_template_arg(reader, depth, inside)?;
+                tri!(read_template_arg(reader, depth, inside));
                 list = append_piece(&mut reader.buffer, list, b"", reader.found)?;
                 if reader.is_too_wide(list) {
                     return Err(Stop::Unreadable);
@@ -129,13 +129,13 @@ pub(crate) fn read_template_arg(reader: &mut Reader, depth: usize, context: Cont
         ArgumentCase::PackArgument => read_argument_pack(reader, depth, context),
         ArgumentCase::ExpressionArgument => {
             reader.skip(1);
-            read_expression(reader, depth, context)?;
+            tri!(read_expression(reader, depth, context));
             reader.read_end()
         }
         ArgumentCase::PrimaryArgument => read_expr_primary(reader, depth, context),
         ArgumentCase::ConstraintArgument => Err(Stop::Unreadable),
         ArgumentCase::TypeArgument => read_type(reader, depth, context),
     };
-    read?;
+    tri!(read);
     reader.close_found(mark)
 }

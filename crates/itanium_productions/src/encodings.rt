@@ -51,7 +51,7 @@ pub(crate) fn read_return(
         ReturnCase::NoReturnType => Ok(()),
         ReturnCase::SomeReturnType => {
             let mark = reader.buffer.open();
-            read_type(reader, depth, context)?;
+            tri!(read_type(reader, depth, context));
             reader.found = reader.buffer.push(b"")?;
             reader.close_found(mark)
         }
@@ -81,14 +81,14 @@ pub(crate) fn end_encoding(
     let quals = reader.quals.unwrap_or(Quals::none());
     let templ = reader.buffer.templ(name);
     let ctor = reader.buffer.ctor(name);
-    read_return(reader, depth, context, end, templ, ctor)?;
+    tri!(read_return(reader, depth, context, end, templ, ctor));
     let ended = match encoding_params_case(end, reader.rest) {
         EncodingParamsCase::NoEncodingParams => {
             apply_name_qualifiers(&mut reader.buffer, name, quals, true)
         }
         EncodingParamsCase::SomeEncodingParams => {
             let list = open_params(&mut reader.buffer, name)?;
-            read_params(reader, depth, context.inside_params(end), end, false, list)?;
+            tri!(read_params(reader, depth, context.inside_params(end), end, false, list));
             close_params(&mut reader.buffer, reader.found, quals)
         }
     };
@@ -116,7 +116,7 @@ pub fn read_encoding(
         EncodingCase::SpecialEncoding => read_special_name(reader, depth, context, end),
         EncodingCase::NameEncoding => read_name(reader, depth, context, false),
         EncodingCase::FullEncoding => {
-            read_name(reader, depth, context, true)?;
+            tri!(read_name(reader, depth, context, true));
             end_encoding(reader, depth, context, end, reader.found)
         }
     }
@@ -163,8 +163,8 @@ pub(crate) fn read_entity(
         EntityCase::UnreadableEntity => return Err(Stop::Unreadable),
     }?;
     let mark = reader.buffer.open();
-    read_name(reader, depth, context, true)?;
-    reader.close_found(mark)?;
+    tri!(read_name(reader, depth, context, true));
+    tri!(reader.close_found(mark));
     reader.found = close_opened(&mut reader.buffer, opened, reader.found)?;
     Ok(())
 }
@@ -181,6 +181,6 @@ pub(crate) fn read_local_name(reader: &mut Reader, depth: usize, context: Contex
     ensures bounds { TakesSome 1 result (state reader.old) (state reader.new) }
     ensures saved { SavedBounds 1 result (state reader.old) (state reader.new) }
 {
-    read_encoding(reader, depth, context.inside_encoding(), EncodingEnd::AtE)?;
+    tri!(read_encoding(reader, depth, context.inside_encoding(), EncodingEnd::AtE));
     read_entity(reader, depth, context.showing_words(), reader.found)
 }

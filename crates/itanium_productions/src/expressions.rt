@@ -35,7 +35,7 @@ pub(crate) fn read_expr_primary(reader: &mut Reader, depth: usize, context: Cont
     match primary_case(reader.rest) {
         PrimaryCase::ExternalName => {
             reader.skip(3);
-            read_encoding(reader, depth, context.inside_encoding(), EncodingEnd::AtE)?;
+            tri!(read_encoding(reader, depth, context.inside_encoding(), EncodingEnd::AtE));
             reader.read_end()
         }
         PrimaryCase::ValueLiteral => {
@@ -43,7 +43,7 @@ pub(crate) fn read_expr_primary(reader: &mut Reader, depth: usize, context: Cont
             // Most literals print their type in parentheses. The `(` is printed before the type is read, so the type
             // need not move.
             let paren = reader.buffer.push(b"(")?;
-            read_framed(reader, depth, context, Framed::FramedType)?;
+            tri!(read_framed(reader, depth, context, Framed::FramedType));
             let Some((value, rest)) = literal_value(reader.rest) else {
                 return Err(Stop::Unreadable);
             };
@@ -93,7 +93,7 @@ pub(crate) fn read_address(reader: &mut Reader, depth: usize, context: Context) 
     ensures saved { SavedBounds 1 result (state reader.old) (state reader.new) }
 {
     reader.skip(2);
-    read_expression(reader, depth, context)?;
+    tri!(read_expression(reader, depth, context));
     reader.found = address(&mut reader.buffer, reader.found)?;
     Ok(())
 }
@@ -127,7 +127,7 @@ pub(crate) fn read_post(reader: &mut Reader, depth: usize, context: Context) -> 
 {
     let text = expression_text(reader.rest);
     reader.skip(2);
-    read_operand(reader, depth, context)?;
+    tri!(read_operand(reader, depth, context));
     let parts = [Glue::Piece(reader.found), Glue::Text(text.as_bytes())];
     reader.found = glue(&mut reader.buffer, &parts)?;
     Ok(())
@@ -146,9 +146,9 @@ pub(crate) fn read_binary(reader: &mut Reader, depth: usize, context: Context) -
 {
     let text = expression_text(reader.rest);
     reader.skip(2);
-    read_operand(reader, depth, context)?;
+    tri!(read_operand(reader, depth, context));
     let left = reader.found;
-    read_framed(reader, depth, context, Framed::FramedOperand)?;
+    tri!(read_framed(reader, depth, context, Framed::FramedOperand));
     reader.print_binary(left, text)
 }
 
@@ -177,9 +177,9 @@ pub(crate) fn read_greater(reader: &mut Reader, depth: usize, context: Context) 
     ensures saved { SavedBounds 1 result (state reader.old) (state reader.new) }
 {
     reader.skip(2);
-    read_expression(reader, depth, context)?;
+    tri!(read_expression(reader, depth, context));
     let left = reader.found;
-    read_framed(reader, depth, context, Framed::FramedExpression)?;
+    tri!(read_framed(reader, depth, context, Framed::FramedExpression));
     reader.found = join_greater(&mut reader.buffer, left, reader.found)?;
     Ok(())
 }
@@ -196,12 +196,12 @@ pub(crate) fn read_conditional(reader: &mut Reader, depth: usize, context: Conte
     ensures saved { SavedBounds 1 result (state reader.old) (state reader.new) }
 {
     reader.skip(2);
-    read_operand(reader, depth, context)?;
+    tri!(read_operand(reader, depth, context));
     let condition = reader.found;
-    read_framed(reader, depth, context, Framed::FramedOperand)?;
-    reader.print_binary(condition, "?")?;
+    tri!(read_framed(reader, depth, context, Framed::FramedOperand));
+    tri!(reader.print_binary(condition, "?"));
     let begun = reader.found;
-    read_framed(reader, depth, context, Framed::FramedOperand)?;
+    tri!(read_framed(reader, depth, context, Framed::FramedOperand));
     reader.print_binary(begun, " : ")
 }
 
@@ -216,7 +216,7 @@ pub(crate) fn read_expression(reader: &mut Reader, depth: usize, context: Contex
     ensures bounds { TakesSome 1 result (state reader.old) (state reader.new) }
     ensures saved { SavedBounds 1 result (state reader.old) (state reader.new) }
 {
-    let depth = reader.enter(depth)?;
+    let depth = tri!(reader.enter(depth));
     let read = match expression_case(reader.rest) {
         ExpressionCase::PreExpression => read_pre(reader, depth, context),
         ExpressionCase::AddressExpression => read_address(reader, depth, context),
@@ -229,7 +229,7 @@ pub(crate) fn read_expression(reader: &mut Reader, depth: usize, context: Contex
         ExpressionCase::PrimaryExpression => read_expr_primary(reader, depth, context),
         ExpressionCase::UnreadableExpression => Err(Stop::Unreadable),
     };
-    read?;
+    tri!(read);
     reader.check_width()
 }
 
@@ -244,6 +244,6 @@ pub(crate) fn read_operand(reader: &mut Reader, depth: usize, context: Context) 
     ensures saved { SavedBounds 1 result (state reader.old) (state reader.new) }
 {
     let paren = !is_external(reader.rest);
-    read_expression(reader, depth, context)?;
+    tri!(read_expression(reader, depth, context));
     reader.print_operand(paren)
 }

@@ -51,7 +51,7 @@ pub(crate) fn read_framed(
         Framed::FramedExpression => read_expression(reader, depth, context),
         Framed::FramedOperand => read_operand(reader, depth, context),
     };
-    read?;
+    tri!(read);
     reader.close_found(mark)
 }
 
@@ -75,6 +75,6 @@ pub(crate) fn read_worded(
     ensures saved { SavedBounds 0 result (state reader.old) (state reader.new) }
 {
     let begun = reader.buffer.push(words)?;
-    read_framed(reader, depth, context, framed)?;
+    tri!(read_framed(reader, depth, context, framed));
     reader.join_words(begun, close)
 }

@@ -4,12 +4,23 @@
 //! method of `Reader` in `itanium_reader`.
 //!
 //! The readers call one another, so they are proved together. Each equals its function in `specs/Parser` of
-//! `itanium_reader`, and those of `frames.rt` equal theirs in `specs/Frames`. Only `itanium_demangle` uses this crate. `itanium_demangle` proves that the parser agrees with
-//! the grammar.
+//! `itanium_reader`, and those of `frames.rt` equal theirs in `specs/Frames`. Only `itanium_demangle` uses this crate.
+//! `itanium_demangle` proves that the parser agrees with the grammar.
 //!
 //! The readers call the methods of `itanium_reader`. Begin with `read_name` in `names.rt`, and then read `read_type`
 //! in `types.rt`. `read_encoding` in `encodings.rt` is for signatures, thunks, local names and external names.
 #![tactic(auto)]
+
+/// The value of a result whose error is a `Stop`. An error is returned from the function around it. `?` also converts
+/// the error, which each proof would have to follow.
+macro_rules! tri {
+    ($result:expr) => {
+        match $result {
+            Ok(value) => value,
+            Err(stop) => return Err(stop),
+        }
+    };
+}
 
 mod args;
 mod encodings;

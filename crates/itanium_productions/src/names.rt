@@ -43,7 +43,7 @@ pub(crate) fn read_closure_type_name(
     ensures saved { SavedBounds 1 result (state reader.old) (state reader.new) }
 {
     let list = reader.buffer.push(b"{lambda(")?;
-    read_params(reader, depth, context, EncodingEnd::AtE, false, list)?;
+    tri!(read_params(reader, depth, context, EncodingEnd::AtE, false, list));
     reader.end_lambda(reader.found)
 }
 
@@ -72,7 +72,7 @@ pub(crate) fn read_ordinary_name(reader: &mut Reader, depth: usize, context: Con
         }
         OrdinaryCase::ConversionName => {
             reader.skip(2);
-            read_type(reader, depth, context)?;
+            tri!(read_type(reader, depth, context));
             reader.make_conversion_name()
         }
         OrdinaryCase::LiteralOperatorName => {
@@ -106,7 +106,7 @@ pub(crate) fn read_unqualified_name(
     } else {
         read_ordinary_name(reader, depth, context)
     };
-    read?;
+    tri!(read);
     reader.read_tags()
 }
 
@@ -134,7 +134,7 @@ pub(crate) fn read_segment(reader: &mut Reader, depth: usize, context: Context) 
         UnqualifiedCase::DestructorName => reader.read_ctor_dtor(true),
         UnqualifiedCase::OrdinaryName => read_ordinary_segment(reader, depth, context),
     };
-    read?;
+    tri!(read);
     reader.read_tags()
 }
 
@@ -159,8 +159,8 @@ pub(crate) fn read_ordinary_segment(
 {
     let opened = open_parent(&mut reader.buffer, reader.found)?;
     let mark = reader.buffer.open();
-    read_ordinary_name(reader, depth, context)?;
-    reader.close_found(mark)?;
+    tri!(read_ordinary_name(reader, depth, context));
+    tri!(reader.close_found(mark));
     reader.found = close_opened(&mut reader.buffer, opened, reader.found)?;
     Ok(())
 }
@@ -185,20 +185,31 @@ pub(crate) fn read_first_segment(
     ensures bounds { TakesSome 0 result (state reader.old) (state reader.new) }
     ensures saved { SavedBounds 1 result (state reader.old) (state reader.new) }
 {
-    let (read, candidate) = match first_segment_case(reader.rest) {
+    if begins_source(reader.rest) {
+        tri!(reader.read_source_name());
+        tri!(reader.read_tags());
+        return Ok(true);
+    }
+    match first_segment_case(reader.rest) {
         FirstSegmentCase::TemplateParamFirst => {
-            reader.read_template_param(context)?;
-            (reader.copy_found_to_end(), true)
+            tri!(reader.read_template_param(context));
+            tri!(reader.copy_found_to_end());
+            Ok(true)
         }
-        FirstSegmentCase::StdFirst => (reader.read_std(), false),
+        FirstSegmentCase::StdFirst => {
+            tri!(reader.read_std());
+            Ok(false)
+        }
         FirstSegmentCase::SubstitutionFirst => {
-            reader.read_substitution()?;
-            (reader.copy_found_to_end(), false)
+            tri!(reader.read_substitution());
+            tri!(reader.copy_found_to_end());
+            Ok(false)
         }
-        FirstSegmentCase::NameFirst => (read_unqualified_name(reader, depth, context), true),
-    };
-    read?;
-    Ok(candidate)
+        FirstSegmentCase::NameFirst => {
+            tri!(read_unqualified_name(reader, depth, context));
+            Ok(true)
+        }
+    }
 }
 
 /// Reads `<nested-name> ::= N [<CV-qualifiers>] [<ref-qualifier>] <prefix> E | N H <prefix> E`, after its `N`. Here
@@ -218,12 +229,12 @@ pub(crate) fn read_nested_name(reader: &mut Reader, depth: usize, context: Conte
     match name_quals(reader.rest) {
         // Most names have no qualifiers. This arm keeps none on the stack while the prefix is read.
         None => {
-            read_segments(reader, depth, context)?;
+            tri!(read_segments(reader, depth, context));
             reader.quals = None;
         }
         Some((quals, rest)) => {
             reader.rest = rest;
-            read_segments(reader, depth, context)?;
+            tri!(read_segments(reader, depth, context));
             reader.quals = Some(quals);
         }
     }
@@ -247,29 +258,30 @@ pub(crate) fn read_segments(reader: &mut Reader, depth: usize, context: Context)
     ensures bounds { TakesSome 1 result (state reader.old) (state reader.new) }
     ensures saved { SavedBounds 1 result (state reader.old) (state reader.new) }
 {
-    let mut candidate = read_first_segment(reader, depth, context)?;
+    let mut candidate = tri!(read_first_segment(reader, depth, context));
     loop {
-        let read = if begins_source(reader.rest) {
-            reader.read_source_segment(candidate)
-        } else {
-            reader.skip_initializer();
-            match segment_case(reader.rest) {
-                SegmentCase::EndOfSegments => {
-                    reader.end_nested_name(candidate);
-                    return Ok(());
-                }
-                SegmentCase::ArgsSegment => {
-                    reader.save_if(candidate)?;
-                    read_template_args(reader, depth, context, true)
-                }
-                SegmentCase::NameSegment => {
-                    reader.save_if(candidate)?;
-                    read_segment(reader, depth, context)
-                }
+        if begins_source(reader.rest) {
+            tri!(reader.read_source_segment(candidate));
+            tri!(reader.check_width());
+            candidate = true;
+            continue;
+        }
+        reader.skip_initializer();
+        match segment_case(reader.rest) {
+            SegmentCase::EndOfSegments => {
+                reader.end_nested_name(candidate);
+                return Ok(());
             }
-        };
-        read?;
-        reader.check_width()?;
+            SegmentCase::ArgsSegment => {
+                tri!(reader.save_if(candidate));
+                tri!(read_template_args(reader, depth, context, true));
+            }
+            SegmentCase::NameSegment => {
+                tri!(reader.save_if(candidate));
+                tri!(read_segment(reader, depth, context));
+            }
+        }
+        tri!(reader.check_width());
         candidate = true;
     }
 }
@@ -289,11 +301,11 @@ pub(crate) fn read_unscoped_name(reader: &mut Reader, depth: usize, context: Con
 {
     let read = match unscoped_case(reader.rest) {
         UnscopedCase::StdName => {
-            reader.read_std()?;
+            tri!(reader.read_std());
             read_segment(reader, depth, context)
         }
         UnscopedCase::SubstitutionName => {
-            reader.read_substitution()?;
+            tri!(reader.read_substitution());
             return match attached_case(reader.rest) {
                 AttachedCase::NoneAttached => Err(Stop::Unreadable),
                 AttachedCase::ArgsAttached => read_template_args(reader, depth, context, true),
@@ -301,11 +313,11 @@ pub(crate) fn read_unscoped_name(reader: &mut Reader, depth: usize, context: Con
         }
         UnscopedCase::PlainName => read_unqualified_name(reader, depth, context),
     };
-    read?;
+    tri!(read);
     match attached_case(reader.rest) {
         AttachedCase::NoneAttached => Ok(()),
         AttachedCase::ArgsAttached => {
-            reader.save_found()?;
+            tri!(reader.save_found());
             read_template_args(reader, depth, context, true)
         }
     }
@@ -329,32 +341,31 @@ pub fn read_name(reader: &mut Reader, depth: usize, context: Context, bare: bool
     ensures bounds { TakesSome 1 result (state reader.old) (state reader.new) }
     ensures saved { SavedBounds 1 result (state reader.old) (state reader.new) }
 {
-    let depth = reader.enter(depth)?;
-    let case = name_case(reader.rest);
-    let read = match case {
+    let depth = tri!(reader.enter(depth));
+    let shown = match name_case(reader.rest) {
         NameCase::NestedName => {
             reader.skip(1);
-            read_nested_name(reader, depth, context)
+            tri!(read_nested_name(reader, depth, context));
+            context.words_shown
         }
         NameCase::LocalName => {
             reader.skip(1);
-            read_local_name(reader, depth, context)
+            tri!(read_local_name(reader, depth, context));
+            true
         }
         NameCase::UnscopedName => {
-            let read = read_unscoped_name(reader, depth, context);
+            tri!(read_unscoped_name(reader, depth, context));
             reader.quals = None;
-            read
+            context.words_shown
         }
     };
-    read?;
-    reader.check_width()?;
+    tri!(reader.check_width());
     if bare {
         return Ok(());
     }
-    let Some(quals) = reader.quals else {
-        return Ok(());
-    };
-    let shown = context.words_shown || matches!(case, NameCase::LocalName);
-    reader.print_quals(quals, shown)?;
-    reader.check_width()
+    if let Some(quals) = reader.quals {
+        tri!(reader.print_quals(quals, shown));
+        tri!(reader.check_width());
+    }
+    Ok(())
 }

@@ -26,7 +26,7 @@ pub(crate) fn read_temporary(reader: &mut Reader, depth: usize, context: Context
     ensures saved { SavedBounds 1 result (state reader.old) (state reader.new) }
 {
     reader.skip(2);
-    read_framed(reader, depth, context, Framed::FramedName)?;
+    tri!(read_framed(reader, depth, context, Framed::FramedName));
     reader.end_temporary()
 }
 
@@ -43,14 +43,14 @@ pub(crate) fn read_construction(reader: &mut Reader, depth: usize, context: Cont
     ensures saved { SavedBounds 1 result (state reader.old) (state reader.new) }
 {
     reader.skip(2);
-    read_type(reader, depth, context)?;
+    tri!(read_type(reader, depth, context));
     let class = reader.found;
     let Some(rest) = past_base_offset(reader.rest) else {
         return Err(Stop::Unreadable);
     };
     reader.rest = rest;
     let begun = reader.buffer.push(b"construction vtable for ")?;
-    read_framed(reader, depth, context, Framed::FramedType)?;
+    tri!(read_framed(reader, depth, context, Framed::FramedType));
     let whole = reader.buffer.up_to_end(begun);
     reader.found = reader.buffer.join(whole, b"-in-", class)?;
     Ok(())
@@ -74,13 +74,13 @@ pub(crate) fn read_thunk(
     ensures bounds { TakesSome 1 result (state reader.old) (state reader.new) }
     ensures saved { SavedBounds 1 result (state reader.old) (state reader.new) }
 {
-    let depth = reader.enter(depth)?;
-    reader.open_thunk()?;
+    let depth = tri!(reader.enter(depth));
+    tri!(reader.open_thunk());
     let begun = reader.found;
     let mark = reader.buffer.open();
-    read_encoding(reader, depth, context, end.for_thunk())?;
-    reader.close_found(mark)?;
-    reader.join_words(begun, b")}")?;
+    tri!(read_encoding(reader, depth, context, end.for_thunk()));
+    tri!(reader.close_found(mark));
+    tri!(reader.join_words(begun, b")}"));
     reader.check_width()
 }
 

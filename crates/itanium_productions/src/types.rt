@@ -41,7 +41,7 @@ pub(crate) fn read_type_attached(reader: &mut Reader, depth: usize, context: Con
     match attached_case(reader.rest) {
         AttachedCase::NoneAttached => Ok(()),
         AttachedCase::ArgsAttached => {
-            read_template_args(reader, depth, context, false)?;
+            tri!(read_template_args(reader, depth, context, false));
             reader.save_found()
         }
     }
@@ -58,22 +58,22 @@ pub(crate) fn read_type(reader: &mut Reader, depth: usize, context: Context) -> 
     ensures bounds { TakesSome 2 result (state reader.old) (state reader.new) }
     ensures saved { SavedBounds 0 result (state reader.old) (state reader.new) }
 {
-    let depth = reader.enter(depth)?;
+    let depth = tri!(reader.enter(depth));
     let context = context.inside_type();
     let read = match type_case(reader.rest) {
         TypeCase::NameType => {
             // `read_name` has checked the length of the name.
-            read_name(reader, depth, context, false)?;
+            tri!(read_name(reader, depth, context, false));
             return reader.save_found();
         }
         TypeCase::BuiltinType => reader.read_builtin_type(),
         TypeCase::SubstitutionType => {
-            reader.read_substitution()?;
+            tri!(reader.read_substitution());
             read_type_attached(reader, depth, context)
         }
         TypeCase::TemplateParamType => {
-            reader.read_template_param(context)?;
-            reader.save_found()?;
+            tri!(reader.read_template_param(context));
+            tri!(reader.save_found());
             read_type_attached(reader, depth, context)
         }
         TypeCase::PointerType(kind) => read_pointer(reader, depth, context, kind),
@@ -86,7 +86,7 @@ pub(crate) fn read_type(reader: &mut Reader, depth: usize, context: Context) -> 
         TypeCase::VendorType => reader.read_vendor_type(),
         TypeCase::UnreadableType => Err(Stop::Unreadable),
     };
-    read?;
+    tri!(read);
     reader.check_width()
 }
 
@@ -103,7 +103,7 @@ pub(crate) fn read_expansion(reader: &mut Reader, depth: usize, context: Context
     ensures saved { SavedBounds 0 result (state reader.old) (state reader.new) }
 {
     reader.skip(2);
-    read_type(reader, depth, context)?;
+    tri!(read_type(reader, depth, context));
     if !context.dots_hidden {
         reader.found = expand(&mut reader.buffer, reader.found)?;
     }
@@ -126,7 +126,7 @@ pub(crate) fn read_array_type(reader: &mut Reader, depth: usize, context: Contex
         return Err(Stop::Unreadable);
     };
     reader.rest = rest;
-    read_type(reader, depth, context)?;
+    tri!(read_type(reader, depth, context));
     let Some(array) = wrap_array(&mut reader.buffer, reader.found, dimension)? else {
         return Err(Stop::Unreadable);
     };
@@ -151,7 +151,7 @@ pub(crate) fn read_pointer(
     ensures saved { SavedBounds 0 result (state reader.old) (state reader.new) }
 {
     reader.skip(1);
-    read_type(reader, depth, context)?;
+    tri!(read_type(reader, depth, context));
     reader.make_pointer(kind)
 }
 
@@ -168,7 +168,7 @@ pub(crate) fn read_elaborated(reader: &mut Reader, depth: usize, context: Contex
 {
     let word = elaborated_text(reader.rest);
     reader.skip(2);
-    read_worded(reader, depth, context, word, Framed::FramedName, b"")?;
+    tri!(read_worded(reader, depth, context, word, Framed::FramedName, b""));
     reader.save_found()
 }
 
@@ -187,9 +187,9 @@ pub(crate) fn read_pointer_to_member_type(
     ensures saved { SavedBounds 0 result (state reader.old) (state reader.new) }
 {
     reader.skip(1);
-    read_type(reader, depth, context)?;
+    tri!(read_type(reader, depth, context));
     let class = reader.found;
-    read_framed(reader, depth, context, Framed::FramedType)?;
+    tri!(read_framed(reader, depth, context, Framed::FramedType));
     reader.make_member_pointer(class)
 }
 
@@ -211,7 +211,7 @@ pub(crate) fn read_cv(reader: &mut Reader, depth: usize, context: Context) -> Re
     match cv_case(reader.rest) {
         CvCase::CvFunction => read_function_type(reader, depth, context, quals),
         CvCase::CvOther => {
-            read_type(reader, depth, context)?;
+            tri!(read_type(reader, depth, context));
             reader.found = wrap_cv(&mut reader.buffer, reader.found, quals)?;
             reader.save_found()
         }
@@ -241,12 +241,12 @@ pub(crate) fn read_function_type(
         FunctionCase::ExternFunction => Err(Stop::Unreadable),
         FunctionCase::PlainFunction => {
             reader.skip(1);
-            read_type(reader, depth, context)?;
+            tri!(read_type(reader, depth, context));
             let front = reader.buffer.len(reader.found);
             let Some(list) = open_function(&mut reader.buffer, reader.found)? else {
                 return Err(Stop::Unreadable);
             };
-            read_params(reader, depth, context, EncodingEnd::AtE, true, list)?;
+            tri!(read_params(reader, depth, context, EncodingEnd::AtE, true, list));
             let (reference, rest) = ref_qualifier(reader.rest);
             let all = Quals { reference, ..quals };
             reader.found = close_function(&mut reader.buffer, reader.found, front, all)?;
@@ -293,7 +293,7 @@ pub(crate) fn read_params(
             }
             TypeListCase::NextType => {
                 list = reader.separate_list(list, first)?;
-                read_framed(reader, depth, context, Framed::FramedType)?;
+                tri!(read_framed(reader, depth, context, Framed::FramedType));
                 list = append_piece(&mut reader.buffer, list, b"", reader.found)?;
                 if reader.is_too_wide(list) {
                     return Err(Stop::Unreadable);

@@ -62,17 +62,14 @@ pub struct Reader<'a> {
 
 impl<'a> Reader<'a> {
     /// Skips n bytes, or all if fewer are left.
+    #[tactic(auto, using(std::proofs::lemmas::List::drop_min))]
     #[inline(always)]
     pub fn skip(&mut self, n: usize)
         ensures state { state self.new ≡ spec.skip n (state self.old) }
         ensures found { self.new.found ≡ self.old.found }
         ensures buffer { self.new.buffer.value ≡ self.old.buffer.value }
     {
-        self.rest = if n <= self.rest.len() {
-            &self.rest[n..]
-        } else {
-            &[]
-        };
+        self.rest = &self.rest[n.min(self.rest.len())..];
     }
 
     /// Skips the `M` of a data member's initializer, if it is next.

@@ -1,12 +1,11 @@
 use Rattle.itanium_reader.proofs.Rules.{argument_lists, arguments, encodings, expressions, local_names, packs, primaries, specials, thunks}
 use Rattle.itanium_productions.proofs.OwnQualifiers.{names}
-use Rattle.itanium_reader.proofs.Rules.{nested_names, outer_names, unqualified_names}
+use Rattle.itanium_reader.proofs.Rules.{first_segments, nested_names, outer_names, unqualified_names}
 use Rattle.itanium_reader.proofs.Rules.{typed_lists, words}
 use Rattle.std.proofs.lemmas.Grind.{common_steps}
-use Rattle.std.proofs.Common.{◌≡◌, ◌<◌, ◌+◌, ◌*◌, ◌^◌, ◌∙◌, ℕ, List, [], ◌∷◌, ◌++◌, length, drop, refl, rules, sym, ap, subst, arith, append_assoc, max, Bool, true, false, ◌≤◌, Option, Some}
+use Rattle.std.proofs.Common.{◌≡◌, ◌<◌, ◌+◌, ◌*◌, ◌^◌, ◌∙◌, ℕ, List, [], ◌∷◌, ◌++◌, length, drop, refl, rules, sym, ap, subst, arith, append_assoc, max, true, Option, Some}
 use Rattle.std.proofs.Common.{codes}
 use Rattle.std.proofs.lemmas.List.{append-nil, length-append, length-drop}
-use Rattle.std.proofs.lemmas.Result.{err_from_is_err_and}
 use Rattle.demangle_text.specs.declared.pieces.Piece.{Piece}
 use Rattle.std.specs.declared.alloc.AllocError.{AllocError}
 use Rattle.demangle_text.specs.State.{shape, Lives, SameFrame, KeepsAll, IsEdit, IsRun, Opens, main_bytes, saved, scopes}
@@ -24,14 +23,17 @@ use Rattle.demangle_edit.specs.Built.{default_arg_opened, parent_opened, enclose
 use Rattle.itanium_syntax.specs.Scalars.{ordinal}
 use Rattle.itanium_syntax.specs.Encodings.{entity_case}
 use Rattle.itanium_grammar.specs.Cases.{DefaultArgumentEntity, NameEntity}
-use Rattle.itanium_reader.specs.Outcome.{state, Gives, Bounds, CostBounds, Growth, SavedBounds, ChecksWidth, LoopSoFar}
+use Rattle.itanium_reader.specs.Outcome.{state, Gives, GivesCandidate, Bounds, CostBounds, Growth, SavedBounds}
 use Rattle.itanium_reader.specs.declared.stop.Stop.{Stop}
 use Rattle.itanium_reader.specs.declared.stop.Stop.TheVariants.{Unreadable, Memory}
-use Rattle.std.proofs.Common.{Ok, Err, Result}
+use Rattle.itanium_reader.proofs.Unfold.{first_source_opens}
+use Rattle.itanium_syntax.specs.Names.{first_segment_case}
+use Rattle.itanium_syntax.specs.Calls.{begins_source}
+use Rattle.itanium_syntax.specs.declared.context.Context.{Context}
+use Rattle.std.proofs.Common.{Ok, Err, None, Result}
 use Rattle.std.specs.Prelude.{IfOk, OnOk, IsOkUnless}
 use Rattle.itanium_reader.specs.declared.reader.Reader.{Reader}
 use Rattle.itanium_reader.specs.Parser as spec
-use Rattle.itanium_reader.specs.Parser.{is_too_wide}
 use Rattle.itanium_reader.proofs.Unfold.{stops, too_long, checked, in_any_case, on_success, thunk_read, thunk_wide}
 use Rattle.itanium_reader.proofs.Texts.{begun_front}
 use Rattle.itanium_reader.proofs.Turns.{source_segment, later_is, attached_start, attached_end, attached_more}
@@ -44,7 +46,7 @@ use Rattle.itanium_grammar.specs.Cases.{SegmentCase, ArgsSegment, NameSegment, E
 use Rattle.itanium_syntax.specs.Names.{segment_case}
 use Rattle.itanium_reader.proofs.Rules.{buffers, types}
 use Rattle.itanium_grammar.specs.Tree.{worded_shape, construction_shape}
-use Rattle.itanium_productions.proofs.+reader.Goals.{names::read_segments-then-begins_source, names::read_segments-else-begins_source+in-ArgsSegment+in_ok-save_if-in-ArgsSegment, names::read_segments-else-begins_source+in-NameSegment+in_ok-save_if-in-NameSegment}
+use Rattle.itanium_productions.proofs.+reader.Goals.{names::read_segments-in-ArgsSegment+in-Ok-save_if+in-Ok-read_template_args, names::read_segments-in-NameSegment+in-Ok-save_if-2+in-Ok-read_segment}
 use Rattle.itanium_productions.proofs.+reader.Goals.{encodings::read_entity-in-DefaultArgumentEntity+in-Some, encodings::read_entity-in-NameEntity}
 use Rattle.itanium_productions.proofs.+reader.Goals as goal
 
@@ -87,15 +89,15 @@ args::read_template_args-returns-then-len-widest-2-clause-reads t c =
     let framed = c.read_template_arg.new.reader in
     let new = c.add_argument.new.self.buffer.value in
     let next = shape framed.buffer.value framed.found in
-    let kept = (c.in_ok-separate-in-NextArgument.ensures {u = tt}).kept in
-    let one = text_after-more old separated list (separator c.loop-reader.first) so_far.begun.living so_far.inner (c.in_ok-separate-in-NextArgument.ensures {u = tt}).output in
+    let kept = (c.in-Ok-separate.ensures {u = tt}).kept in
+    let one = text_after-more old separated list (separator c.loop-reader.first) so_far.begun.living so_far.inner (c.in-Ok-separate.ensures {u = tt}).output in
     let two = text_after-more separated framed.buffer.value list (text next) (kept.pieces list so_far.begun.living).living
-    (IsInner-same old separated list so_far.inner kept) (c.in_ok-read_template_arg-in-NextArgument.ensures {u = tt}).output in
-    let three = text_after-same framed.buffer.value new list (c.in_ok-add_argument-in-NextArgument.ensures {u = tt}).output in
+    (IsInner-same old separated list so_far.inner kept) (c.in-Ok-read_template_arg.ensures {u = tt}).output in
+    let three = text_after-same framed.buffer.value new list (c.in-Ok-add_argument.ensures {u = tt}).output in
     let longer : text_after new list ≡ (text_after old list ++ separator c.loop-reader.first) ++ text next =
     three ∙ two ∙ ap (λ (v : List ℕ). v ++ text next) one in
-    let begun = Lives-same _ _ _ _ (c.in_ok-add_argument-in-NextArgument.ensures {u = tt}).kept
-    (Lives-same _ _ _ _ (c.in_ok-read_template_arg-in-NextArgument.ensures {u = tt}).kept (Lives-same _ _ _ _ kept so_far.begun)) in
+    let begun = Lives-same _ _ _ _ (c.in-Ok-add_argument.ensures {u = tt}).kept
+    (Lives-same _ _ _ _ (c.in-Ok-read_template_arg.ensures {u = tt}).kept (Lives-same _ _ _ _ kept so_far.begun)) in
     let all = shape new c.up_to_end.result in
     let built : all ≡ appended (text_after new list) (arguments_opened (shape c.args.reader.now.buffer.value c.args.reader.now.found)) =
     subst (λ (b : Buffer). shape b c.up_to_end.result ≡ appended (text_after b list) (shape b list)) c.deref-in-NextArgument-2.ensures c.up_to_end.ensures.shape.shape_is
@@ -105,13 +107,11 @@ args::read_template_args-returns-then-len-widest-2-clause-reads t c =
     (sym c.in-NextArgument.ensures.case) (search rules) longer built
     (omega (arith, c.if-len-widest-2.true, so_far.widest, long, so_far.front))
 
-pub args::read_template_args-returns-in_err-read_template_arg-in-NextArgument-clause-reads : goal.args::read_template_args-returns-in_err-read_template_arg-in-NextArgument-clause-reads
-args::read_template_args-returns-in_err-read_template_arg-in-NextArgument-clause-reads t c =
-    let r = c.from_residual-in_err-read_template_arg-in-NextArgument in
-    let e = err_from_is_err_and r.result r.ensures.1 in
+pub args::read_template_args-returns-in-Err-read_template_arg-clause-reads : goal.args::read_template_args-returns-in-Err-read_template_arg-clause-reads
+args::read_template_args-returns-in-Err-read_template_arg-clause-reads t c =
     let whole = spec.attached_by (spec.parse_args c.args.depth c.args.context c.args.of_name) (shape c.args.reader.now.buffer.value c.args.reader.now.found) (state c.args.reader.now) in
-    rw (e.1, e.2) (stops _ {whole = whole} _ (c.in_err-read_template_arg-in-NextArgument.ensures {u = tt}).reads
-    (λ none. attached_fail {whole = whole} _ _ _ c.loop-reader.invariant.reads (sym c.in-NextArgument.ensures.case) (search rules)))
+    stops _ {whole = whole} _ (c.in-Err-read_template_arg.ensures {u = tt}).reads
+    (λ none. attached_fail {whole = whole} _ _ _ c.loop-reader.invariant.reads (sym c.in-NextArgument.ensures.case) (search rules))
 
 pub args::read_template_args-loop-reader-preserved : goal.args::read_template_args-loop-reader-preserved
 args::read_template_args-loop-reader-preserved t c =
@@ -122,15 +122,15 @@ args::read_template_args-loop-reader-preserved t c =
     let framed = c.read_template_arg.new.reader in
     let new = c.add_argument.new.self.buffer.value in
     let next = shape framed.buffer.value framed.found in
-    let kept = (c.in_ok-separate-in-NextArgument.ensures {u = tt}).kept in
-    let one = text_after-more old separated list (separator c.loop-reader.first) so_far.begun.living so_far.inner (c.in_ok-separate-in-NextArgument.ensures {u = tt}).output in
+    let kept = (c.in-Ok-separate.ensures {u = tt}).kept in
+    let one = text_after-more old separated list (separator c.loop-reader.first) so_far.begun.living so_far.inner (c.in-Ok-separate.ensures {u = tt}).output in
     let two = text_after-more separated framed.buffer.value list (text next) (kept.pieces list so_far.begun.living).living
-    (IsInner-same old separated list so_far.inner kept) (c.in_ok-read_template_arg-in-NextArgument.ensures {u = tt}).output in
-    let three = text_after-same framed.buffer.value new list (c.in_ok-add_argument-in-NextArgument.ensures {u = tt}).output in
+    (IsInner-same old separated list so_far.inner kept) (c.in-Ok-read_template_arg.ensures {u = tt}).output in
+    let three = text_after-same framed.buffer.value new list (c.in-Ok-add_argument.ensures {u = tt}).output in
     let longer : text_after new list ≡ (text_after old list ++ separator c.loop-reader.first) ++ text next =
     three ∙ two ∙ ap (λ (v : List ℕ). v ++ text next) one in
-    let begun = Lives-same _ _ _ _ (c.in_ok-add_argument-in-NextArgument.ensures {u = tt}).kept
-    (Lives-same _ _ _ _ (c.in_ok-read_template_arg-in-NextArgument.ensures {u = tt}).kept (Lives-same _ _ _ _ kept so_far.begun)) in
+    let begun = Lives-same _ _ _ _ (c.in-Ok-add_argument.ensures {u = tt}).kept
+    (Lives-same _ _ _ _ (c.in-Ok-read_template_arg.ensures {u = tt}).kept (Lives-same _ _ _ _ kept so_far.begun)) in
     let all = shape new c.up_to_end.result in
     let built : all ≡ appended (text_after new list) (arguments_opened (shape c.args.reader.now.buffer.value c.args.reader.now.found)) =
     subst (λ (b : Buffer). shape b c.up_to_end.result ≡ appended (text_after b list) (shape b list)) c.deref-in-NextArgument-2.ensures c.up_to_end.ensures.shape.shape_is
@@ -170,12 +170,10 @@ args::read_argument_pack-returns-in-EndOfArguments-clause-reads t c =
     (λ narrow. pack_ends _ {found = list} c.loop-reader.invariant.reads (sym c.in-EndOfArguments.ensures.case) (search rules) narrow (search rules))
     (λ wide. pack_wide _ {found = list} c.loop-reader.invariant.reads (sym c.in-EndOfArguments.ensures.case) (search rules) wide)
 
-pub args::read_argument_pack-returns-in_err-read_template_arg-in-NextArgument-clause-reads : goal.args::read_argument_pack-returns-in_err-read_template_arg-in-NextArgument-clause-reads
-args::read_argument_pack-returns-in_err-read_template_arg-in-NextArgument-clause-reads t c =
-    let r = c.from_residual-in_err-read_template_arg-in-NextArgument in
-    let e = err_from_is_err_and r.result r.ensures.1 in
-    rw (e.1, e.2) (stops _ _ (c.in_err-read_template_arg-in-NextArgument.ensures {u = tt}).reads
-    (λ none. items_fail _ _ _ c.loop-reader.invariant.reads (sym c.in-NextArgument.ensures.case) (search rules)))
+pub args::read_argument_pack-returns-in-Err-read_template_arg-clause-reads : goal.args::read_argument_pack-returns-in-Err-read_template_arg-clause-reads
+args::read_argument_pack-returns-in-Err-read_template_arg-clause-reads t c =
+    stops _ _ (c.in-Err-read_template_arg.ensures {u = tt}).reads
+    (λ none. items_fail _ _ _ c.loop-reader.invariant.reads (sym c.in-NextArgument.ensures.case) (search rules))
 
 pub args::read_argument_pack-loop-reader-preserved : goal.args::read_argument_pack-loop-reader-preserved
 args::read_argument_pack-loop-reader-preserved t c = record {
@@ -192,12 +190,10 @@ pub types::read_params-returns-in-EndOfTypes-clause-reads : goal.types::read_par
 types::read_params-returns-in-EndOfTypes-clause-reads t c =
     (c.loop-list.invariant.living, typed_end _ _ _ c.loop-list.invariant.reads (sym c.in-EndOfTypes.ensures.case))
 
-pub types::read_params-returns-in_err-read_framed-in-NextType-clause-reads : goal.types::read_params-returns-in_err-read_framed-in-NextType-clause-reads
-types::read_params-returns-in_err-read_framed-in-NextType-clause-reads t c =
-    let r = c.from_residual-in_err-read_framed-in-NextType in
-    let e = err_from_is_err_and r.result r.ensures.1 in
-    rw (e.1, e.2) (stops _ _ (c.in_err-read_framed-in-NextType.ensures {u = tt}).reads
-    (λ none. typed_fail _ _ _ c.loop-list.invariant.reads (sym c.in-NextType.ensures.case) (search rules)))
+pub types::read_params-returns-in-Err-clause-reads : goal.types::read_params-returns-in-Err-clause-reads
+types::read_params-returns-in-Err-clause-reads t c =
+    stops _ _ (c.in-Err.ensures {u = tt}).reads
+    (λ none. typed_fail _ _ _ c.loop-list.invariant.reads (sym c.in-NextType.ensures.case) (search rules))
 
 pub types::read_params-returns-then-is_too_wide-clause-reads : goal.types::read_params-returns-then-is_too_wide-clause-reads
 types::read_params-returns-then-is_too_wide-clause-reads t c =
@@ -241,10 +237,6 @@ record EntityOpens (bare : spec.ParsesBareName) (encoding : Shape) (s : spec.Par
   gives : (entity found : Shape) (quals : Quals) (mid after : spec.ParserState) → bare (state m) ≡ Some ((entity, quals), mid) → found ≡ enclosed front entity → after ≡ mid
       → spec.entity_as (entity_case s.rest) bare encoding s ≡ Some ((found, quals), after)
 
-pub names::read_segments-returns-in-EndOfSegments-clause-reads : goal.names::read_segments-returns-in-EndOfSegments-clause-reads
-names::read_segments-returns-in-EndOfSegments-clause-reads t c =
-    (search rules, segments_end _ _ c.loop-reader.invariant.reads (search rules) (search rules) (search rules))
-
 -- a later segment is there, and this is read of it
 record IsLater (unqualified : spec.ParsesName) (args : spec.Parses Shape) (name : Shape) (s : spec.ParserState) (read : Option (Shape × spec.ParserState)) : Type 0 where
   goes_on : segment_case s.rest ≡ EndOfSegments → ⊥
@@ -255,104 +247,97 @@ is_later : (unqualified : spec.ParsesName) (args : spec.Parses Shape) (name : Sh
     → segment_case s.rest ≡ case → shape r.buffer.value r.found ≡ name → state r ≡ s → IsLater unqualified args name s read
 is_later unqualified args name s case r gives goes_on there same left = record { goes_on = λ ended. goes_on (sym there ∙ ended); gives = later_is unqualified args name s there same left ∙ gives }
 
--- what a later segment gives
-record LaterRead (unqualified : spec.ParsesName) (args : spec.Parses Shape) (name : Shape) (s : spec.ParserState) (result : Result (Unit {0}) Stop) (after : Reader) : Type 0 where
-  parsed : Option (Shape × spec.ParserState)
-  later : IsLater unqualified args name s parsed
-  given : Gives result after parsed
-
--- what follows for the whole: a later segment isn't read, it is too long, or the loop goes on
-module _ {whole : Option (Shape × spec.ParserState)} {unqualified : spec.ParsesName} {args : spec.Parses Shape} {candidate : Bool} {name : Shape} {s : spec.ParserState}
-    (so_far : LoopSoFar whole (spec.segment_turn unqualified args) (candidate, name) s) {result : Result (Unit {0}) Stop} {after : Reader}
-    (read : LaterRead unqualified args name s result after) where
-  segment_stops : (e : Stop) → result ≡ Err e → Gives (Err e) after whole
-  segment_stops e is = stops after e (subst (λ r. Gives r after read.parsed) is read.given)
-      (λ none. segments_none _ _ so_far read.later.goes_on (read.later.gives ∙ none))
-
-  segment_found : result ≡ Ok tt → read.parsed ≡ Some (shape after.buffer.value after.found, state after)
-  segment_found is = (subst (λ r. Gives r after read.parsed) is read.given).1
-
-  segment_wide : result ≡ Ok tt → (e : Stop) → ChecksWidth (Err e) (shape after.buffer.value after.found) → Gives (Err e) after whole
-  segment_wide is e width = too_long after (shape after.buffer.value after.found) e width (λ wide. segments_wide _ _ so_far read.later.goes_on (read.later.gives ∙ segment_found is) wide)
-
-  segment_more : {next : spec.ParserState} → result ≡ Ok tt → is_too_wide (shape after.buffer.value after.found) ≡ false → length after.rest.now < length s.rest
-      → next ≡ spec.past_initializer (spec.save (shape after.buffer.value after.found) (state after)) → length next.rest ≤ length after.rest.now
-      → LoopSoFar whole (spec.segment_turn unqualified args) (true, shape after.buffer.value after.found) next
-  segment_more is fits shorter left short = segments_read _ _ so_far read.later.goes_on (read.later.gives ∙ segment_found is) fits shorter left short
-
-pub names::read_segments-returns-in_err-read-clause-reads : goal.names::read_segments-returns-in_err-read-clause-reads
-names::read_segments-returns-in_err-read-clause-reads t c =
+pub names::read_segments-returns-in-Err-read_source_segment-clause-reads : goal.names::read_segments-returns-in-Err-read_source_segment-clause-reads
+names::read_segments-returns-in-Err-read_source_segment-clause-reads t c =
     let type = spec.parse_type c.args.depth c.args.context in
     let param = spec.parse_type c.args.depth (inside_lambda c.args.context) in
     let args = spec.parse_args c.args.depth c.args.context true in
     let r = c.loop-reader.reader in
     let name = shape r.buffer.value r.found in
-    let source = spec.save_if c.loop-reader.candidate name (state r) in
-    let s = spec.past_initializer source in
-    let j = c.if-begins_source in
-    let read : LaterRead (spec.parse_unqualified type param) args name s j.read j.reader = elim j.branch [
-      | names::read_segments-then-begins_source w ↦
-          let case = source_segment type param args name source (search rules) in
-          rw (w.reader-is, w.read-is) record {
-            parsed = spec.parse_source_in (Some name) source;
-            later = record { goes_on = case.0; gives = case.1 };
-            given = w.read_source_segment-read.ensures.reads;
-          }
-      | names::read_segments-else-begins_source+in-ArgsSegment+in_ok-save_if-in-ArgsSegment w ↦
-          let saved = w.save_if.new.self in
-          rw (w.reader-is, w.read-is) record {
-            parsed = spec.later_segment ArgsSegment (spec.parse_unqualified type param) args (shape saved.buffer.value saved.found) (state saved);
-            later = is_later _ args name s ArgsSegment saved refl (λ ended. cc ended) (search rules) (search rules) (search rules);
-            given = w.read_template_args.ensures.reads;
-          }
-      | names::read_segments-else-begins_source+in-NameSegment+in_ok-save_if-in-NameSegment w ↦
-          let saved = w.save_if-in-NameSegment.new.self in
-          rw (w.reader-is, w.read-is) record {
-            parsed = spec.later_segment NameSegment (spec.parse_unqualified type param) args (shape saved.buffer.value saved.found) (state saved);
-            later = is_later _ args name s NameSegment saved refl (λ ended. cc ended) (search rules) (search rules) (search rules);
-            given = w.read_segment.ensures.reads;
-          }
-    ] in
-    let f = c.from_residual-in_err-read in
-    let e = err_from_is_err_and f.result f.ensures.1 in
-    rw (e.1, e.2) (segment_stops c.loop-reader.invariant.reads read _ (c.in_err-read.was {u = tt}))
+    let case = source_segment type param args name (spec.save_if c.loop-reader.candidate name (state r)) (search rules) in
+    stops _ _ (c.in-Err-read_source_segment.ensures {u = tt}).reads
+    (λ none. segments_none _ _ c.loop-reader.invariant.reads case.0 (case.1 ∙ none))
 
-pub names::read_segments-returns-in_err-check_width-clause-reads : goal.names::read_segments-returns-in_err-check_width-clause-reads
-names::read_segments-returns-in_err-check_width-clause-reads t c =
+pub names::read_segments-returns-in-Err-check_width-clause-reads : goal.names::read_segments-returns-in-Err-check_width-clause-reads
+names::read_segments-returns-in-Err-check_width-clause-reads t c =
     let type = spec.parse_type c.args.depth c.args.context in
     let param = spec.parse_type c.args.depth (inside_lambda c.args.context) in
     let args = spec.parse_args c.args.depth c.args.context true in
     let r = c.loop-reader.reader in
     let name = shape r.buffer.value r.found in
-    let source = spec.save_if c.loop-reader.candidate name (state r) in
-    let s = spec.past_initializer source in
-    let j = c.if-begins_source in
-    let read : LaterRead (spec.parse_unqualified type param) args name s j.read j.reader = elim j.branch [
-      | names::read_segments-then-begins_source w ↦
-          let case = source_segment type param args name source (search rules) in
-          rw (w.reader-is, w.read-is) record {
-            parsed = spec.parse_source_in (Some name) source;
-            later = record { goes_on = case.0; gives = case.1 };
-            given = w.read_source_segment-read.ensures.reads;
-          }
-      | names::read_segments-else-begins_source+in-ArgsSegment+in_ok-save_if-in-ArgsSegment w ↦
-          let saved = w.save_if.new.self in
-          rw (w.reader-is, w.read-is) record {
-            parsed = spec.later_segment ArgsSegment (spec.parse_unqualified type param) args (shape saved.buffer.value saved.found) (state saved);
-            later = is_later _ args name s ArgsSegment saved refl (λ ended. cc ended) (search rules) (search rules) (search rules);
-            given = w.read_template_args.ensures.reads;
-          }
-      | names::read_segments-else-begins_source+in-NameSegment+in_ok-save_if-in-NameSegment w ↦
-          let saved = w.save_if-in-NameSegment.new.self in
-          rw (w.reader-is, w.read-is) record {
-            parsed = spec.later_segment NameSegment (spec.parse_unqualified type param) args (shape saved.buffer.value saved.found) (state saved);
-            later = is_later _ args name s NameSegment saved refl (λ ended. cc ended) (search rules) (search rules) (search rules);
-            given = w.read_segment.ensures.reads;
-          }
+    let case = source_segment type param args name (spec.save_if c.loop-reader.candidate name (state r)) (search rules) in
+    let new = c.read_source_segment.new.self in
+    let read = (c.in-Ok-read_source_segment.ensures {u = tt}) in
+    too_long _ (shape new.buffer.value new.found) _ (c.in-Err-check_width.ensures {u = tt}).fits
+    (λ wide. segments_wide _ _ c.loop-reader.invariant.reads {next = shape new.buffer.value new.found} {mid = state new} case.0 (case.1 ∙ read.reads.1) wide)
+
+pub names::read_segments-loop-reader-preserved-then-begins_source : goal.names::read_segments-loop-reader-preserved-then-begins_source
+names::read_segments-loop-reader-preserved-then-begins_source t c =
+    let type = spec.parse_type c.args.depth c.args.context in
+    let param = spec.parse_type c.args.depth (inside_lambda c.args.context) in
+    let args = spec.parse_args c.args.depth c.args.context true in
+    let r = c.loop-reader.reader in
+    let name = shape r.buffer.value r.found in
+    let case = source_segment type param args name (spec.save_if c.loop-reader.candidate name (state r)) (search rules) in
+    let new = c.read_source_segment.new.self in
+    let read = (c.in-Ok-read_source_segment.ensures {u = tt}) in
+    let longer = length-append (saved new.buffer.value) (shape new.buffer.value new.found ∷ []) in
+    record {
+      reads = segments_read _ _ c.loop-reader.invariant.reads {next = shape new.buffer.value new.found} {mid = state new} case.0 (case.1 ∙ read.reads.1) (search rules)
+          (rw case.2 (search rules)) refl (search rules);
+      living = grind (arith, common_steps);
+      last = grind (arith, common_steps);
+      run = grind (arith, common_steps);
+      cost = grind (arith, common_steps);
+      list = omega (arith, longer, read.saved.list, c.loop-reader.invariant.list);
+      most = omega (arith, longer, read.saved.list, read.saved.most, c.loop-reader.invariant.list, c.loop-reader.invariant.most);
+    }
+
+pub names::read_segments-returns-in-EndOfSegments-clause-reads : goal.names::read_segments-returns-in-EndOfSegments-clause-reads
+names::read_segments-returns-in-EndOfSegments-clause-reads t c =
+    (search rules, segments_end _ _ c.loop-reader.invariant.reads (search rules) (search rules) (search rules))
+
+pub names::read_segments-returns-in-Err-read_template_args-clause-reads : goal.names::read_segments-returns-in-Err-read_template_args-clause-reads
+names::read_segments-returns-in-Err-read_template_args-clause-reads t c =
+    let type = spec.parse_type c.args.depth c.args.context in
+    let param = spec.parse_type c.args.depth (inside_lambda c.args.context) in
+    let args = spec.parse_args c.args.depth c.args.context true in
+    let r = c.loop-reader.reader in
+    let name = shape r.buffer.value r.found in
+    let s = spec.past_initializer (spec.save_if c.loop-reader.candidate name (state r)) in
+    stops _ _ (c.in-Err-read_template_args.ensures {u = tt}).reads
+    (λ none. let later = is_later (spec.parse_unqualified type param) args name s ArgsSegment c.save_if.new.self none (λ ended. cc ended) (search rules) (search rules) (search rules) in
+    segments_none _ _ c.loop-reader.invariant.reads later.goes_on later.gives)
+
+pub names::read_segments-returns-in-Err-read_segment-clause-reads : goal.names::read_segments-returns-in-Err-read_segment-clause-reads
+names::read_segments-returns-in-Err-read_segment-clause-reads t c =
+    let type = spec.parse_type c.args.depth c.args.context in
+    let param = spec.parse_type c.args.depth (inside_lambda c.args.context) in
+    let args = spec.parse_args c.args.depth c.args.context true in
+    let r = c.loop-reader.reader in
+    let name = shape r.buffer.value r.found in
+    let s = spec.past_initializer (spec.save_if c.loop-reader.candidate name (state r)) in
+    stops _ _ (c.in-Err-read_segment.ensures {u = tt}).reads
+    (λ none. let later = is_later (spec.parse_unqualified type param) args name s NameSegment c.save_if-in-NameSegment.new.self none (λ ended. cc ended) (search rules) (search rules) (search rules) in
+    segments_none _ _ c.loop-reader.invariant.reads later.goes_on later.gives)
+
+pub names::read_segments-returns-in-Err-check_width-2-clause-reads : goal.names::read_segments-returns-in-Err-check_width-2-clause-reads
+names::read_segments-returns-in-Err-check_width-2-clause-reads t c =
+    let type = spec.parse_type c.args.depth c.args.context in
+    let param = spec.parse_type c.args.depth (inside_lambda c.args.context) in
+    let args = spec.parse_args c.args.depth c.args.context true in
+    let r = c.loop-reader.reader in
+    let name = shape r.buffer.value r.found in
+    let s = spec.past_initializer (spec.save_if c.loop-reader.candidate name (state r)) in
+    let m = c.match-segment_case.reader in
+    let later : IsLater (spec.parse_unqualified type param) args name s (Some (shape m.buffer.value m.found, state m)) = elim c.match-segment_case.branch [
+      | names::read_segments-in-ArgsSegment+in-Ok-save_if+in-Ok-read_template_args w ↦
+          rw w.reader-is (is_later _ args name s ArgsSegment w.save_if.new.self (w.in-Ok-read_template_args.ensures {u = tt}).reads.1 (λ ended. cc ended) (search rules) (search rules) (search rules))
+      | names::read_segments-in-NameSegment+in-Ok-save_if-2+in-Ok-read_segment w ↦
+          rw w.reader-is (is_later _ args name s NameSegment w.save_if-in-NameSegment.new.self (w.in-Ok-read_segment.ensures {u = tt}).reads.1 (λ ended. cc ended) (search rules) (search rules) (search rules))
     ] in
-    let f = c.from_residual-in_err-check_width in
-    let e = err_from_is_err_and f.result f.ensures.1 in
-    rw (e.1, e.2) (segment_wide c.loop-reader.invariant.reads read (c.in_ok-read.was {u = tt}) _ (c.in_err-check_width.ensures {u = tt}).fits)
+    too_long _ (shape m.buffer.value m.found) _ (c.in-Err-check_width-2.ensures {u = tt}).fits
+    (λ wide. segments_wide _ _ c.loop-reader.invariant.reads {next = shape m.buffer.value m.found} {mid = state m} later.goes_on later.gives wide)
 
 pub names::read_segments-loop-reader-preserved : goal.names::read_segments-loop-reader-preserved
 names::read_segments-loop-reader-preserved t c =
@@ -361,49 +346,98 @@ names::read_segments-loop-reader-preserved t c =
     let args = spec.parse_args c.args.depth c.args.context true in
     let r = c.loop-reader.reader in
     let name = shape r.buffer.value r.found in
-    let source = spec.save_if c.loop-reader.candidate name (state r) in
-    let s = spec.past_initializer source in
-    let j = c.if-begins_source in
-    let read : LaterRead (spec.parse_unqualified type param) args name s j.read j.reader = elim j.branch [
-      | names::read_segments-then-begins_source w ↦
-          let case = source_segment type param args name source (search rules) in
-          rw (w.reader-is, w.read-is) record {
-            parsed = spec.parse_source_in (Some name) source;
-            later = record { goes_on = case.0; gives = case.1 };
-            given = w.read_source_segment-read.ensures.reads;
-          }
-      | names::read_segments-else-begins_source+in-ArgsSegment+in_ok-save_if-in-ArgsSegment w ↦
-          let saved = w.save_if.new.self in
-          rw (w.reader-is, w.read-is) record {
-            parsed = spec.later_segment ArgsSegment (spec.parse_unqualified type param) args (shape saved.buffer.value saved.found) (state saved);
-            later = is_later _ args name s ArgsSegment saved refl (λ ended. cc ended) (search rules) (search rules) (search rules);
-            given = w.read_template_args.ensures.reads;
-          }
-      | names::read_segments-else-begins_source+in-NameSegment+in_ok-save_if-in-NameSegment w ↦
-          let saved = w.save_if-in-NameSegment.new.self in
-          rw (w.reader-is, w.read-is) record {
-            parsed = spec.later_segment NameSegment (spec.parse_unqualified type param) args (shape saved.buffer.value saved.found) (state saved);
-            later = is_later _ args name s NameSegment saved refl (λ ended. cc ended) (search rules) (search rules) (search rules);
-            given = w.read_segment.ensures.reads;
-          }
+    let s = spec.past_initializer (spec.save_if c.loop-reader.candidate name (state r)) in
+    let m = c.match-segment_case.reader in
+    let later : IsLater (spec.parse_unqualified type param) args name s (Some (shape m.buffer.value m.found, state m)) = elim c.match-segment_case.branch [
+      | names::read_segments-in-ArgsSegment+in-Ok-save_if+in-Ok-read_template_args w ↦
+          rw w.reader-is (is_later _ args name s ArgsSegment w.save_if.new.self (w.in-Ok-read_template_args.ensures {u = tt}).reads.1 (λ ended. cc ended) (search rules) (search rules) (search rules))
+      | names::read_segments-in-NameSegment+in-Ok-save_if-2+in-Ok-read_segment w ↦
+          rw w.reader-is (is_later _ args name s NameSegment w.save_if-in-NameSegment.new.self (w.in-Ok-read_segment.ensures {u = tt}).reads.1 (λ ended. cc ended) (search rules) (search rules) (search rules))
     ] in
-    let longer = length-append (saved j.reader.buffer.value) (shape j.reader.buffer.value j.reader.found ∷ []) in
+    let longer = length-append (saved m.buffer.value) (shape m.buffer.value m.found ∷ []) in
     record {
-      reads = segment_more c.loop-reader.invariant.reads read (c.in_ok-read.was {u = tt}) (search rules) (search rules) refl (search rules);
+      reads = segments_read _ _ c.loop-reader.invariant.reads {next = shape m.buffer.value m.found} {mid = state m} later.goes_on later.gives (search rules) (search rules) refl (search rules);
       living = grind (arith, common_steps);
       last = grind (arith, common_steps);
-      run = search rules;
+      run = grind (arith, common_steps);
       cost = grind (arith, common_steps);
       list = search (rules, longer);
       most = search (rules, longer);
     }
+
+pub names::read_segments-loop-reader-init : goal.names::read_segments-loop-reader-init
+names::read_segments-loop-reader-init t c = grind (arith, common_steps)
+
+-- a <source-name> is the first segment, and its tags aren't read
+first_untagged : (type param : spec.Parses Shape) (x : Context) (s : spec.ParserState) {name : Shape} {mid : spec.ParserState} → begins_source s.rest ≡ true
+    → spec.parse_source s ≡ Some (name, mid) → spec.parse_tags name mid ≡ None → spec.first_as (first_segment_case s.rest) (spec.parse_unqualified type param) x s ≡ None
+first_untagged type param x s begins read none = first_source_opens type param x s begins ∙ rw (read, none) refl
+
+-- a <source-name> with its tags is the first segment
+first_tagged : (type param : spec.Parses Shape) (x : Context) (s : spec.ParserState) {name found : Shape} {mid after : spec.ParserState} → begins_source s.rest ≡ true
+    → spec.parse_source s ≡ Some (name, mid) → spec.parse_tags name mid ≡ Some (found, after)
+    → spec.first_as (first_segment_case s.rest) (spec.parse_unqualified type param) x s ≡ Some (found, spec.save_if true found after)
+first_tagged type param x s begins read tags = first_source_opens type param x s begins ∙ rw (read, tags) refl
+
+-- a first segment isn't read where what it calls isn't
+first_stops : (after : Reader) {inner whole : Option (Shape × spec.ParserState)} (e : Stop) → Gives (Err e) after inner → (inner ≡ None → whole ≡ None) → GivesCandidate (Err e) after whole
+first_stops after Unreadable none follows = follows none
+first_stops after Memory gives follows = tt
+
+pub names::read_first_segment-returns-in-Err-read_tags-clause-reads : goal.names::read_first_segment-returns-in-Err-read_tags-clause-reads
+names::read_first_segment-returns-in-Err-read_tags-clause-reads t c =
+    let named = c.read_source_name.new.self in
+    first_stops _ _ (c.in-Err-read_tags.ensures {u = tt}).reads
+    (λ none. first_untagged (spec.parse_type c.args.depth c.args.context) (spec.parse_type c.args.depth (inside_lambda c.args.context)) c.args.context (state c.args.reader.now)
+    {name = shape named.buffer.value named.found} {mid = state named} (search rules) (search rules) none)
+
+pub names::read_first_segment-returns-in-Err-clause-reads : goal.names::read_first_segment-returns-in-Err-clause-reads
+names::read_first_segment-returns-in-Err-clause-reads t c = grind (arith, first_segments)
+
+pub names::read_first_segment-returns-in-Ok-copy_found_to_end-clause-run : goal.names::read_first_segment-returns-in-Ok-copy_found_to_end-clause-run
+names::read_first_segment-returns-in-Ok-copy_found_to_end-clause-run t c = grind (arith, common_steps)
+
+pub names::read_first_segment-returns-then-begins_source-clause-reads : goal.names::read_first_segment-returns-then-begins_source-clause-reads
+names::read_first_segment-returns-then-begins_source-clause-reads t c =
+    let named = c.read_source_name.new.self in (
+      search rules,
+      first_tagged (spec.parse_type c.args.depth c.args.context) (spec.parse_type c.args.depth (inside_lambda c.args.context)) c.args.context (state c.args.reader.now)
+          {name = shape named.buffer.value named.found} {mid = state named} (search rules) (search rules) (search rules),
+    )
+
+pub names::read_name-returns-then-bare-clause-reads : goal.names::read_name-returns-then-bare-clause-reads
+names::read_name-returns-then-bare-clause-reads t c = grind (arith, names)
+
+pub names::read_name-returns-in-Ok-check_width-2-clause-reads : goal.names::read_name-returns-in-Ok-check_width-2-clause-reads
+names::read_name-returns-in-Ok-check_width-2-clause-reads t c = grind (arith, names)
+
+pub names::read_name-returns-in_default-clause-reads : goal.names::read_name-returns-in_default-clause-reads
+names::read_name-returns-in_default-clause-reads t c = grind (arith, names)
+
+pub names::read_name-returns-in-Err-clause-reads : goal.names::read_name-returns-in-Err-clause-reads
+names::read_name-returns-in-Err-clause-reads t c = grind (arith, names)
+
+pub names::read_name-returns-in-Err-read_nested_name-clause-reads : goal.names::read_name-returns-in-Err-read_nested_name-clause-reads
+names::read_name-returns-in-Err-read_nested_name-clause-reads t c = grind (arith, names)
+
+pub names::read_name-returns-in-Err-read_local_name-clause-reads : goal.names::read_name-returns-in-Err-read_local_name-clause-reads
+names::read_name-returns-in-Err-read_local_name-clause-reads t c = grind (arith, names)
+
+pub names::read_name-returns-in-Err-read_unscoped_name-clause-reads : goal.names::read_name-returns-in-Err-read_unscoped_name-clause-reads
+names::read_name-returns-in-Err-read_unscoped_name-clause-reads t c = grind (arith, names)
+
+pub names::read_name-returns-in-Err-check_width-clause-reads : goal.names::read_name-returns-in-Err-check_width-clause-reads
+names::read_name-returns-in-Err-check_width-clause-reads t c = grind (arith, names)
+
+pub names::read_name-returns-in-Err-check_width-2-clause-reads : goal.names::read_name-returns-in-Err-check_width-2-clause-reads
+names::read_name-returns-in-Err-check_width-2-clause-reads t c = grind (arith, names)
 
 pub specials::read_construction-read_framed-requires : goal.specials::read_construction-read_framed-requires
 specials::read_construction-read_framed-requires t c =
     let left = ap (λ (s : spec.ParserState). length s.rest) c.skip.ensures.state in
     let entered = ap (λ (s : spec.ParserState). s.entered) c.skip.ensures.state in
     let two = length-drop 2 c.args.reader.now.rest.now in
-    let class = (c.in_ok-read_type.ensures {u = tt}).bounds in
+    let class = (c.in-Ok.ensures {u = tt}).bounds in
     let enough : c.read_type.new.reader.entered + 2 * length c.in-Some.rest.now + 2 < 2 ^ 64 =
     omega (arith, left, entered, two, class.taken, class.counted, c.in-Some.ensures.shorter, c.requires.count_fits) in
     search rules
@@ -413,8 +447,8 @@ specials::read_construction-returns-clause-bounds t c =
     let left = ap (λ (s : spec.ParserState). length s.rest) c.skip.ensures.state in
     let entered = ap (λ (s : spec.ParserState). s.entered) c.skip.ensures.state in
     let two = length-drop 2 c.args.reader.now.rest.now in
-    let class = (c.in_ok-read_type.ensures {u = tt}).bounds in
-    let base = (c.in_ok-read_framed.ensures {u = tt}).bounds in
+    let class = (c.in-Ok.ensures {u = tt}).bounds in
+    let base = (c.in-Ok-read_framed.ensures {u = tt}).bounds in
     let before = ap (λ (s : spec.ParserState). length s.scopes) c.skip.ensures.state in
     let pushed : scopes c.push.new.self ≡ scopes c.read_type.new.reader.buffer.value = cc (c.in_ok-begun.ensures.kept.lists.scopes_same, c.deref_mut.ensures.value) in
     let joined : scopes c.join.new.self ≡ scopes c.read_framed.new.reader.buffer.value = cc (c.in_ok-reader.ensures.edit.lists.scopes_same, c.deref_mut-2.ensures.value) in
@@ -428,8 +462,8 @@ pub specials::read_construction-returns-clause-saved : goal.specials::read_const
 specials::read_construction-returns-clause-saved t c =
     let left = ap (λ (s : spec.ParserState). length s.rest) c.skip.ensures.state in
     let two = length-drop 2 c.args.reader.now.rest.now in
-    let class = (c.in_ok-read_type.ensures {u = tt}).saved in
-    let base = (c.in_ok-read_framed.ensures {u = tt}).saved in
+    let class = (c.in-Ok.ensures {u = tt}).saved in
+    let base = (c.in-Ok-read_framed.ensures {u = tt}).saved in
     let before = ap (λ (s : spec.ParserState). length s.saved) c.skip.ensures.state in
     let most = ap (λ (s : spec.ParserState). s.most_saved) c.skip.ensures.state in
     let pushed : saved c.push.new.self ≡ saved c.read_type.new.reader.buffer.value = cc (c.in_ok-begun.ensures.kept.lists.saved_same, c.deref_mut.ensures.value) in
@@ -445,10 +479,10 @@ specials::read_thunk-returns-clause-reads t c =
     let symbol = c.close_found.new.self in
     let opens : Opens opened.buffer.value c.open-mark.new.self c.open-mark.result =
     subst (λ (b : Buffer). Opens b c.open-mark.new.self c.open-mark.result) c.deref_mut.ensures.value c.open-mark.ensures.opens in
-    let since = IsSince-run _ _ _ _ (IsSince-opens _ _ _ opens) (c.in_ok-read_encoding.ensures {u = tt}).run in
-    let kept : SameFrame opened.buffer.value symbol.buffer.value = SameFrame-closed _ _ _ _ since (c.in_ok-close_found.ensures {u = tt}).closed in
-    let words = kept.pieces opened.found (c.in_ok-open_thunk.ensures {u = tt}).reads.0 in
-    let built = c.in_ok-join_words.ensures.shape.shape_is
+    let since = IsSince-run _ _ _ _ (IsSince-opens _ _ _ opens) (c.in-Ok-read_encoding.ensures {u = tt}).run in
+    let kept : SameFrame opened.buffer.value symbol.buffer.value = SameFrame-closed _ _ _ _ since (c.in-Ok-close_found.ensures {u = tt}).closed in
+    let words = kept.pieces opened.found (c.in-Ok-open_thunk.ensures {u = tt}).reads.0 in
+    let built = c.in-Ok-join_words.ensures.shape.shape_is
     ∙ ap (λ (s : Shape). worded_shape (text s) (shape symbol.buffer.value symbol.found) (codes ")}")) words.shape_is in
     checked c.check_width.result _ c.check_width.ensures.fits (search rules)
     (λ narrow. thunk_read c.args.depth c.args.end c.args.context (state c.args.reader.now) {front = shape opened.buffer.value opened.found} {t = shape symbol.buffer.value symbol.found}
@@ -463,7 +497,7 @@ specials::read_thunk-join_words-requires-clause-after t c =
     let opened = c.open_thunk.new.self in
     let symbol = c.close_found.new.self in
     let output : main_bytes symbol.buffer.value ≡ main_bytes opened.buffer.value ++ text (shape symbol.buffer.value symbol.found) = search (rules, runs) in
-    let words = c.in_ok-open_thunk.ensures {u = tt} in
+    let words = c.in-Ok-open_thunk.ensures {u = tt} in
     text_after-follows opened.buffer.value symbol.buffer.value opened.found _ words.reads.0 words.last output
 
 pub specials::read_thunk-returns-clause-run : goal.specials::read_thunk-returns-clause-run
@@ -472,10 +506,10 @@ specials::read_thunk-returns-clause-run t c =
     let symbol = c.close_found.new.self in
     let opens : Opens opened.buffer.value c.open-mark.new.self c.open-mark.result =
     subst (λ (b : Buffer). Opens b c.open-mark.new.self c.open-mark.result) c.deref_mut.ensures.value c.open-mark.ensures.opens in
-    let since = IsSince-run _ _ _ _ (IsSince-opens _ _ _ opens) (c.in_ok-read_encoding.ensures {u = tt}).run in
-    let kept : SameFrame opened.buffer.value symbol.buffer.value = SameFrame-closed _ _ _ _ since (c.in_ok-close_found.ensures {u = tt}).closed in
+    let since = IsSince-run _ _ _ _ (IsSince-opens _ _ _ opens) (c.in-Ok-read_encoding.ensures {u = tt}).run in
+    let kept : SameFrame opened.buffer.value symbol.buffer.value = SameFrame-closed _ _ _ _ since (c.in-Ok-close_found.ensures {u = tt}).closed in
     let first : IsRun c.args.reader.now.buffer.value opened.buffer.value = search rules in
-    in_any_case c.check_width.result (IsRun-trans _ _ _ first (IsRun-trans _ _ _ (IsRun-same _ _ kept) c.in_ok-join_words.ensures.run))
+    in_any_case c.check_width.result (IsRun-trans _ _ _ first (IsRun-trans _ _ _ (IsRun-same _ _ kept) c.in-Ok-join_words.ensures.run))
 
 -- a construction vtable, part by part
 construction_read : (type : spec.Parses Shape) (s : spec.ParserState) {first second found : Shape} {mid after : spec.ParserState} {rest : List ℕ} → type (spec.skip 2 s) ≡ Some (first, mid)
@@ -485,9 +519,9 @@ construction_read type s one base two built = rw (one, base, two, built) refl
 pub specials::read_construction-returns-clause-reads : goal.specials::read_construction-returns-clause-reads
 specials::read_construction-returns-clause-reads t c =
     let type = spec.parse_type c.args.depth c.args.context in
-    let class_read = c.in_ok-read_type.ensures {u = tt} in
+    let class_read = c.in-Ok.ensures {u = tt} in
     let push = c.in_ok-begun.ensures {u = tt} in
-    let base_read = c.in_ok-read_framed.ensures {u = tt} in
+    let base_read = c.in-Ok-read_framed.ensures {u = tt} in
     let join = c.in_ok-reader.ensures {u = tt} in
     let one = c.read_type.new.reader in
     let two = c.read_framed.new.reader in
@@ -553,42 +587,39 @@ types::read_params-returns-then-is_too_wide-clause-saved t c = grind (arith, typ
 pub types::read_pointer-returns-clause-saved : goal.types::read_pointer-returns-clause-saved
 types::read_pointer-returns-clause-saved t c = grind (arith, common_steps)
 
-pub types::read_type-returns-in_err-depth-clause-reads : goal.types::read_type-returns-in_err-depth-clause-reads
-types::read_type-returns-in_err-depth-clause-reads t c = grind (arith, types)
+pub types::read_type-returns-in-Err-clause-reads : goal.types::read_type-returns-in-Err-clause-reads
+types::read_type-returns-in-Err-clause-reads t c = grind (arith, types)
 
-pub types::read_type-returns-in_err-read_name-in-NameType-clause-reads : goal.types::read_type-returns-in_err-read_name-in-NameType-clause-reads
-types::read_type-returns-in_err-read_name-in-NameType-clause-reads t c = grind (arith, types)
+pub types::read_type-returns-in-Err-read_name-clause-reads : goal.types::read_type-returns-in-Err-read_name-clause-reads
+types::read_type-returns-in-Err-read_name-clause-reads t c = grind (arith, types)
 
 pub types::read_type-returns-in-NameType-clause-reads : goal.types::read_type-returns-in-NameType-clause-reads
 types::read_type-returns-in-NameType-clause-reads t c = grind (arith, types)
 
-pub types::read_type-returns-in_err-read_substitution-in-SubstitutionType-clause-reads : goal.types::read_type-returns-in_err-read_substitution-in-SubstitutionType-clause-reads
-types::read_type-returns-in_err-read_substitution-in-SubstitutionType-clause-reads t c = grind (arith, types)
+pub types::read_type-returns-in-Err-read_substitution-clause-reads : goal.types::read_type-returns-in-Err-read_substitution-clause-reads
+types::read_type-returns-in-Err-read_substitution-clause-reads t c = grind (arith, types)
 
-pub types::read_type-returns-in_err-read_template_param-in-TemplateParamType-clause-reads : goal.types::read_type-returns-in_err-read_template_param-in-TemplateParamType-clause-reads
-types::read_type-returns-in_err-read_template_param-in-TemplateParamType-clause-reads t c = grind (arith, types)
+pub types::read_type-returns-in-Err-read_template_param-clause-reads : goal.types::read_type-returns-in-Err-read_template_param-clause-reads
+types::read_type-returns-in-Err-read_template_param-clause-reads t c = grind (arith, types)
 
-pub types::read_type-returns-in_err-read-clause-reads : goal.types::read_type-returns-in_err-read-clause-reads
-types::read_type-returns-in_err-read-clause-reads t c = grind (arith, types)
+pub types::read_type-returns-in-Err-read-clause-reads : goal.types::read_type-returns-in-Err-read-clause-reads
+types::read_type-returns-in-Err-read-clause-reads t c = grind (arith, types)
 
 pub types::read_type-returns-clause-reads : goal.types::read_type-returns-clause-reads
 types::read_type-returns-clause-reads t c =
     checked c.check_width.result c.match-type_case.reader c.check_width.ensures.fits (search rules) (λ narrow. grind (arith, types)) (λ wide. grind (arith, types))
 
-pub names::read_nested_name-returns-in_err-read_segments-in-None-clause-reads : goal.names::read_nested_name-returns-in_err-read_segments-in-None-clause-reads
-names::read_nested_name-returns-in_err-read_segments-in-None-clause-reads t c = grind (arith, nested_names)
+pub names::read_nested_name-returns-in-Err-clause-reads : goal.names::read_nested_name-returns-in-Err-clause-reads
+names::read_nested_name-returns-in-Err-clause-reads t c = grind (arith, nested_names)
 
-pub names::read_nested_name-returns-in_err-read_segments-in-Some-clause-reads : goal.names::read_nested_name-returns-in_err-read_segments-in-Some-clause-reads
-names::read_nested_name-returns-in_err-read_segments-in-Some-clause-reads t c = grind (arith, nested_names)
+pub names::read_nested_name-returns-in-Err-read_segments-clause-reads : goal.names::read_nested_name-returns-in-Err-read_segments-clause-reads
+names::read_nested_name-returns-in-Err-read_segments-clause-reads t c = grind (arith, nested_names)
 
-pub names::read_nested_name-returns-in_ok-read_segments-in-None-clause-reads : goal.names::read_nested_name-returns-in_ok-read_segments-in-None-clause-reads
-names::read_nested_name-returns-in_ok-read_segments-in-None-clause-reads t c = grind (arith, nested_names)
+pub names::read_nested_name-returns-in-Ok-clause-reads : goal.names::read_nested_name-returns-in-Ok-clause-reads
+names::read_nested_name-returns-in-Ok-clause-reads t c = grind (arith, nested_names)
 
-pub names::read_nested_name-returns-in_ok-read_segments-in-Some-clause-reads : goal.names::read_nested_name-returns-in_ok-read_segments-in-Some-clause-reads
-names::read_nested_name-returns-in_ok-read_segments-in-Some-clause-reads t c = grind (arith, nested_names)
-
-pub names::read_segments-loop-reader-init : goal.names::read_segments-loop-reader-init
-names::read_segments-loop-reader-init t c = grind (arith, common_steps)
+pub names::read_nested_name-returns-in-Ok-read_segments-clause-reads : goal.names::read_nested_name-returns-in-Ok-read_segments-clause-reads
+names::read_nested_name-returns-in-Ok-read_segments-clause-reads t c = grind (arith, nested_names)
 
 pub names::read_segment-returns-clause-reads : goal.names::read_segment-returns-clause-reads
 names::read_segment-returns-clause-reads t c = grind (arith, unqualified_names)
@@ -599,40 +630,34 @@ names::read_ordinary_segment-returns-clause-run t c =
     let last = c.close_opened.new.buf in
     let opens : Opens parent c.open-mark.new.self c.open-mark.result =
     subst (λ (b : Buffer). Opens b c.open-mark.new.self c.open-mark.result) c.deref_mut-2.ensures.value c.open-mark.ensures.opens in
-    let since = IsSince-run _ _ _ _ (IsSince-opens _ _ _ opens) (c.in_ok-read_ordinary_name.ensures {u = tt}).run in
-    let kept : SameFrame parent c.close_found.new.self.buffer.value = SameFrame-closed _ _ _ _ since (c.in_ok-close_found.ensures {u = tt}).closed in
+    let since = IsSince-run _ _ _ _ (IsSince-opens _ _ _ opens) (c.in-Ok.ensures {u = tt}).run in
+    let kept : SameFrame parent c.close_found.new.self.buffer.value = SameFrame-closed _ _ _ _ since (c.in-Ok-close_found.ensures {u = tt}).closed in
     let before : IsEdit c.args.reader.now.buffer.value parent =
     subst (λ (b : Buffer). IsEdit b parent) c.deref_mut.ensures.value (c.in_ok-opened.ensures {u = tt}).edit in
     let after : IsEdit c.close_found.new.self.buffer.value last =
     subst (λ (b : Buffer). IsEdit b last) c.deref_mut-3.ensures.value (c.in_ok-reader.ensures {u = tt}).edit in
     IsRun-trans _ _ _ (IsRun-edit _ _ before) (IsRun-trans _ _ _ (IsRun-same _ _ kept) (IsRun-edit _ _ after))
 
-pub names::read_segment-returns-in_err-read-clause-reads : goal.names::read_segment-returns-in_err-read-clause-reads
-names::read_segment-returns-in_err-read-clause-reads t c = grind (arith, unqualified_names)
+pub names::read_segment-returns-in-Err-clause-reads : goal.names::read_segment-returns-in-Err-clause-reads
+names::read_segment-returns-in-Err-clause-reads t c = grind (arith, unqualified_names)
 
-pub names::read_unqualified_name-returns-in_err-read-clause-reads : goal.names::read_unqualified_name-returns-in_err-read-clause-reads
-names::read_unqualified_name-returns-in_err-read-clause-reads t c = grind (arith, outer_names)
+pub names::read_unqualified_name-returns-in-Err-clause-reads : goal.names::read_unqualified_name-returns-in-Err-clause-reads
+names::read_unqualified_name-returns-in-Err-clause-reads t c = grind (arith, outer_names)
 
 pub names::read_unqualified_name-returns-clause-reads : goal.names::read_unqualified_name-returns-clause-reads
 names::read_unqualified_name-returns-clause-reads t c = grind (arith, outer_names)
 
-pub names::read_name-returns-then-bare-clause-reads : goal.names::read_name-returns-then-bare-clause-reads
-names::read_name-returns-then-bare-clause-reads t c = grind (arith, names)
-
-pub names::read_name-returns-in_default-clause-reads : goal.names::read_name-returns-in_default-clause-reads
-names::read_name-returns-in_default-clause-reads t c = grind (arith, names)
-
 pub args::read_template_arg-returns-clause-kept : goal.args::read_template_arg-returns-clause-kept
 args::read_template_arg-returns-clause-kept t c = on_success c.close_found.result (λ closed. grind (arith, common_steps)) c.close_found.ensures.closed
 
-pub args::read_argument_pack-returns-in_err-depth-clause-reads : goal.args::read_argument_pack-returns-in_err-depth-clause-reads
-args::read_argument_pack-returns-in_err-depth-clause-reads t c = grind (arith, packs)
+pub args::read_argument_pack-returns-in-Err-clause-reads : goal.args::read_argument_pack-returns-in-Err-clause-reads
+args::read_argument_pack-returns-in-Err-clause-reads t c = grind (arith, packs)
 
-pub args::read_template_arg-returns-in_err-read_expression-in-ExpressionArgument-clause-reads : goal.args::read_template_arg-returns-in_err-read_expression-in-ExpressionArgument-clause-reads
-args::read_template_arg-returns-in_err-read_expression-in-ExpressionArgument-clause-reads t c = grind (arith, arguments)
+pub args::read_template_arg-returns-in-Err-clause-reads : goal.args::read_template_arg-returns-in-Err-clause-reads
+args::read_template_arg-returns-in-Err-clause-reads t c = grind (arith, arguments)
 
-pub args::read_template_args-returns-in_err-depth-clause-reads : goal.args::read_template_args-returns-in_err-depth-clause-reads
-args::read_template_args-returns-in_err-depth-clause-reads t c = grind (arith, argument_lists)
+pub args::read_template_args-returns-in-Err-clause-reads : goal.args::read_template_args-returns-in-Err-clause-reads
+args::read_template_args-returns-in-Err-clause-reads t c = grind (arith, argument_lists)
 
 pub args::read_template_args-overflow_sub-front : goal.args::read_template_args-overflow_sub-front
 args::read_template_args-overflow_sub-front t c = grind (arith, common_steps)
@@ -646,26 +671,26 @@ args::read_template_args-add_argument-requires-clause-living t c = grind (arith,
 pub args::read_template_args-up_to_end-requires-clause-inner : goal.args::read_template_args-up_to_end-requires-clause-inner
 args::read_template_args-up_to_end-requires-clause-inner t c = grind (arith, argument_lists)
 
-pub encodings::read_encoding-returns-in_err-read_name-in-FullEncoding-clause-reads : goal.encodings::read_encoding-returns-in_err-read_name-in-FullEncoding-clause-reads
-encodings::read_encoding-returns-in_err-read_name-in-FullEncoding-clause-reads t c = grind (arith, encodings)
+pub encodings::read_encoding-returns-in-Err-clause-reads : goal.encodings::read_encoding-returns-in-Err-clause-reads
+encodings::read_encoding-returns-in-Err-clause-reads t c = grind (arith, encodings)
 
-pub encodings::read_local_name-returns-in_err-read_encoding-clause-reads : goal.encodings::read_local_name-returns-in_err-read_encoding-clause-reads
-encodings::read_local_name-returns-in_err-read_encoding-clause-reads t c = grind (arith, local_names)
+pub encodings::read_local_name-returns-in-Err-clause-reads : goal.encodings::read_local_name-returns-in-Err-clause-reads
+encodings::read_local_name-returns-in-Err-clause-reads t c = grind (arith, local_names)
 
 pub encodings::read_local_name-returns-clause-reads : goal.encodings::read_local_name-returns-clause-reads
 encodings::read_local_name-returns-clause-reads t c = grind (arith, local_names)
 
-pub expressions::read_expr_primary-returns-in_err-read_encoding-in-ExternalName-clause-reads : goal.expressions::read_expr_primary-returns-in_err-read_encoding-in-ExternalName-clause-reads
-expressions::read_expr_primary-returns-in_err-read_encoding-in-ExternalName-clause-reads t c = grind (arith, primaries)
+pub expressions::read_expr_primary-returns-in-Err-clause-reads : goal.expressions::read_expr_primary-returns-in-Err-clause-reads
+expressions::read_expr_primary-returns-in-Err-clause-reads t c = grind (arith, primaries)
 
-pub expressions::read_expr_primary-returns-in_ok-read_encoding-in-ExternalName-clause-reads : goal.expressions::read_expr_primary-returns-in_ok-read_encoding-in-ExternalName-clause-reads
-expressions::read_expr_primary-returns-in_ok-read_encoding-in-ExternalName-clause-reads t c = grind (arith, primaries)
+pub expressions::read_expr_primary-returns-in-Ok-clause-reads : goal.expressions::read_expr_primary-returns-in-Ok-clause-reads
+expressions::read_expr_primary-returns-in-Ok-clause-reads t c = grind (arith, primaries)
 
-pub expressions::read_expression-returns-in_err-depth-clause-reads : goal.expressions::read_expression-returns-in_err-depth-clause-reads
-expressions::read_expression-returns-in_err-depth-clause-reads t c = grind (arith, expressions)
+pub expressions::read_expression-returns-in-Err-clause-reads : goal.expressions::read_expression-returns-in-Err-clause-reads
+expressions::read_expression-returns-in-Err-clause-reads t c = grind (arith, expressions)
 
-pub expressions::read_expression-returns-in_err-read-clause-reads : goal.expressions::read_expression-returns-in_err-read-clause-reads
-expressions::read_expression-returns-in_err-read-clause-reads t c = grind (arith, expressions)
+pub expressions::read_expression-returns-in-Err-read-clause-reads : goal.expressions::read_expression-returns-in-Err-read-clause-reads
+expressions::read_expression-returns-in-Err-read-clause-reads t c = grind (arith, expressions)
 
 pub expressions::read_expression-returns-clause-reads : goal.expressions::read_expression-returns-clause-reads
 expressions::read_expression-returns-clause-reads t c =
@@ -674,14 +699,14 @@ expressions::read_expression-returns-clause-reads t c =
 pub expressions::read_post-returns-clause-run : goal.expressions::read_post-returns-clause-run
 expressions::read_post-returns-clause-run t c = grind (arith, buffers)
 
-pub specials::read_thunk-returns-in_err-depth-clause-reads : goal.specials::read_thunk-returns-in_err-depth-clause-reads
-specials::read_thunk-returns-in_err-depth-clause-reads t c = grind (arith, thunks)
+pub specials::read_thunk-returns-in-Err-clause-reads : goal.specials::read_thunk-returns-in-Err-clause-reads
+specials::read_thunk-returns-in-Err-clause-reads t c = grind (arith, thunks)
 
-pub specials::read_thunk-returns-in_err-open_thunk-clause-reads : goal.specials::read_thunk-returns-in_err-open_thunk-clause-reads
-specials::read_thunk-returns-in_err-open_thunk-clause-reads t c = grind (arith, thunks)
+pub specials::read_thunk-returns-in-Err-open_thunk-clause-reads : goal.specials::read_thunk-returns-in-Err-open_thunk-clause-reads
+specials::read_thunk-returns-in-Err-open_thunk-clause-reads t c = grind (arith, thunks)
 
-pub specials::read_thunk-returns-in_err-read_encoding-clause-reads : goal.specials::read_thunk-returns-in_err-read_encoding-clause-reads
-specials::read_thunk-returns-in_err-read_encoding-clause-reads t c = grind (arith, thunks)
+pub specials::read_thunk-returns-in-Err-read_encoding-clause-reads : goal.specials::read_thunk-returns-in-Err-read_encoding-clause-reads
+specials::read_thunk-returns-in-Err-read_encoding-clause-reads t c = grind (arith, thunks)
 
 pub args::read_template_arg-returns-clause-reads : goal.args::read_template_arg-returns-clause-reads
 args::read_template_arg-returns-clause-reads t c = grind (arith, arguments)
@@ -692,11 +717,11 @@ encodings::read_encoding-returns-in-SpecialEncoding-clause-reads t c = grind (ar
 pub encodings::read_encoding-returns-in-NameEncoding-clause-reads : goal.encodings::read_encoding-returns-in-NameEncoding-clause-reads
 encodings::read_encoding-returns-in-NameEncoding-clause-reads t c = grind (arith, encodings)
 
-pub encodings::read_encoding-returns-in_ok-read_name-in-FullEncoding-clause-reads : goal.encodings::read_encoding-returns-in_ok-read_name-in-FullEncoding-clause-reads
-encodings::read_encoding-returns-in_ok-read_name-in-FullEncoding-clause-reads t c = grind (arith, encodings)
+pub encodings::read_encoding-returns-in-Ok-clause-reads : goal.encodings::read_encoding-returns-in-Ok-clause-reads
+encodings::read_encoding-returns-in-Ok-clause-reads t c = grind (arith, encodings)
 
-pub expressions::read_expr_primary-returns-in_err-read_framed-in-ValueLiteral-clause-reads : goal.expressions::read_expr_primary-returns-in_err-read_framed-in-ValueLiteral-clause-reads
-expressions::read_expr_primary-returns-in_err-read_framed-in-ValueLiteral-clause-reads t c = grind (arith, primaries)
+pub expressions::read_expr_primary-returns-in-Err-read_framed-clause-reads : goal.expressions::read_expr_primary-returns-in-Err-read_framed-clause-reads
+expressions::read_expr_primary-returns-in-Err-read_framed-clause-reads t c = grind (arith, primaries)
 
 pub expressions::read_expr_primary-returns-in_default-clause-reads : goal.expressions::read_expr_primary-returns-in_default-clause-reads
 expressions::read_expr_primary-returns-in_default-clause-reads t c = grind (arith, primaries)
@@ -713,14 +738,8 @@ expressions::read_conditional-returns-clause-reads t c = grind (arith, common_st
 pub expressions::read_conditional-returns-clause-saved : goal.expressions::read_conditional-returns-clause-saved
 expressions::read_conditional-returns-clause-saved t c = grind (arith, buffers)
 
-pub names::read_name-returns-in_err-depth-clause-reads : goal.names::read_name-returns-in_err-depth-clause-reads
-names::read_name-returns-in_err-depth-clause-reads t c = grind (arith, names)
-
-pub names::read_name-returns-in_err-check_width-clause-reads : goal.names::read_name-returns-in_err-check_width-clause-reads
-names::read_name-returns-in_err-check_width-clause-reads t c = grind (arith, names)
-
-pub args::read_template_arg-returns-in_err-read-clause-reads : goal.args::read_template_arg-returns-in_err-read-clause-reads
-args::read_template_arg-returns-in_err-read-clause-reads t c = grind (arith, arguments)
+pub args::read_template_arg-returns-in-Err-read-clause-reads : goal.args::read_template_arg-returns-in-Err-read-clause-reads
+args::read_template_arg-returns-in-Err-read-clause-reads t c = grind (arith, arguments)
 
 pub args::read_template_args-close_arguments-requires-clause-inner : goal.args::read_template_args-close_arguments-requires-clause-inner
 args::read_template_args-close_arguments-requires-clause-inner t c = grind (arith, argument_lists)
@@ -753,13 +772,13 @@ expressions::read_conditional-returns-clause-bounds t c =
     let entered = ap (λ (s : spec.ParserState). s.entered) c.skip.ensures.state in
     let before = ap (λ (s : spec.ParserState). length s.scopes) c.skip.ensures.state in
     let two = length-drop 2 c.args.reader.now.rest.now in
-    let condition = (c.in_ok-read_operand.ensures {u = tt}).bounds in
-    let first = (c.in_ok-read_framed.ensures {u = tt}).bounds in
-    let printed = (c.in_ok-print_binary.ensures {u = tt}).state in
+    let condition = (c.in-Ok.ensures {u = tt}).bounds in
+    let first = (c.in-Ok-read_framed.ensures {u = tt}).bounds in
+    let printed = (c.in-Ok-print_binary.ensures {u = tt}).state in
     let printed_left = ap (λ (s : spec.ParserState). length s.rest) printed in
     let printed_entered = ap (λ (s : spec.ParserState). s.entered) printed in
     let printed_scopes = ap (λ (s : spec.ParserState). length s.scopes) printed in
-    let second = (c.in_ok-read_framed-2.ensures {u = tt}).bounds in
+    let second = (c.in-Ok-read_framed-2.ensures {u = tt}).bounds in
     edited_bounds 0 c.print_binary-2.result _ c.print_binary-2.ensures.memory c.print_binary-2.ensures.state record {
       taken = omega (arith, left, two, condition.taken, first.taken, printed_left, second.taken);
       counted = omega (arith, left, entered, two, condition.counted, first.counted, printed_left, printed_entered, second.counted, c.requires.some);
@@ -773,7 +792,7 @@ pub frames::read_worded-join_words-requires-clause-after : goal.frames::read_wor
 frames::read_worded-join_words-requires-clause-after t c =
     let begun = c.in_ok-begun.ensures {u = tt} in
     text_after-follows c.push.new.self c.read_framed.new.reader.buffer.value c.in_ok-begun.begun _ begun.shape.living
-    (IsLast-push _ _ _ begun.kept begun.mark begun.stands) (c.in_ok-read_framed.ensures {u = tt}).output
+    (IsLast-push _ _ _ begun.kept begun.mark begun.stands) (c.in-Ok.ensures {u = tt}).output
 
 -- the same of how the substitution table grows
 edited_growth : (slack : ℕ) (result : Result (Unit {0}) Stop) {before mid : spec.ParserState} (after : spec.ParserState) → IsOkUnless result Memory
@@ -788,8 +807,8 @@ types::read_function_type-returns-in_ok-reader-in-PlainFunction-clause-bounds t 
     let entered = ap (λ (s : spec.ParserState). s.entered) c.skip.ensures.state in
     let before = ap (λ (s : spec.ParserState). length s.scopes) c.skip.ensures.state in
     let one = length-drop 1 c.args.reader.now.rest.now in
-    let first = (c.in_ok-read_type-in-PlainFunction.ensures {u = tt}).bounds in
-    let params = (c.in_ok-read_params-in-PlainFunction.ensures {u = tt}).bounds in
+    let first = (c.in-Ok.ensures {u = tt}).bounds in
+    let params = (c.in-Ok-read_params.ensures {u = tt}).bounds in
     let opened : scopes c.open_function.new.buf ≡ scopes c.read_type.new.reader.buffer.value =
     cc ((c.in_ok-list-in-PlainFunction.ensures {u = tt}).edit.lists.scopes_same, c.deref_mut.ensures.value) in
     let closed : scopes c.close_function.new.buf ≡ scopes c.read_params.new.reader.buffer.value =
@@ -811,8 +830,8 @@ types::read_function_type-returns-in_ok-reader-in-PlainFunction-clause-saved t c
     let before = ap (λ (s : spec.ParserState). length s.saved) c.skip.ensures.state in
     let most = ap (λ (s : spec.ParserState). s.most_saved) c.skip.ensures.state in
     let one = length-drop 1 c.args.reader.now.rest.now in
-    let first = (c.in_ok-read_type-in-PlainFunction.ensures {u = tt}).saved in
-    let params = (c.in_ok-read_params-in-PlainFunction.ensures {u = tt}).saved in
+    let first = (c.in-Ok.ensures {u = tt}).saved in
+    let params = (c.in-Ok-read_params.ensures {u = tt}).saved in
     let opened : saved c.open_function.new.buf ≡ saved c.read_type.new.reader.buffer.value =
     cc ((c.in_ok-list-in-PlainFunction.ensures {u = tt}).edit.lists.saved_same, c.deref_mut.ensures.value) in
     let closed : saved c.close_function.new.buf ≡ saved c.read_params.new.reader.buffer.value =
@@ -846,8 +865,8 @@ encodings::read_entity-returns-clause-run t c =
     let closed = c.close_found.new.self in
     let opens : Opens m.buffer.value c.open-mark.new.self c.open-mark.result =
     subst (λ (b : Buffer). Opens b c.open-mark.new.self c.open-mark.result) c.deref_mut-2.ensures.value c.open-mark.ensures.opens in
-    let since = IsSince-run _ _ _ _ (IsSince-opens _ _ _ opens) (c.in_ok-read_name.ensures {u = tt}).run in
-    let kept : SameFrame m.buffer.value closed.buffer.value = SameFrame-closed _ _ _ _ since (c.in_ok-close_found.ensures {u = tt}).closed in
+    let since = IsSince-run _ _ _ _ (IsSince-opens _ _ _ opens) (c.in-Ok.ensures {u = tt}).run in
+    let kept : SameFrame m.buffer.value closed.buffer.value = SameFrame-closed _ _ _ _ since (c.in-Ok-close_found.ensures {u = tt}).closed in
     let last : IsEdit closed.buffer.value c.close_opened.new.buf =
     subst (λ (b : Buffer). IsEdit b c.close_opened.new.buf) c.deref_mut-3.ensures.value (c.in_ok-reader.ensures {u = tt}).edit in
     IsRun-trans _ _ _ (IsRun-edit _ _ edit) (IsRun-trans _ _ _ (IsRun-same _ _ kept) (IsRun-edit _ _ last))
@@ -890,8 +909,8 @@ encodings::read_entity-returns-clause-reads t c =
     let closed = c.close_found.new.self in
     let opens : Opens m.buffer.value c.open-mark.new.self c.open-mark.result =
     subst (λ (b : Buffer). Opens b c.open-mark.new.self c.open-mark.result) c.deref_mut-2.ensures.value c.open-mark.ensures.opens in
-    let since = IsSince-run _ _ _ _ (IsSince-opens _ _ _ opens) (c.in_ok-read_name.ensures {u = tt}).run in
-    let kept : SameFrame m.buffer.value closed.buffer.value = SameFrame-closed _ _ _ _ since (c.in_ok-close_found.ensures {u = tt}).closed in
+    let since = IsSince-run _ _ _ _ (IsSince-opens _ _ _ opens) (c.in-Ok.ensures {u = tt}).run in
+    let kept : SameFrame m.buffer.value closed.buffer.value = SameFrame-closed _ _ _ _ since (c.in-Ok-close_found.ensures {u = tt}).closed in
     let front = kept.pieces c.in_ok-opened.opened opened.lives.living in
     let built = rw c.deref_mut-3.ensures.value at (c.in_ok-reader.ensures {u = tt}).shape.shape_is in (
       search rules,
