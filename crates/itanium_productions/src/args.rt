@@ -42,6 +42,7 @@ pub(crate) fn read_template_args(
     let opens = context.opens_scope(of_name);
     tri!(reader.open_scope_if(opens));
     let scopes = reader.buffer.scopes();
+    // `list` stays the name and `<`. The arguments are printed after it, and `close_arguments` makes them part of it.
     let list = open_arguments(&mut reader.buffer, reader.found)?;
     // The text limit applies to the list from its `<` on, without the name in front.
     let front = reader.buffer.len(list) - 1;

@@ -29,7 +29,7 @@ use itanium_syntax::numerals::ordinal;
 
 /// Reads the return type of an `<encoding>`, if there is one, and removes its text from the output. The components
 /// that it saved and the scopes that it opened stay. `templ` and `ctor` are the flags of the name in front of it.
-/// Afterwards `found` isn't the name: if a return type was read, `found` is an empty text.
+/// If a return type was read, `found` is an empty text afterwards. Otherwise `found` stays the name.
 #[cycle(reader)]
 pub(crate) fn read_return(
     reader: &mut Reader,

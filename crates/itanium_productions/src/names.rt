@@ -258,6 +258,7 @@ pub(crate) fn read_segments(reader: &mut Reader, depth: usize, context: Context)
     ensures bounds { TakesSome 1 result (state reader.old) (state reader.new) }
     ensures saved { SavedBounds 1 result (state reader.old) (state reader.new) }
 {
+    // Whether `found` isn't in the table yet, and is saved if another segment follows.
     let mut candidate = tri!(read_first_segment(reader, depth, context));
     loop {
         if begins_source(reader.rest) {

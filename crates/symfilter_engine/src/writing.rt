@@ -268,6 +268,7 @@ fn write_next<W: Sink>(
     ensures err { OnErr result (WritesBeginningOfAny placement whole.now (W.taken sink.old) (W.taken sink.new)) }
     ensures memory { IsErrOf result FilterFault.Memory → Keeps (W.taken sink.old) (W.taken sink.new) }
 {
+    // A shorter run of ordinary lines or words goes into the output, like the others that `append_next` finds.
     let ordinary = ordinary_len(placement, whole);
     if ordinary >= LONG_LEN {
         write_all(sink, &whole[..ordinary])?;

@@ -19,11 +19,11 @@ use Rattle.itanium_productions.proofs.+reader.Given as goal
 abbrev production : ℕ → ℕ
 production d = 16 * d
 
--- one such in a frame, or one with a step after it
-abbrev framed : ℕ → ℕ
-framed d = 16 * d + 1
+-- one step around such a production
+abbrev stepped : ℕ → ℕ
+stepped d = 16 * d + 1
 
--- a list, or an operand in a frame
+-- a list, or what is read in a frame
 abbrev list : ℕ → ℕ
 list d = 16 * d + 2
 
@@ -63,7 +63,7 @@ abbrev pub decreases-names::read_name : goal.decreases-names::read_name
 decreases-names::read_name l = production l.depth
 
 abbrev pub decreases-encodings::read_return : goal.decreases-encodings::read_return
-decreases-encodings::read_return l = framed l.depth
+decreases-encodings::read_return l = stepped l.depth
 
 abbrev pub decreases-encodings::end_encoding : goal.decreases-encodings::end_encoding
 decreases-encodings::end_encoding l = ended l.depth
@@ -152,10 +152,10 @@ abbrev pub decreases-types::read_pointer_to_member_type : goal.decreases-types::
 decreases-types::read_pointer_to_member_type l = listed l.depth
 
 abbrev pub decreases-types::read_array_type : goal.decreases-types::read_array_type
-decreases-types::read_array_type l = framed l.depth
+decreases-types::read_array_type l = stepped l.depth
 
 abbrev pub decreases-types::read_pointer : goal.decreases-types::read_pointer
-decreases-types::read_pointer l = framed l.depth
+decreases-types::read_pointer l = stepped l.depth
 
 abbrev pub decreases-types::read_elaborated : goal.decreases-types::read_elaborated
 decreases-types::read_elaborated l = ended l.depth
@@ -182,7 +182,7 @@ abbrev pub decreases-names::read_ordinary_segment : goal.decreases-names::read_o
 decreases-names::read_ordinary_segment l = unqualified l.depth
 
 abbrev pub decreases-types::read_expansion : goal.decreases-types::read_expansion
-decreases-types::read_expansion l = framed l.depth
+decreases-types::read_expansion l = stepped l.depth
 
 abbrev pub decreases-args::read_argument_pack : goal.decreases-args::read_argument_pack
 decreases-args::read_argument_pack l = production l.depth
@@ -220,10 +220,10 @@ abbrev pub decreases-expressions::read_expression : goal.decreases-expressions::
 decreases-expressions::read_expression l = production l.depth
 
 abbrev pub decreases-expressions::read_operand : goal.decreases-expressions::read_operand
-decreases-expressions::read_operand l = framed l.depth
+decreases-expressions::read_operand l = stepped l.depth
 
 abbrev pub decreases-expressions::read_address : goal.decreases-expressions::read_address
-decreases-expressions::read_address l = framed l.depth
+decreases-expressions::read_address l = stepped l.depth
 
 abbrev pub decreases-expressions::read_post : goal.decreases-expressions::read_post
 decreases-expressions::read_post l = listed l.depth
