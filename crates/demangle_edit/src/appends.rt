@@ -25,7 +25,7 @@ pub fn append_piece(
     let before = buf.len(first);
     let (from, to) = buf.own_range(first);
     let (templ, ctor) = (buf.templ(first), buf.ctor(first));
-    let whole = buf.join(first, between, second)?;
+    let whole = tri!(buf.join(first, between, second));
     let len = buf.len(whole);
     let n = if before <= from { len - before } else { 0 };
     let named = buf.own_at(whole, from + n, to + n);

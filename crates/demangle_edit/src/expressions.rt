@@ -64,8 +64,8 @@ fn parenthesize(buf: &mut Buffer, piece: Piece) -> Result<Piece, AllocError>
     ensures in_place { IfOk result (λ p. StaysInPlace buf.old buf.new piece p) }
 {
     let plain = buf.plain(piece);
-    let opened = buf.insert(plain, Place::Start, b"(")?;
-    let closed = buf.append(opened, b")")?;
+    let opened = tri!(buf.insert(plain, Place::Start, b"("));
+    let closed = tri!(buf.append(opened, b")"));
     let whole = buf.whole(closed);
     Ok(buf.with_flags(whole, false, false))
 }
@@ -80,8 +80,8 @@ fn append_value(buf: &mut Buffer, piece: Piece, value: &[u8]) -> Result<Piece, A
     ensures in_place { IfOk result (λ p. StaysInPlace buf.old buf.new piece p) }
 {
     let (sign, digits) = sign_and_digits(value);
-    let signed = buf.append(piece, sign)?;
-    let all = buf.append(signed, digits)?;
+    let signed = tri!(buf.append(piece, sign));
+    let all = tri!(buf.append(signed, digits));
     Ok(buf.whole(all))
 }
 
@@ -93,10 +93,10 @@ fn push_bracketed(buf: &mut Buffer, value: &[u8]) -> Result<Piece, AllocError>
     ensures appends { IfOk result (λ p. AppendsPiece buf.old buf.new p) }
 {
     let (sign, digits) = sign_and_digits(value);
-    let signed = buf.push(sign)?;
-    let opened = buf.append(signed, b"[")?;
-    let filled = buf.append(opened, digits)?;
-    let closed = buf.append(filled, b"]")?;
+    let signed = tri!(buf.push(sign));
+    let opened = tri!(buf.append(signed, b"["));
+    let filled = tri!(buf.append(opened, digits));
+    let closed = tri!(buf.append(filled, b"]"));
     Ok(buf.whole(closed))
 }
 
@@ -126,16 +126,16 @@ pub fn write_literal(buf: &mut Buffer, ty: Piece, value: &str) -> Result<Option<
         LiteralForm::Boolean => return Ok(None),
         LiteralForm::Null => buf.push(b"nullptr"),
         LiteralForm::Integer => {
-            let empty = buf.push(b"")?;
+            let empty = tri!(buf.push(b""));
             append_value(buf, empty, bytes)
         }
         LiteralForm::Float => push_bracketed(buf, bytes),
         LiteralForm::Cast => {
-            let cast = parenthesize(buf, ty)?;
+            let cast = tri!(parenthesize(buf, ty));
             append_value(buf, cast, bytes)
         }
     };
-    Ok(Some(literal?))
+    Ok(Some(tri!(literal)))
 }
 
 /// Makes a literal as `write_literal` does, from a piece `paren` whose text is `(`. A literal that prints its type in
@@ -158,10 +158,10 @@ pub fn write_opened_literal(
     let bytes = value.as_bytes();
     match literal_form(buf.bytes(ty), bytes) {
         LiteralForm::Cast => {
-            let opened = buf.join(paren, b"", ty)?;
-            let closed = buf.append(opened, b")")?;
+            let opened = tri!(buf.join(paren, b"", ty));
+            let closed = tri!(buf.append(opened, b")"));
             let cast = buf.whole(closed);
-            Ok(Some(append_value(buf, cast, bytes)?))
+            Ok(Some(tri!(append_value(buf, cast, bytes))))
         }
         _ => write_literal(buf, ty, value),
     }

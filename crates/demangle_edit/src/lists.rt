@@ -24,14 +24,14 @@ pub fn glue(buf: &mut Buffer, parts: &[Glue]) -> Result<Piece, AllocError>
     ensures appends { IfOk result (λ p. AppendsPiece buf.old buf.new p) }
 {
     let mark = buf.open();
-    let mut all = buf.push(b"")?;
+    let mut all = tri!(buf.push(b""));
     for part in parts {
         all = match part {
             Glue::Text(bytes) => {
-                let longer = buf.append(all, bytes)?;
+                let longer = tri!(buf.append(all, bytes));
                 buf.whole(longer)
             }
-            Glue::Piece(piece) => buf.join(all, b"", *piece)?,
+            Glue::Piece(piece) => tri!(buf.join(all, b"", *piece)),
         };
     }
     buf.close(mark, all)
@@ -45,10 +45,10 @@ pub(crate) fn list_pieces(buf: &mut Buffer, pieces: &[Piece]) -> Result<Piece, A
     ensures appends { IfOk result (λ p. AppendsPiece buf.old buf.new p) }
 {
     let mark = buf.open();
-    let mut list = buf.push(b"")?;
+    let mut list = tri!(buf.push(b""));
     for (i, piece) in pieces.iter().enumerate() {
         let between: &[u8] = if i == 0 { b"" } else { b", " };
-        list = append_piece(buf, list, between, *piece)?;
+        list = tri!(append_piece(buf, list, between, *piece));
     }
     let whole = buf.whole(list);
     buf.close(mark, whole)
@@ -70,7 +70,7 @@ pub fn open_arguments(buf: &mut Buffer, name: Piece) -> Result<Piece, AllocError
     let angle = buf.bytes(name).ends_with(b"<");
     let opening: &[u8] = if angle { b" <" } else { b"<" };
     let plain = buf.plain(name);
-    let opened = buf.append(plain, opening)?;
+    let opened = tri!(buf.append(plain, opening));
     Ok(buf.with_flags(opened, true, ctor))
 }
 
@@ -93,7 +93,7 @@ pub fn close_arguments(buf: &mut Buffer, list: Piece) -> Result<Piece, AllocErro
 {
     let angle = buf.main_bytes().ends_with(b">");
     let end: &[u8] = if angle { b" >" } else { b">" };
-    buf.push(end)?;
+    tri!(buf.push(end));
     Ok(buf.up_to_end(list))
 }
 
@@ -110,7 +110,7 @@ pub fn open_params(buf: &mut Buffer, name: Piece) -> Result<Piece, AllocError>
 {
     let ctor = buf.ctor(name);
     let plain = buf.plain(name);
-    let opened = buf.append(plain, b"(")?;
+    let opened = tri!(buf.append(plain, b"("));
     Ok(buf.with_flags(opened, false, ctor))
 }
 
@@ -121,8 +121,8 @@ pub fn close_params(buf: &mut Buffer, list: Piece, quals: Quals) -> Result<Piece
     ensures edit { OnOk result (IsEdit buf.old buf.new) }
     ensures in_place { IfOk result (λ p. StaysInPlace buf.old buf.new list p) }
 {
-    let closed = buf.append(list, b")")?;
-    let worded = buf.append(closed, quals.words())?;
+    let closed = tri!(buf.append(list, b")"));
+    let worded = tri!(buf.append(closed, quals.words()));
     buf.append(worded, reference_bytes(quals.reference))
 }
 
@@ -146,8 +146,8 @@ pub fn close_lambda(buf: &mut Buffer, list: Piece, number: u64) -> Result<Piece,
     ensures edit { OnOk result (IsEdit buf.old buf.new) }
     ensures in_place { IfOk result (λ p. StaysInPlace buf.old buf.new list p) }
 {
-    let closed = buf.append(list, b")#")?;
-    let numbered = append_number(buf, closed, number)?;
-    let lambda = buf.append(numbered, b"}")?;
+    let closed = tri!(buf.append(list, b")#"));
+    let numbered = tri!(append_number(buf, closed, number));
+    let lambda = tri!(buf.append(numbered, b"}"));
     Ok(buf.whole(lambda))
 }

@@ -25,7 +25,7 @@ pub fn qualify(buf: &mut Buffer, parent: Piece, leaf: Piece) -> Result<Piece, Al
     let before = buf.len(parent);
     let (from, to) = buf.own_range(leaf);
     let (templ, ctor) = (buf.templ(leaf), buf.ctor(leaf));
-    let whole = buf.join(parent, b"::", leaf)?;
+    let whole = tri!(buf.join(parent, b"::", leaf));
     // The prover learns here that the length fits 64 bits, and so does each place in the text.
     let _len = buf.len(whole);
     let named = buf.own_at(whole, before + 2 + from, before + 2 + to);
@@ -41,8 +41,8 @@ pub fn qualify_text(buf: &mut Buffer, parent: Piece, text: &[u8]) -> Result<Piec
     ensures edit { OnOk result (IsEdit buf.old buf.new) }
     ensures in_place { IfOk result (λ p. StaysInPlace buf.old buf.new parent p) }
 {
-    let mut name = buf.append(parent, b"")?;
-    buf.append_name(&mut name, b"::", text)?;
+    let mut name = tri!(buf.append(parent, b""));
+    tri!(buf.append_name(&mut name, b"::", text));
     Ok(name)
 }
 
@@ -55,8 +55,8 @@ pub fn open_default_arg(buf: &mut Buffer, parent: Piece, number: u64) -> Result<
     ensures in_place { IfOk result (λ p. StaysInPlace buf.old buf.new parent p) }
 {
     let plain = buf.plain(parent);
-    let opened = buf.append(plain, b"::{default arg#")?;
-    let numbered = append_number(buf, opened, number)?;
+    let opened = tri!(buf.append(plain, b"::{default arg#"));
+    let numbered = tri!(append_number(buf, opened, number));
     buf.append(numbered, b"}::")
 }
 
@@ -72,7 +72,7 @@ pub fn close_opened(buf: &mut Buffer, opened: Piece, name: Piece) -> Result<Piec
     let before = buf.len(opened);
     let (from, to) = buf.own_range(name);
     let (templ, ctor) = (buf.templ(name), buf.ctor(name));
-    let whole = buf.join(opened, b"", name)?;
+    let whole = tri!(buf.join(opened, b"", name));
     // The prover learns here that the length fits 64 bits, and so does each place in the text.
     let _len = buf.len(whole);
     let named = buf.own_at(whole, before + from, before + to);
@@ -108,8 +108,8 @@ pub fn default_arg(
     ensures appends { IfOk result (λ p. AppendsPiece buf.old buf.new p) }
 {
     let mark = buf.open();
-    let opened = open_default_arg(buf, parent, number)?;
-    let named = close_opened(buf, opened, entity)?;
+    let opened = tri!(open_default_arg(buf, parent, number));
+    let named = tri!(close_opened(buf, opened, entity));
     buf.close(mark, named)
 }
 
@@ -125,7 +125,7 @@ pub fn qualify_ctor(buf: &mut Buffer, parent: Piece, destructor: bool) -> Result
     let before = buf.len(parent);
     let name = buf.plain(parent);
     let between: &[u8] = if destructor { b"::~" } else { b"::" };
-    let whole = buf.append_own(name, between)?;
+    let whole = tri!(buf.append_own(name, between));
     let len = buf.len(whole);
     let named = buf.own_at(whole, before + 2, len);
     Ok(buf.with_flags(named, false, true))
@@ -145,7 +145,7 @@ pub fn attach_template_args(buf: &mut Buffer, name: Piece, args: Piece) -> Resul
     let ctor = buf.ctor(name);
     let angle = buf.bytes(name).ends_with(b"<");
     let gap: &[u8] = if angle { b" " } else { b"" };
-    let whole = append_piece(buf, name, gap, args)?;
+    let whole = tri!(append_piece(buf, name, gap, args));
     Ok(buf.with_flags(whole, true, ctor))
 }
 
@@ -167,12 +167,12 @@ pub fn format_params(
     ensures appends { IfOk result (λ p. AppendsPiece buf.old buf.new p) }
 {
     let mark = buf.open();
-    let mut list = open_params(buf, name)?;
+    let mut list = tri!(open_params(buf, name));
     for (i, param) in params.iter().enumerate() {
         let between: &[u8] = if i == 0 { b"" } else { b", " };
-        list = append_piece(buf, list, between, *param)?;
+        list = tri!(append_piece(buf, list, between, *param));
     }
-    let whole = close_params(buf, list, quals)?;
+    let whole = tri!(close_params(buf, list, quals));
     buf.close(mark, whole)
 }
 
@@ -185,8 +185,8 @@ pub fn tag(buf: &mut Buffer, name: Piece, text: &[u8]) -> Result<Piece, AllocErr
     ensures in_place { IfOk result (λ p. StaysInPlace buf.old buf.new name p) }
 {
     let plain = buf.plain(name);
-    let opened = buf.append(plain, b"[abi:")?;
-    let filled = buf.append(opened, text)?;
+    let opened = tri!(buf.append(plain, b"[abi:"));
+    let filled = tri!(buf.append(opened, text));
     buf.append(filled, b"]")
 }
 
@@ -210,6 +210,6 @@ pub fn apply_name_qualifiers(
     }
     let words: &[u8] = if shown { quals.words() } else { b"" };
     let plain = buf.plain(name);
-    let worded = buf.append(plain, words)?;
+    let worded = tri!(buf.append(plain, words));
     buf.append(worded, reference_bytes(quals.reference))
 }

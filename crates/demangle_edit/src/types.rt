@@ -52,11 +52,11 @@ pub fn wrap_pointer(buf: &mut Buffer, inner: Piece, kind: Pointer) -> Result<Pie
 {
     match kind {
         Pointer::Star => wrap_token(buf, inner, b"*"),
-        Pointer::Left => match collapse_ref(buf, inner, false)? {
+        Pointer::Left => match tri!(collapse_ref(buf, inner, false)) {
             Some(collapsed) => Ok(collapsed),
             None => wrap_token(buf, inner, b"&"),
         },
-        Pointer::Right => match collapse_ref(buf, inner, true)? {
+        Pointer::Right => match tri!(collapse_ref(buf, inner, true)) {
             Some(collapsed) => Ok(collapsed),
             None => wrap_token(buf, inner, b"&&"),
         },
@@ -91,7 +91,7 @@ pub fn collapse_ref(
     if rvalue || !buf.bytes(inner).ends_with(b"&&") {
         return Ok(Some(inner));
     }
-    Ok(Some(buf.cut(inner, 1)?))
+    Ok(Some(tri!(buf.cut(inner, 1))))
 }
 
 /// Adds the words ` const`, ` volatile` and ` restrict` of the qualifiers to the type. The words go to the end of the
@@ -129,8 +129,8 @@ fn insert_dimension(
 {
     let mut spare = [0; MOST_DIGITS];
     let digits = dimension_bytes(&mut spare, dimension);
-    let opened = buf.insert(piece, place, opening)?;
-    let filled = buf.insert(opened, place, digits)?;
+    let opened = tri!(buf.insert(piece, place, opening));
+    let filled = tri!(buf.insert(opened, place, digits));
     buf.insert(filled, place, b"]")
 }
 
@@ -154,13 +154,13 @@ pub fn wrap_array(
     match buf.kind(elem) {
         None => {
             let at = buf.len(elem);
-            let longer = insert_dimension(buf, elem, Place::End, b" [", dimension)?;
+            let longer = tri!(insert_dimension(buf, elem, Place::End, b" [", dimension));
             // The prover learns here that the length fits 64 bits, and so does each place in the text.
             let _len = buf.len(longer);
             Ok(Some(buf.declare(longer, Kind::Array, at)))
         }
         Some(_) if buf.has_group(elem) => {
-            let array = insert_dimension(buf, elem, Place::Close, b" [", dimension)?;
+            let array = tri!(insert_dimension(buf, elem, Place::Close, b" [", dimension));
             Ok(Some(array))
         }
         // The dimension goes in front of the others: after the first byte of `after`.
@@ -170,7 +170,7 @@ pub fn wrap_array(
             let past = at + (len - at).min(1);
             let flat = buf.plain(elem);
             let cut = buf.declare(flat, Kind::Array, past);
-            let longer = insert_dimension(buf, cut, Place::Suffix, b"[", dimension)?;
+            let longer = tri!(insert_dimension(buf, cut, Place::Suffix, b"[", dimension));
             let whole = buf.plain(longer);
             Ok(Some(buf.declare(whole, Kind::Array, at)))
         }
@@ -209,9 +209,9 @@ fn wrap_member_function(buf: &mut Buffer, class: Piece, member: Piece) -> Result
     let after_len = buf.len(after);
     let opening = Buffer::group_opening(buf.bytes(front));
     let mark = buf.open();
-    let begun = buf.join(front, opening, class)?;
-    let joined = buf.join(begun, b"::*)", after)?;
-    let whole = buf.close(mark, joined)?;
+    let begun = tri!(buf.join(front, opening, class));
+    let joined = tri!(buf.join(begun, b"::*)", after));
+    let whole = tri!(buf.close(mark, joined));
     let at = buf.len(whole) - after_len;
     let from = at - 5 - class_len;
     let declared = buf.declare_group(whole, Kind::Function, from, at);
@@ -244,10 +244,10 @@ pub fn wrap_member_pointer(
             let bytes = buf.bytes(member);
             let gapless = bytes.ends_with(b"(") || bytes.ends_with(b" ");
             let gap: &[u8] = if gapless { b"" } else { b" " };
-            let begun = append_piece(buf, member, gap, class)?;
-            Ok(Some(buf.append(begun, b"::*")?))
+            let begun = tri!(append_piece(buf, member, gap, class));
+            Ok(Some(tri!(buf.append(begun, b"::*"))))
         }
-        Some(Kind::Function) => Ok(Some(wrap_member_function(buf, class, member)?)),
+        Some(Kind::Function) => Ok(Some(tri!(wrap_member_function(buf, class, member)))),
         Some(Kind::Array) => Ok(None),
     }
 }
@@ -276,11 +276,11 @@ pub fn function_type(
         return Ok(None);
     }
     let before = buf.len(ret);
-    let list = list_pieces(buf, params)?;
-    let begun = buf.join(ret, b" (", list)?;
-    let closed = buf.append(begun, b")")?;
-    let worded = buf.append(closed, quals.words())?;
-    let whole = buf.append(worded, reference_bytes(quals.reference))?;
+    let list = tri!(list_pieces(buf, params));
+    let begun = tri!(buf.join(ret, b" (", list));
+    let closed = tri!(buf.append(begun, b")"));
+    let worded = tri!(buf.append(closed, quals.words()));
+    let whole = tri!(buf.append(worded, reference_bytes(quals.reference)));
     // The prover learns here that the length fits 64 bits, and so does each place in the text.
     let _len = buf.len(whole);
     Ok(Some(buf.declare(whole, Kind::Function, before + 1)))
@@ -302,7 +302,7 @@ pub fn open_function(buf: &mut Buffer, ret: Piece) -> Result<Option<Piece>, Allo
     ensures in_place { IfFound result (λ p. StaysInPlace buf.old buf.new ret p) }
 {
     if buf.kind(ret).is_none() {
-        let opened = buf.append(ret, b" (")?;
+        let opened = tri!(buf.append(ret, b" ("));
         let unflagged = buf.with_flags(opened, false, false);
         return Ok(Some(buf.whole(unflagged)));
     }
@@ -324,7 +324,7 @@ pub fn close_function(
     ensures in_place { IfOk result (λ p. StaysInPlace buf.old buf.new list p) }
 {
     let plain = buf.plain(list);
-    let closed = close_params(buf, plain, quals)?;
+    let closed = tri!(close_params(buf, plain, quals));
     let len = buf.len(closed);
     let at = if front < len { front + 1 } else { len };
     let declared = buf.declare(closed, Kind::Function, at);

@@ -1,6 +1,6 @@
 -- What stays when a buffer's texts grow, and when the texts that it keeps lie elsewhere.
 use Rattle.std.proofs.Common.{◌≡◌, ℕ, ◌+◌, ◌-◌, ◌<◌, ◌≤◌, Bool, true, false, List, [], ◌++◌, length, take, drop, slice_range}
-use Rattle.std.proofs.Common.{leb, All, map, refl, sym, ap, ◌∙◌, subst, arith, Result, Ok, Err, OnErr, append_assoc}
+use Rattle.std.proofs.Common.{leb, All, map, refl, sym, ap, ◌∙◌, subst, arith, append_assoc}
 use Rattle.std.proofs.Common.{set, get_or}
 use Rattle.std.specs.Prelude.{⊤}
 use Rattle.std.proofs.Math.Seq.{map-set_same}
@@ -243,11 +243,6 @@ inner_text s p lies i =
     let split : p.to_byte ≡ p.from_byte + at = omega (arith, lies.ordered) in
     let after : drop p.to_byte output ≡ drop at rest = ap (λ (k : ℕ). drop k output) split ∙ sym (drop-drop at p.from_byte output) in
     sym (take-append-drop at rest) ∙ ap (λ (v : List ℕ). v ++ drop at rest) (sym here) ∙ ap (λ (v : List ℕ). piece_text output s.spill_text p ++ v) (sym after)
-
--- a fact at the exit of a `?`
-pub on_err_from : {T E Q : Type 0} (r : Result T E) → Q → OnErr r Q
-on_err_from (Ok x) q = tt
-on_err_from (Err e) q = q
 
 -- the text of a living piece is that of its bytes
 pub text_is : (s : Store) (p : Piece) → IsLiving s p → text (shape s p) ≡ piece_text s.output_text s.spill_text p

@@ -117,7 +117,7 @@ impl Buffer {
         ensures stands { IfOk result (λ p. Stands p (frame_start (inside mark)) (length (main_bytes self.new))) }
     {
         let mut piece = piece;
-        self.close_in_place(mark, &mut piece)?;
+        tri!(self.close_in_place(mark, &mut piece));
         Ok(piece)
     }
 
@@ -137,7 +137,7 @@ impl Buffer {
             self.marked_len = mark.outside_len;
             return Ok(());
         }
-        self.move_down(at, piece.spilled, piece.from_byte, piece.to_byte)?;
+        tri!(self.move_down(at, piece.spilled, piece.from_byte, piece.to_byte));
         piece.from_byte = at;
         piece.to_byte = self.output.len();
         piece.spilled = false;
@@ -157,7 +157,7 @@ impl Buffer {
         ensures stands { IfOk result (λ p. Stands p (length (main_bytes self.old)) (length (main_bytes self.new))) }
     {
         let from = self.output.len();
-        self.output.add(bytes)?;
+        tri!(self.output.add(bytes));
         Ok(Piece::whole_at(from, self.output.len()))
     }
 
@@ -183,7 +183,7 @@ impl Buffer {
         ensures stands { IfOk result (λ p. Stands p (length (main_bytes self.old)) (length (main_bytes self.new))) }
     {
         let mut copied = piece;
-        self.copy_to_end(&mut copied)?;
+        tri!(self.copy_to_end(&mut copied));
         Ok(copied)
     }
 
@@ -201,7 +201,7 @@ impl Buffer {
         ensures same { OnErr result (piece.new ≡ piece.old) }
     {
         let from = self.output.len();
-        add_text(&mut self.output, &self.kept.spill, *piece)?;
+        tri!(add_text(&mut self.output, &self.kept.spill, *piece));
         piece.from_byte = from;
         piece.to_byte = self.output.len();
         piece.spilled = false;
@@ -221,9 +221,9 @@ impl Buffer {
         ensures main_err { OnErr result (main_bytes self.new ≡ main_bytes self.old) }
     {
         let len = self.output.len();
-        let from = ensure_at_end(&mut self.output, &self.kept.spill, self.marked_len, piece)?;
+        let from = tri!(ensure_at_end(&mut self.output, &self.kept.spill, self.marked_len, piece));
         let added = self.output.add(bytes);
-        truncated_on_err(&mut self.output, len, added)?;
+        tri!(truncated_on_err(&mut self.output, len, added));
         let (at, n) = (piece.text_len(), bytes.len());
         Ok(piece.with_bytes(Place::End, at, n, from, self.output.len()))
     }
@@ -248,7 +248,7 @@ impl Buffer {
             (length between.now + length name.now)) }
         ensures main_err { OnErr result (main_bytes self.new ≡ main_bytes self.old) }
     {
-        self.output.add_pair(between, name)?;
+        tri!(self.output.add_pair(between, name));
         // The fields are set one by one. A piece that is written as a whole would go through memory.
         piece.to_byte = self.output.len();
         piece.own_end = piece.to_byte - piece.from_byte;
@@ -273,7 +273,7 @@ impl Buffer {
             (length between.now + text_len (own_shape (shape self.old piece)))) }
         ensures main_err { OnErr result (main_bytes self.new ≡ main_bytes self.old) }
     {
-        let from = self.extend_by(piece, between, self.own(piece))?;
+        let from = tri!(self.extend_by(piece, between, self.own(piece)));
         let to = self.output.len();
         let n = between.len() + (piece.own_end - piece.own_start);
         Ok(piece.with_bytes(Place::End, piece.text_len(), n, from, to))
@@ -296,7 +296,7 @@ impl Buffer {
             return self.append(piece, bytes);
         }
         let at = piece.place(place);
-        let from = self.open_gap_in(piece, at, bytes.len())?;
+        let from = tri!(self.open_gap_in(piece, at, bytes.len()));
         self.output.put(from + at, bytes);
         Ok(piece.with_bytes(place, at, bytes.len(), from, self.output.len()))
     }
@@ -328,7 +328,7 @@ impl Buffer {
         let at = piece.place(Place::Suffix);
         let front = Buffer::group_opening(&self.bytes(piece)[..at]);
         let n = front.len() + bytes.len() + 1;
-        let from = self.open_gap_in(piece, at, n)?;
+        let from = tri!(self.open_gap_in(piece, at, n));
         let middle = self.output.put(from + at, front);
         let end = self.output.put(middle, bytes);
         self.output.put(end, b")");
@@ -387,15 +387,15 @@ impl Buffer {
     {
         if second.is_tail(self.marked_len, self.output.len()) {
             if first.is_tail(self.marked_len, second.from_byte) {
-                self.insert_at(second.from_byte, bytes)?;
+                tri!(self.insert_at(second.from_byte, bytes));
                 return Ok(Piece::whole_at(first.from_byte, self.output.len()));
             }
             if first.spilled || first.to_byte <= second.from_byte {
-                self.insert_piece(second.from_byte, first, bytes)?;
+                tri!(self.insert_piece(second.from_byte, first, bytes));
                 return Ok(Piece::whole_at(second.from_byte, self.output.len()));
             }
         }
-        let from = self.extend_by(first, bytes, second)?;
+        let from = tri!(self.extend_by(first, bytes, second));
         Ok(Piece::whole_at(from, self.output.len()))
     }
 

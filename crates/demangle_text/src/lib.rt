@@ -19,6 +19,18 @@
 //! `specs/Shape`.
 #![tactic(auto)]
 
+/// The value of a result. An error is returned from the function around it, as it is. `?` also converts the error,
+/// which each proof has to follow, so it stands only where the error changes. The macro stands above the modules,
+/// because only what is below a macro can use it.
+macro_rules! tri {
+    ($result:expr) => {
+        match $result {
+            Ok(value) => value,
+            Err(error) => return Err(error),
+        }
+    };
+}
+
 mod buffer;
 mod moves;
 mod output_end;

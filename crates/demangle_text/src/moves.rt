@@ -26,7 +26,7 @@ impl KeptPieces {
         ensures saved_apart { OnOk result (All (IsApart block.low block.from block.end) self.new.saved) }
         ensures args_apart { OnOk result (All (IsApart block.low block.from block.end) self.new.args) }
     {
-        spill_torn_of(output, &mut self.spill, &mut self.saved, block)?;
+        tri!(spill_torn_of(output, &mut self.spill, &mut self.saved, block));
         spill_torn_of(output, &mut self.spill, &mut self.args, block)
     }
 }
@@ -77,7 +77,7 @@ fn spill_torn_of(
         let mut piece = pieces.piece_at(i);
         if is_torn(piece, block) {
             let from = spill.len();
-            spill.add(&output[piece.from_byte..piece.to_byte])?;
+            tri!(spill.add(&output[piece.from_byte..piece.to_byte]));
             piece.from_byte = from;
             piece.to_byte = spill.len();
             piece.spilled = true;

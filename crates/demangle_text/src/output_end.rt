@@ -58,6 +58,6 @@ pub(crate) fn ensure_at_end(
         return Ok(piece.from_byte);
     }
     let from = output.len();
-    add_text(output, spill, piece)?;
+    tri!(add_text(output, spill, piece));
     Ok(from)
 }

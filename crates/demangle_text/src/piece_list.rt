@@ -135,7 +135,7 @@ impl PieceList {
     {
         let at = self.count;
         if at == self.entries.len() {
-            grow(&mut self.entries)?;
+            tri!(grow(&mut self.entries));
         }
         self.entries[at] = Entry {
             piece: *piece,

@@ -39,7 +39,7 @@ impl Buffer {
             let copied = self.output.len();
             let mut part = Piece::whole_at(from, to);
             part.spilled = spilled;
-            add_text(&mut self.output, &self.kept.spill, part)?;
+            tri!(add_text(&mut self.output, &self.kept.spill, part));
             from = copied;
             to = self.output.len();
             if from == at {
@@ -51,7 +51,7 @@ impl Buffer {
             from,
             end: to,
         };
-        self.kept.spill_torn(self.output.as_slice(), block)?;
+        tri!(self.kept.spill_torn(self.output.as_slice(), block));
         self.output.keep_only(at, from, to);
         self.kept.saved.shift(block, at);
         self.kept.args.shift(block, at);
@@ -72,7 +72,7 @@ impl Buffer {
         if bytes.is_empty() {
             return Ok(());
         }
-        self.open_gap(at, bytes.len())?;
+        tri!(self.open_gap(at, bytes.len()));
         self.output.put(at, bytes);
         Ok(())
     }
@@ -96,10 +96,10 @@ impl Buffer {
         // All memory is reserved before anything changes.
         let torn = torn_len(&self.kept.saved, rest);
         let torn = torn.saturating_add(torn_len(&self.kept.args, rest));
-        self.output.reserve(n)?;
-        self.kept.spill.reserve(torn)?;
-        self.kept.spill_torn(self.output.as_slice(), rest)?;
-        self.output.open_gap(at, n)?;
+        tri!(self.output.reserve(n));
+        tri!(self.kept.spill.reserve(torn));
+        tri!(self.kept.spill_torn(self.output.as_slice(), rest));
+        tri!(self.output.open_gap(at, n));
         let dest = at + (self.output.len() - len);
         self.kept.saved.shift(rest, dest);
         self.kept.args.shift(rest, dest);
@@ -122,14 +122,14 @@ impl Buffer {
         ensures main_err { OnErr result (self.new.output_text ≡ self.old.output_text) }
     {
         if piece.is_tail(self.marked_len, self.output.len()) {
-            self.open_gap(piece.from_byte + at, n)?;
+            tri!(self.open_gap(piece.from_byte + at, n));
             return Ok(piece.from_byte);
         }
         let from = self.output.len();
         let rest = piece.text_len() - at;
-        add_text(&mut self.output, &self.kept.spill, piece)?;
+        tri!(add_text(&mut self.output, &self.kept.spill, piece));
         let opened = self.output.open_gap(self.output.len() - rest, n);
-        truncated_on_err(&mut self.output, from, opened)?;
+        tri!(truncated_on_err(&mut self.output, from, opened));
         Ok(from)
     }
 
@@ -151,11 +151,11 @@ impl Buffer {
         ensures main_err { OnErr result (self.new.output_text ≡ self.old.output_text) }
     {
         let len = self.output.len();
-        let from = ensure_at_end(&mut self.output, &self.kept.spill, self.marked_len, piece)?;
+        let from = tri!(ensure_at_end(&mut self.output, &self.kept.spill, self.marked_len, piece));
         let added = self.output.add(bytes);
-        truncated_on_err(&mut self.output, len, added)?;
+        tri!(truncated_on_err(&mut self.output, len, added));
         let added = add_text(&mut self.output, &self.kept.spill, other);
-        truncated_on_err(&mut self.output, len, added)?;
+        tri!(truncated_on_err(&mut self.output, len, added));
         Ok(from)
     }
 
@@ -181,7 +181,7 @@ impl Buffer {
         let Some(n) = first.text_len().checked_add(bytes.len()) else {
             return Err(AllocError);
         };
-        self.open_gap(at, n)?;
+        tri!(self.open_gap(at, n));
         let middle = if first.spilled {
             let text = self.kept.spill.part(first.from_byte, first.to_byte);
             self.output.put(at, text)

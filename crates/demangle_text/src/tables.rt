@@ -34,7 +34,7 @@ impl Buffer {
         ensures output { main_bytes self.new ≡ main_bytes self.old }
         ensures err { OnErr result (KeepsAll self.old self.new) }
     {
-        self.kept.saved.push(piece, self.output.len())?;
+        tri!(self.kept.saved.push(piece, self.output.len()));
         Ok(())
     }
 
@@ -95,7 +95,7 @@ impl Buffer {
         ensures output { main_bytes self.new ≡ main_bytes self.old }
         ensures err { OnErr result (KeepsAll self.old self.new) }
     {
-        self.kept.args.push(&piece, self.output.len())?;
+        tri!(self.kept.args.push(&piece, self.output.len()));
         Ok(())
     }
 

@@ -159,9 +159,9 @@ fn join_greater(buf: &mut Buffer, left: Piece, right: Piece) -> Result<Piece, Al
     ensures shape { IfOk result (λ p. Lives buf.new p (greater_shape (shape buf.old left) (shape buf.old right))) }
     ensures edit { OnOk result (IsEdit buf.old buf.new) }
 {
-    let both = buf.join(left, b")>(", right)?;
-    let opened = buf.insert(both, Place::Start, b"((")?;
-    let closed = buf.append(opened, b"))")?;
+    let both = tri!(buf.join(left, b")>(", right));
+    let opened = tri!(buf.insert(both, Place::Start, b"(("));
+    let closed = tri!(buf.append(opened, b"))"));
     Ok(buf.whole(closed))
 }
 

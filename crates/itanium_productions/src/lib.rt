@@ -11,14 +11,14 @@
 //! in `types.rt`. `read_encoding` in `encodings.rt` is for signatures, thunks, local names and external names.
 #![tactic(auto)]
 
-/// The value of a result whose error is a `Stop`. An error is returned from the function around it. `?` does the same
-/// where the error is an `AllocError`: it also converts the error, which each proof has to follow. The macro stands
-/// above the modules, because only what is below a macro can use it.
+/// The value of a result. An error is returned from the function around it, as it is. `?` also converts the error,
+/// which each proof has to follow, so it stands only where an `AllocError` becomes a `Stop`. The macro stands above the
+/// modules, because only what is below a macro can use it.
 macro_rules! tri {
     ($result:expr) => {
         match $result {
             Ok(value) => value,
-            Err(stop) => return Err(stop),
+            Err(error) => return Err(error),
         }
     };
 }

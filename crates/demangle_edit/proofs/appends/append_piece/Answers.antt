@@ -10,8 +10,8 @@ pub returns-clause-shape : goal.returns-clause-shape
 returns-clause-shape c =
     let old = c.args.buf.now in
     let after = c.join.new.self in
-    let is = piece_after (shape old c.args.first) (shape old c.args.second) (shape after c.in_ok-whole.whole) (shape after c.own_at-named.result) _ _ _ _ _ _ _
-    c.in_ok-whole.ensures.shape.shape_is c.len-before.ensures.value c.len-len.ensures.value c.own_range-from.ensures.own
+    let is = piece_after (shape old c.args.first) (shape old c.args.second) (shape after c.in-Ok.value) (shape after c.own_at-named.result) _ _ _ _ _ _ _
+    c.in-Ok.ensures.shape.shape_is c.len-before.ensures.value c.len-len.ensures.value c.own_range-from.ensures.own
     (elim c.if-before-from.branch [
       | then-before-from w ↦ moved_from_end _ _ _ _ w.if-before-from.true w.n-is
       | else-before-from w ↦ moved_inside _ _ _ _ w.if-before-from.false (omega (arith, c.own_range-from.ensures.within, c.len-before.ensures.value)) w.n-is
@@ -21,7 +21,7 @@ returns-clause-shape c =
 -- two pieces that stand one after the other stay there
 pub returns-clause-in_place : goal.returns-clause-in_place
 returns-clause-in_place c =
-    let joined = JoinsInPlace-join _ _ _ _ _ _ c.in_ok-whole.ensures.join_of in
+    let joined = JoinsInPlace-join _ _ _ _ _ _ c.in-Ok.ensures.join_of in
     let at_named = JoinsInPlace-named _ _ _ _ _ c.own_at-named.result joined c.own_at-named.ensures.stands in
     JoinsInPlace-named _ _ _ _ _ c.with_flags.result at_named c.with_flags.ensures.stands
 

@@ -27,15 +27,12 @@ returns-clause-shape c =
     ∙ ap (λ (v : List ℕ). ends_with nat_eq v (codes ">")) (sym (appended_text more s)) in
     let tested : end ≡ end_at (ends_with nat_eq (main_bytes old) (codes ">")) = search rules in
     let end_is : end ≡ end_at (ends_with nat_eq (text (appended more s)) (codes ">")) = tested ∙ ap end_at last in
-    let after : text_after new list ≡ more ++ end = text_after-more old new list end c.requires.list inner c.in_ok-push.ensures.output in
-    let same = (c.in_ok-push.ensures.kept.pieces list c.requires.list).shape_is in
+    let after : text_after new list ≡ more ++ end = text_after-more old new list end c.requires.list inner c.in-Ok.ensures.output in
+    let same = (c.in-Ok.ensures.kept.pieces list c.requires.list).shape_is in
     let is : appended (text_after new list) (shape new list) ≡ arguments_closed (appended more s) =
     ap (λ (t : Shape). appended (text_after new list) t) same ∙ ap (λ (v : List ℕ). appended v s) after
     ∙ sym (appended_twice more end s) ∙ ap (λ (v : List ℕ). appended v (appended more s)) end_is in
     subst (λ (t : Shape). Lives new c.up_to_end.result t) is c.up_to_end.ensures.shape
-
-pub returns-in_err-push : goal.returns-in_err-push
-returns-in_err-push c = grind arith
 
 pub up_to_end-requires : goal.up_to_end-requires
 up_to_end-requires c = grind arith

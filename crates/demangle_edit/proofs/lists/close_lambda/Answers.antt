@@ -6,11 +6,11 @@ use Rattle.demangle_edit.proofs.lists.close_lambda.Goals as goal
 -- the piece stays where it stands
 pub returns-clause-in_place : goal.returns-clause-in_place
 returns-clause-in_place c =
-    let at_closed = StaysInPlace-edit _ _ _ _ _ c.in_ok-closed.ensures.edit_of in
-    let at_numbered = StaysInPlace-trans _ _ _ _ _ _ c.in_ok-closed.ensures.edit at_closed c.in_ok-numbered.ensures.in_place in
+    let at_closed = StaysInPlace-edit _ _ _ _ _ c.in-Ok.ensures.edit_of in
+    let at_numbered = StaysInPlace-trans _ _ _ _ _ _ c.in-Ok.ensures.edit at_closed c.in-Ok-append_number.ensures.in_place in
     let at_lambda = StaysInPlace-trans _ _ _ _ _ _
-    (IsEdit-trans _ _ _ c.in_ok-closed.ensures.edit c.in_ok-numbered.ensures.edit) at_numbered
-    (StaysInPlace-edit _ _ _ _ _ c.in_ok-lambda.ensures.edit_of) in
+    (IsEdit-trans _ _ _ c.in-Ok.ensures.edit c.in-Ok-append_number.ensures.edit) at_numbered
+    (StaysInPlace-edit _ _ _ _ _ c.in-Ok-append.ensures.edit_of) in
     StaysInPlace-named _ _ _ _ c.whole.result at_lambda c.whole.ensures.stands
 
 pub returns-clause-shape : goal.returns-clause-shape

@@ -13,7 +13,7 @@ returns-clause-shape c =
     let s = shape c.args.buf.now c.args.list in
     let words = c.words.result.now in
     let reference = c.reference_bytes.result.now in
-    let is = ap (appended reference) (c.in_ok-worded.ensures.shape.shape_is ∙ ap (appended words) c.in_ok-closed.ensures.shape.shape_is)
+    let is = ap (appended reference) (c.in-Ok-append.ensures.shape.shape_is ∙ ap (appended words) c.in-Ok.ensures.shape.shape_is)
     ∙ inserted_thrice End (codes ")") words reference s (λ e. cc) tt
     ∙ ap (λ (w : List ℕ). appended (codes ")" ++ (w ++ reference)) s) c.words.ensures.value
     ∙ ap (λ (r : List ℕ). appended (codes ")" ++ (words_text c.args.quals ++ r)) s) c.reference_bytes.ensures.value in
@@ -22,8 +22,8 @@ returns-clause-shape c =
 -- the piece stays where it stands
 pub returns-clause-in_place : goal.returns-clause-in_place
 returns-clause-in_place c =
-    let at_closed = StaysInPlace-edit _ _ _ _ _ c.in_ok-closed.ensures.edit_of in
-    let at_worded = StaysInPlace-trans _ _ _ _ _ _ c.in_ok-closed.ensures.edit at_closed (StaysInPlace-edit _ _ _ _ _ c.in_ok-worded.ensures.edit_of) in
+    let at_closed = StaysInPlace-edit _ _ _ _ _ c.in-Ok.ensures.edit_of in
+    let at_worded = StaysInPlace-trans _ _ _ _ _ _ c.in-Ok.ensures.edit at_closed (StaysInPlace-edit _ _ _ _ _ c.in-Ok-append.ensures.edit_of) in
     IfOk-weaker c.append-3.result _ _ (λ p k. StaysInPlace-trans _ _ _ _ _ _
-    (IsEdit-trans _ _ _ c.in_ok-closed.ensures.edit c.in_ok-worded.ensures.edit) at_worded
+    (IsEdit-trans _ _ _ c.in-Ok.ensures.edit c.in-Ok-append.ensures.edit) at_worded
     (StaysInPlace-edit _ _ _ _ _ k)) c.append-3.ensures.edit_of

@@ -9,30 +9,30 @@ use Rattle.demangle_edit.specs.declared.glue_parts.Glue.{Glue}
 use Rattle.demangle_edit.specs.Calls.{part_text}
 use Rattle.demangle_edit.proofs.Glued.{text_put, part_more}
 use Rattle.demangle_edit.proofs.lists.glue.Goals as goal
-use Rattle.demangle_edit.proofs.lists.glue.Goals.{in-Text+in_ok-longer-in-Text, in-Piece+in_ok-all-in-Piece}
+use Rattle.demangle_edit.proofs.lists.glue.Goals.{in-Text+in-Ok-append, in-Piece+in-Ok-join}
 
 pub loop-part-preserved : goal.loop-part-preserved
 loop-part-preserved c =
     let mid = c.loop-part.buf in
     let so_far = c.loop-part.invariant in
     elim c.match-part.branch [
-      | in-Text+in_ok-longer-in-Text w ↦
+      | in-Text+in-Ok-append w ↦
           let new = w.append.new.self in
-          let put = text_put mid new c.loop-part.all w.in_ok-longer-in-Text.longer w.whole-all.result _ w.in-Text.bytes.now so_far.all.shape_is
-          w.in_ok-longer-in-Text.ensures.shape w.whole-all.ensures.shape in
+          let put = text_put mid new c.loop-part.all w.in-Ok-append.value w.whole-all.result _ w.in-Text.bytes.now so_far.all.shape_is
+          w.in-Ok-append.ensures.shape w.whole-all.ensures.shape in
           let joins = subst (λ (p : Glue). Lives new w.whole-all.result (plain_shape (text (shape mid c.loop-part.all) ++ part_text (shape mid) p))) (sym w.in-Text.is) put in
           rw (w.buf-is, w.all-is) (record {
-            run = Opens-edit _ _ _ _ so_far.run w.in_ok-longer-in-Text.ensures.edit;
+            run = Opens-edit _ _ _ _ so_far.run w.in-Ok-append.ensures.edit;
             all = part_more _ _ _ _ _ _ _ _ _ so_far.run c.requires.parts c.loop-part-test.true so_far.all joins;
           })
-      | in-Piece+in_ok-all-in-Piece w ↦
+      | in-Piece+in-Ok-join w ↦
           let new = w.join.new.self in
-          let next = w.in_ok-all-in-Piece.all in
+          let next = w.in-Ok-join.value in
           let before = text (shape mid c.loop-part.all) in
-          let put = subst (λ (v : List ℕ). Lives new next (plain_shape (v ++ text (shape mid w.in-Piece.piece)))) (append-nil before) w.in_ok-all-in-Piece.ensures.shape in
+          let put = subst (λ (v : List ℕ). Lives new next (plain_shape (v ++ text (shape mid w.in-Piece.piece)))) (append-nil before) w.in-Ok-join.ensures.shape in
           let joins = subst (λ (p : Glue). Lives new next (plain_shape (before ++ part_text (shape mid) p))) (sym w.in-Piece.is) put in
           rw (w.buf-is, w.all-is) (record {
-            run = Opens-edit _ _ _ _ so_far.run w.in_ok-all-in-Piece.ensures.edit;
+            run = Opens-edit _ _ _ _ so_far.run w.in-Ok-join.ensures.edit;
             all = part_more _ _ _ _ _ _ _ _ _ so_far.run c.requires.parts c.loop-part-test.true so_far.all joins;
           })
     ]
@@ -48,14 +48,5 @@ returns-clause-shape c = grind (arith, common_steps)
 pub returns-clause-edit : goal.returns-clause-edit
 returns-clause-edit c = grind (arith, common_steps)
 
-pub returns-in_err-all : goal.returns-in_err-all
-returns-in_err-all c = grind arith
-
 pub loop-part-init : goal.loop-part-init
 loop-part-init c = grind arith
-
-pub returns-in_err-longer-in-Text : goal.returns-in_err-longer-in-Text
-returns-in_err-longer-in-Text c = grind arith
-
-pub returns-in_err-all-in-Piece : goal.returns-in_err-all-in-Piece
-returns-in_err-all-in-Piece c = grind arith

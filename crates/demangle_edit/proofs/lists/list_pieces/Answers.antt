@@ -12,8 +12,8 @@ use Rattle.demangle_edit.proofs.lists.list_pieces.Goals as goal
 
 pub loop-i-preserved : goal.loop-i-preserved
 loop-i-preserved c = record {
-  run = Opens-edit _ _ _ _ c.loop-i.invariant.run c.in_ok-list-2.ensures.edit;
-  list = piece_put _ _ _ _ _ _ _ _ _ _ _ c.if-i-eq0.between.now c.loop-i.invariant.run c.requires.pieces c.loop-i-test.true c.loop-i.invariant.list c.in_ok-list-2.ensures.shape refl (search rules);
+  run = Opens-edit _ _ _ _ c.loop-i.invariant.run c.in-Ok-append_piece.ensures.edit;
+  list = piece_put _ _ _ _ _ _ _ _ _ _ _ c.if-i-eq0.between.now c.loop-i.invariant.run c.requires.pieces c.loop-i-test.true c.loop-i.invariant.list c.in-Ok-append_piece.ensures.shape refl (search rules);
 }
 
 -- at the end all pieces are listed
@@ -34,11 +34,5 @@ returns-clause-appends c =
 pub returns-clause-kept : goal.returns-clause-kept
 returns-clause-kept c = grind (arith, common_steps)
 
-pub returns-in_err-list : goal.returns-in_err-list
-returns-in_err-list c = grind arith
-
 pub loop-i-init : goal.loop-i-init
 loop-i-init c = grind arith
-
-pub returns-in_err-list-2 : goal.returns-in_err-list-2
-returns-in_err-list-2 c = grind arith

@@ -6,7 +6,7 @@ use Rattle.demangle_edit.proofs.names.close_opened.Goals as goal
 -- two pieces that stand one after the other stay there
 pub returns-clause-in_place : goal.returns-clause-in_place
 returns-clause-in_place c =
-    let joined = JoinsInPlace-join _ _ _ _ _ _ c.in_ok-whole.ensures.join_of in
+    let joined = JoinsInPlace-join _ _ _ _ _ _ c.in-Ok.ensures.join_of in
     let at_named = JoinsInPlace-named _ _ _ _ _ c.own_at-named.result joined c.own_at-named.ensures.stands in
     JoinsInPlace-named _ _ _ _ _ c.with_flags.result at_named c.with_flags.ensures.stands
 
@@ -18,9 +18,6 @@ overflow_add-before-2 c = grind (arith, common_steps)
 
 pub own_at-named-requires-clause-within : goal.own_at-named-requires-clause-within
 own_at-named-requires-clause-within c = grind (arith, common_steps)
-
-pub returns-in_err-whole : goal.returns-in_err-whole
-returns-in_err-whole c = grind arith
 
 pub own_at-named-requires-clause-living : goal.own_at-named-requires-clause-living
 own_at-named-requires-clause-living c = grind arith

@@ -12,22 +12,16 @@ pub returns-clause-shape : goal.returns-clause-shape
 returns-clause-shape c =
     let opens = c.open-mark.ensures.opens in
     let parent = opens.pieces c.args.parent c.requires.parent in
-    let entity = (Opens-edit _ _ _ _ opens c.in_ok-opened.ensures.edit).pieces c.args.entity c.requires.entity in
-    let opened = c.in_ok-opened.ensures.shape.shape_is ∙ ap (λ (s : Shape). default_arg_opened s c.args.number) parent.shape_is in
-    let is = c.in_ok-named.ensures.shape.shape_is ∙ ap₂ enclosed opened entity.shape_is in
+    let entity = (Opens-edit _ _ _ _ opens c.in-Ok.ensures.edit).pieces c.args.entity c.requires.entity in
+    let opened = c.in-Ok.ensures.shape.shape_is ∙ ap (λ (s : Shape). default_arg_opened s c.args.number) parent.shape_is in
+    let is = c.in-Ok-close_opened.ensures.shape.shape_is ∙ ap₂ enclosed opened entity.shape_is in
     subst (λ (s : Shape). IfOk c.close.result (λ p. Lives c.close.new.self p s)) is c.close.ensures.shape
 
 pub returns-clause-appends : goal.returns-clause-appends
 returns-clause-appends c =
-    let run = Opens-edit _ _ _ _ (Opens-edit _ _ _ _ c.open-mark.ensures.opens c.in_ok-opened.ensures.edit) c.in_ok-named.ensures.edit in
+    let run = Opens-edit _ _ _ _ (Opens-edit _ _ _ _ c.open-mark.ensures.opens c.in-Ok.ensures.edit) c.in-Ok-close_opened.ensures.edit in
     AppendsPiece-close c.args.buf.now c.close_opened.new.buf c.close.new.self c.open-mark.result c.close.result
     c.open-mark.ensures.mark run c.close.ensures.closed c.close.ensures.stands
 
 pub returns-clause-edit : goal.returns-clause-edit
 returns-clause-edit c = grind (arith, common_steps)
-
-pub returns-in_err-opened : goal.returns-in_err-opened
-returns-in_err-opened c = grind arith
-
-pub returns-in_err-named : goal.returns-in_err-named
-returns-in_err-named c = grind arith

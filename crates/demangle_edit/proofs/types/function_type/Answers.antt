@@ -15,11 +15,11 @@ returns-clause-shape c =
     let old = c.args.buf.now in
     let mid = c.list_pieces.new.buf in
     let ret = shape old c.args.ret in
-    let kept = c.in_ok-list.ensures.kept.pieces c.args.ret c.requires.ret in
-    let begun = c.in_ok-begun.ensures.shape.shape_is ∙ ap (λ (s : Shape). joined s (codes " (") (shape mid c.in_ok-list.list)) kept.shape_is in
+    let kept = c.in-Ok.ensures.kept.pieces c.args.ret c.requires.ret in
+    let begun = c.in-Ok-join.ensures.shape.shape_is ∙ ap (λ (s : Shape). joined s (codes " (") (shape mid c.in-Ok.value)) kept.shape_is in
     let is = function_shape_is ret _ _ _ _ _ _ (map (shape old) c.args.params.now) c.args.quals _ _ _
-    c.in_ok-list.ensures.shape.shape_is begun c.in_ok-closed.ensures.shape.shape_is c.in_ok-worded.ensures.shape.shape_is
-    c.in_ok-whole.ensures.shape.shape_is c.declare.ensures.shape.shape_is c.words.ensures.value c.reference_bytes.ensures.value c.len-before.ensures.value in
+    c.in-Ok.ensures.shape.shape_is begun c.in-Ok-append.ensures.shape.shape_is c.in-Ok-append-2.ensures.shape.shape_is
+    c.in-Ok-append-3.ensures.shape.shape_is c.declare.ensures.shape.shape_is c.words.ensures.value c.reference_bytes.ensures.value c.len-before.ensures.value in
     let flat : is_some (kind_of ret.form) ≡ false = sym (ap is_some c.kind.ensures.value) ∙ sym c.is_some.ensures ∙ c.if-is_some.false in
     (c.declare.ensures.shape.living, function_found ret _ (map (shape old) c.args.params.now) c.args.quals flat is)
 
@@ -27,14 +27,14 @@ returns-clause-shape c =
 pub returns-clause-in_place : goal.returns-clause-in_place
 returns-clause-in_place c =
     let old = c.args.buf.now in
-    let kept = c.in_ok-list.ensures.kept in
-    let joined = IsEdit-trans _ _ _ (IsEdit-keeps _ _ kept) c.in_ok-begun.ensures.edit in
-    let closed = IsEdit-trans _ _ _ joined c.in_ok-closed.ensures.edit in
-    let worded = IsEdit-trans _ _ _ closed c.in_ok-worded.ensures.edit in
-    let at_join = StaysInPlace-joined old _ _ _ _ _ _ c.requires.ret kept.frame_same c.in_ok-list.ensures.appends c.in_ok-begun.ensures.join_of in
-    let at_closed = StaysInPlace-trans _ _ _ _ _ _ joined at_join (StaysInPlace-edit _ _ _ _ _ c.in_ok-closed.ensures.edit_of) in
-    let at_worded = StaysInPlace-trans _ _ _ _ _ _ closed at_closed (StaysInPlace-edit _ _ _ _ _ c.in_ok-worded.ensures.edit_of) in
-    let at_whole = StaysInPlace-trans _ _ _ _ _ _ worded at_worded (StaysInPlace-edit _ _ _ _ _ c.in_ok-whole.ensures.edit_of) in
+    let kept = c.in-Ok.ensures.kept in
+    let joined = IsEdit-trans _ _ _ (IsEdit-keeps _ _ kept) c.in-Ok-join.ensures.edit in
+    let closed = IsEdit-trans _ _ _ joined c.in-Ok-append.ensures.edit in
+    let worded = IsEdit-trans _ _ _ closed c.in-Ok-append-2.ensures.edit in
+    let at_join = StaysInPlace-joined old _ _ _ _ _ _ c.requires.ret kept.frame_same c.in-Ok.ensures.appends c.in-Ok-join.ensures.join_of in
+    let at_closed = StaysInPlace-trans _ _ _ _ _ _ joined at_join (StaysInPlace-edit _ _ _ _ _ c.in-Ok-append.ensures.edit_of) in
+    let at_worded = StaysInPlace-trans _ _ _ _ _ _ closed at_closed (StaysInPlace-edit _ _ _ _ _ c.in-Ok-append-2.ensures.edit_of) in
+    let at_whole = StaysInPlace-trans _ _ _ _ _ _ worded at_worded (StaysInPlace-edit _ _ _ _ _ c.in-Ok-append-3.ensures.edit_of) in
     StaysInPlace-named _ _ _ _ _ at_whole c.declare.ensures.stands
 
 pub declare-requires-clause-within : goal.declare-requires-clause-within
@@ -46,26 +46,11 @@ returns-clause-edit c = grind (arith, declarators, laws)
 pub returns-then-is_some : goal.returns-then-is_some
 returns-then-is_some c = grind arith
 
-pub returns-in_err-list : goal.returns-in_err-list
-returns-in_err-list c = grind arith
-
-pub returns-in_err-begun : goal.returns-in_err-begun
-returns-in_err-begun c = grind arith
-
-pub returns-in_err-closed : goal.returns-in_err-closed
-returns-in_err-closed c = grind arith
-
 pub append-requires-2 : goal.append-requires-2
 append-requires-2 c = grind arith
 
-pub returns-in_err-worded : goal.returns-in_err-worded
-returns-in_err-worded c = grind arith
-
 pub append-requires-3 : goal.append-requires-3
 append-requires-3 c = grind arith
-
-pub returns-in_err-whole : goal.returns-in_err-whole
-returns-in_err-whole c = grind arith
 
 pub len-len-requires : goal.len-len-requires
 len-len-requires c = grind arith

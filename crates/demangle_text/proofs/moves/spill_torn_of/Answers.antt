@@ -7,7 +7,7 @@ use Rattle.demangle_text.specs.Pieces.{IsApart, IsPiece, Extends, shape_in}
 use Rattle.demangle_text.proofs.States.{IsPiece-spilled, shape-spilled, replaced_lie, replaced_shapes, Extends-trans, states}
 use Rattle.demangle_text.proofs.Reaches.{within-apart}
 use Rattle.demangle_text.proofs.moves.spill_torn_of.Goals as goal
-use Rattle.demangle_text.proofs.moves.spill_torn_of.Goals.{then-is_torn+in_ok-add, else-is_torn}
+use Rattle.demangle_text.proofs.moves.spill_torn_of.Goals.{then-is_torn+in-Ok, else-is_torn}
 
 pub loop-i-init : goal.loop-i-init
 loop-i-init c = record {
@@ -33,9 +33,9 @@ loop-i-preserved c =
     let there : i < length ps = omega (arith, so_far.long, c.len-i-end.ensures.value, c.loop-i-test.true) in
     let is = c.piece_at-piece.ensures.value in
     elim c.if-is_torn.branch [
-      | then-is_torn+in_ok-add w ↦
+      | then-is_torn+in-Ok w ↦
           let new = w.add.new.self in
-          let added = w.in_ok-add.ensures.ok in
+          let added = w.in-Ok.ensures.ok in
           let from = w.len-from.result in
           let to = w.len.result in
           let q : Piece = record p { from_byte = from; to_byte = to; spilled = true } in
@@ -61,5 +61,5 @@ loop-i-preserved c =
           })
     ]
 
-pub returns-in_err-add : goal.returns-in_err-add
-returns-in_err-add c = grind (arith, states)
+pub returns-in-Err : goal.returns-in-Err
+returns-in-Err c = grind (arith, states)

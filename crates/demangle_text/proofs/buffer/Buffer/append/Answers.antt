@@ -1,5 +1,5 @@
 -- The bytes go after the text, which ends the output then, and the outline is that of the shape with the bytes.
-use Rattle.demangle_text.proofs.States.{states, internals, on_err_from}
+use Rattle.demangle_text.proofs.States.{states, internals}
 use Rattle.std.proofs.lemmas.Grind.{common_steps, elements}
 use Rattle.std.proofs.Common.{◌≡◌, ◌-◌, ◌++◌, ℕ, OnOk, OnErr, length, refl, sym, ap, ◌∙◌, subst, arith}
 use Rattle.demangle_text.specs.declared.pieces.Place.TheVariants.{End}
@@ -10,30 +10,30 @@ use Rattle.demangle_text.proofs.Tails.{Lives-inserted, IsEditOf-spliced, own-fit
 use Rattle.demangle_text.proofs.AtEnd.{KeepsAll-left, IsStore-extended, IsEdit-extended, IsSplice-added}
 use Rattle.demangle_text.proofs.buffer.Buffer.append.Goals as goal
 
-pub returns-in_err-truncated_on_err-clause-err : goal.returns-in_err-truncated_on_err-clause-err
-returns-in_err-truncated_on_err-clause-err c =
+pub returns-in-Err-truncated_on_err-clause-err : goal.returns-in-Err-truncated_on_err-clause-err
+returns-in-Err-truncated_on_err-clause-err c =
     let s = store_of c.self.inside in
     let mid = c.ensure_at_end.new.output in
     let done = c.add-added.new.self in
-    let failed : done ≡ mid = subst (λ r. OnErr r (done ≡ mid)) (sym c.in_err-truncated_on_err.ensures.same) c.add-added.ensures.err in
-    on_err_from c.from_residual-in_err-truncated_on_err.result (rw (← c.self.view_is)
-    (KeepsAll-left s mid done c.truncated_on_err.new.output c.len-len.result c.len-len.ensures.value c.in_ok-from.ensures.at_end.longer failed c.in_err-truncated_on_err.ensures.err))
+    let failed : done ≡ mid = subst (λ r. OnErr r (done ≡ mid)) (sym c.in-Err-truncated_on_err.ensures.same) c.add-added.ensures.err in
+    (rw (← c.self.view_is)
+    (KeepsAll-left s mid done c.truncated_on_err.new.output c.len-len.result c.len-len.ensures.value c.in-Ok.ensures.at_end.longer failed c.in-Err-truncated_on_err.ensures.err))
 
 pub invariant_of-self-2 : goal.invariant_of-self-2
 invariant_of-self-2 c =
     let mid = c.ensure_at_end.new.output in
     let more = c.args.bytes.now in
     let done = c.add-added.new.self in
-    let is = c.in_ok-truncated_on_err.ensures.ok ∙ subst (λ r. OnOk r (done ≡ mid ++ more)) (sym c.in_ok-truncated_on_err.ensures.same) c.add-added.ensures.ok in
-    IsStore-extended (store_of c.self.inside) mid more _ c.self.invariant c.in_ok-from.ensures.at_end.longer is
+    let is = c.in-Ok-truncated_on_err.ensures.ok ∙ subst (λ r. OnOk r (done ≡ mid ++ more)) (sym c.in-Ok-truncated_on_err.ensures.same) c.add-added.ensures.ok in
+    IsStore-extended (store_of c.self.inside) mid more _ c.self.invariant c.in-Ok.ensures.at_end.longer is
 
 pub returns-clause-edit : goal.returns-clause-edit
 returns-clause-edit c =
     let mid = c.ensure_at_end.new.output in
     let more = c.args.bytes.now in
     let done = c.add-added.new.self in
-    let is = c.in_ok-truncated_on_err.ensures.ok ∙ subst (λ r. OnOk r (done ≡ mid ++ more)) (sym c.in_ok-truncated_on_err.ensures.same) c.add-added.ensures.ok in
-    rw (← c.self.view_is) (IsEdit-extended (store_of c.self.inside) mid more _ c.self.invariant c.in_ok-from.ensures.at_end.longer is)
+    let is = c.in-Ok-truncated_on_err.ensures.ok ∙ subst (λ r. OnOk r (done ≡ mid ++ more)) (sym c.in-Ok-truncated_on_err.ensures.same) c.add-added.ensures.ok in
+    rw (← c.self.view_is) (IsEdit-extended (store_of c.self.inside) mid more _ c.self.invariant c.in-Ok.ensures.at_end.longer is)
 
 pub with_bytes-requires-clause-own_fits : goal.with_bytes-requires-clause-own_fits
 with_bytes-requires-clause-own_fits c =
@@ -41,9 +41,9 @@ with_bytes-requires-clause-own_fits c =
     let s = store_of c.self.inside in
     let p = c.args.piece in
     let done = c.add-added.new.self in
-    let added = subst (λ r. OnOk r (done ≡ c.ensure_at_end.new.output ++ c.args.bytes.now)) (sym c.in_ok-truncated_on_err.ensures.same) c.add-added.ensures.ok in
-    let splice = IsSplice-added s b c.truncated_on_err.new.output p _ _ c.in_ok-from.from c.self.view_is c.requires.living c.in_ok-from.ensures.at_end (c.in_ok-truncated_on_err.ensures.ok ∙ added) in
-    let fits = own-fits b _ p (p.to_byte - p.from_byte) c.args.bytes.now c.in_ok-from.from c.requires.living splice in
+    let added = subst (λ r. OnOk r (done ≡ c.ensure_at_end.new.output ++ c.args.bytes.now)) (sym c.in-Ok-truncated_on_err.ensures.same) c.add-added.ensures.ok in
+    let splice = IsSplice-added s b c.truncated_on_err.new.output p _ _ c.in-Ok.value c.self.view_is c.requires.living c.in-Ok.ensures.at_end (c.in-Ok-truncated_on_err.ensures.ok ∙ added) in
+    let fits = own-fits b _ p (p.to_byte - p.from_byte) c.args.bytes.now c.in-Ok.value c.requires.living splice in
     omega (arith, fits, c.len.ensures.value, c.len.type_inv)
 
 pub with_bytes-requires-clause-layout_fits : goal.with_bytes-requires-clause-layout_fits
@@ -52,9 +52,9 @@ with_bytes-requires-clause-layout_fits c =
     let s = store_of c.self.inside in
     let p = c.args.piece in
     let done = c.add-added.new.self in
-    let added = subst (λ r. OnOk r (done ≡ c.ensure_at_end.new.output ++ c.args.bytes.now)) (sym c.in_ok-truncated_on_err.ensures.same) c.add-added.ensures.ok in
-    let splice = IsSplice-added s b c.truncated_on_err.new.output p _ _ c.in_ok-from.from c.self.view_is c.requires.living c.in_ok-from.ensures.at_end (c.in_ok-truncated_on_err.ensures.ok ∙ added) in
-    let fits = layout-fits b _ p (p.to_byte - p.from_byte) c.args.bytes.now c.in_ok-from.from c.requires.living splice in
+    let added = subst (λ r. OnOk r (done ≡ c.ensure_at_end.new.output ++ c.args.bytes.now)) (sym c.in-Ok-truncated_on_err.ensures.same) c.add-added.ensures.ok in
+    let splice = IsSplice-added s b c.truncated_on_err.new.output p _ _ c.in-Ok.value c.self.view_is c.requires.living c.in-Ok.ensures.at_end (c.in-Ok-truncated_on_err.ensures.ok ∙ added) in
+    let fits = layout-fits b _ p (p.to_byte - p.from_byte) c.args.bytes.now c.in-Ok.value c.requires.living splice in
     omega (arith, fits, c.len.ensures.value, c.len.type_inv)
 
 pub returns-clause-shape : goal.returns-clause-shape
@@ -62,12 +62,12 @@ returns-clause-shape c =
     let b = c.args.self.now in
     let s = store_of c.self.inside in
     let p = c.args.piece in
-    let from = c.in_ok-from.from in
+    let from = c.in-Ok.value in
     let bytes = c.args.bytes.now in
     let m = c.with_bytes.ensures in
     let done = c.add-added.new.self in
-    let added = subst (λ r. OnOk r (done ≡ c.ensure_at_end.new.output ++ bytes)) (sym c.in_ok-truncated_on_err.ensures.same) c.add-added.ensures.ok in
-    let splice = IsSplice-added s b c.truncated_on_err.new.output p _ _ from c.self.view_is c.requires.living c.in_ok-from.ensures.at_end (c.in_ok-truncated_on_err.ensures.ok ∙ added) in
+    let added = subst (λ r. OnOk r (done ≡ c.ensure_at_end.new.output ++ bytes)) (sym c.in-Ok-truncated_on_err.ensures.same) c.add-added.ensures.ok in
+    let splice = IsSplice-added s b c.truncated_on_err.new.output p _ _ from c.self.view_is c.requires.living c.in-Ok.ensures.at_end (c.in-Ok-truncated_on_err.ensures.ok ∙ added) in
     let k = c.len.ensures.value in
     Lives-inserted b _ p (p.to_byte - p.from_byte) bytes from c.requires.living splice c.with_bytes.result (subst (IsAt c.with_bytes.result from) k m.stands)
     End tt refl m.layout
@@ -80,10 +80,10 @@ returns-clause-edit_of c =
     let s = store_of c.self.inside in
     let p = c.args.piece in
     let q = c.with_bytes.result in
-    let from = c.in_ok-from.from in
+    let from = c.in-Ok.value in
     let done = c.add-added.new.self in
-    let added = subst (λ r. OnOk r (done ≡ c.ensure_at_end.new.output ++ c.args.bytes.now)) (sym c.in_ok-truncated_on_err.ensures.same) c.add-added.ensures.ok in
-    let splice = IsSplice-added s b c.truncated_on_err.new.output p _ _ from c.self.view_is c.requires.living c.in_ok-from.ensures.at_end (c.in_ok-truncated_on_err.ensures.ok ∙ added) in
+    let added = subst (λ r. OnOk r (done ≡ c.ensure_at_end.new.output ++ c.args.bytes.now)) (sym c.in-Ok-truncated_on_err.ensures.same) c.add-added.ensures.ok in
+    let splice = IsSplice-added s b c.truncated_on_err.new.output p _ _ from c.self.view_is c.requires.living c.in-Ok.ensures.at_end (c.in-Ok-truncated_on_err.ensures.ok ∙ added) in
     IsEditOf-spliced b _ p q (p.to_byte - p.from_byte) from c.args.bytes.now splice (subst (IsAt q from) c.len.ensures.value c.with_bytes.ensures.stands)
 
 pub ensure_at_end-requires-clause-ordered : goal.ensure_at_end-requires-clause-ordered
@@ -94,28 +94,16 @@ pub truncated_on_err-requires : goal.truncated_on_err-requires
 unfolding internals
 truncated_on_err-requires c = grind (arith, common_steps)
 
-pub invariant_of-self-in_err-truncated_on_err : goal.invariant_of-self-in_err-truncated_on_err
+pub invariant_of-self-in-Err-truncated_on_err : goal.invariant_of-self-in-Err-truncated_on_err
 unfolding internals
-invariant_of-self-in_err-truncated_on_err c = grind (arith, common_steps)
+invariant_of-self-in-Err-truncated_on_err c = grind (arith, common_steps)
 
 pub invariant_of-self : goal.invariant_of-self
 invariant_of-self c = grind arith
 
-pub returns-in_err-from : goal.returns-in_err-from
-returns-in_err-from c = grind arith
-
-pub returns-in_err-truncated_on_err-clause-shape : goal.returns-in_err-truncated_on_err-clause-shape
-returns-in_err-truncated_on_err-clause-shape c = grind arith
-
-pub returns-in_err-truncated_on_err-clause-edit : goal.returns-in_err-truncated_on_err-clause-edit
-returns-in_err-truncated_on_err-clause-edit c = grind arith
-
-pub returns-in_err-truncated_on_err-clause-edit_of : goal.returns-in_err-truncated_on_err-clause-edit_of
-returns-in_err-truncated_on_err-clause-edit_of c = grind arith
-
-pub returns-in_err-truncated_on_err-clause-main_err : goal.returns-in_err-truncated_on_err-clause-main_err
+pub returns-in-Err-truncated_on_err-clause-main_err : goal.returns-in-Err-truncated_on_err-clause-main_err
 unfolding internals
-returns-in_err-truncated_on_err-clause-main_err c = grind (arith, common_steps)
+returns-in-Err-truncated_on_err-clause-main_err c = grind (arith, common_steps)
 
 pub with_bytes-requires-clause-text : goal.with_bytes-requires-clause-text
 with_bytes-requires-clause-text c = grind (arith, elements)

@@ -17,7 +17,7 @@ returns-clause-shape c =
     let lies = subst (λ (b : Store). IsLiving b c.args.piece.now) (sym c.self.view_is) c.requires.living in
     let last = subst (λ (b : Store). IsLast b c.args.piece.now) (sym c.self.view_is) c.requires.last in
     rw (← c.self.view_is) (
-    Lives-renamed s c.add_pair.new.self c.args.piece.now c.args.between.now c.args.name.now c.self.invariant lies last c.in_ok-add_pair.ensures.ok
+    Lives-renamed s c.add_pair.new.self c.args.piece.now c.args.between.now c.args.name.now c.self.invariant lies last c.in-Ok.ensures.ok
     c.len-piece.result c.len-piece.ensures.value)
 
 pub returns-clause-edit : goal.returns-clause-edit
@@ -26,7 +26,7 @@ returns-clause-edit c =
     let lies = subst (λ (b : Store). IsLiving b c.args.piece.now) (sym c.self.view_is) c.requires.living in
     let last = subst (λ (b : Store). IsLast b c.args.piece.now) (sym c.self.view_is) c.requires.last in
     rw (← c.self.view_is) (
-    edit-named s c.add_pair.new.self c.args.piece.now c.args.between.now c.args.name.now c.self.invariant lies last c.in_ok-add_pair.ensures.ok)
+    edit-named s c.add_pair.new.self c.args.piece.now c.args.between.now c.args.name.now c.self.invariant lies last c.in-Ok.ensures.ok)
 
 pub overflow_sub-piece : goal.overflow_sub-piece
 unfolding IsLiving shape main_bytes Stands frame_start frame outermost IsOlder IsAsOld inside outside saved scopes
@@ -43,6 +43,3 @@ invariant_of-self-2 c = grind (arith, states)
 pub returns-clause-edit_of : goal.returns-clause-edit_of
 unfolding IsLiving shape main_bytes Stands frame_start frame outermost IsOlder IsAsOld inside outside saved scopes
 returns-clause-edit_of c = grind (arith, common_steps)
-
-pub returns-in_err-add_pair : goal.returns-in_err-add_pair
-returns-in_err-add_pair c = grind arith

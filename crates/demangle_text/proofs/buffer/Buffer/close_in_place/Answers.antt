@@ -30,9 +30,6 @@ pub returns-then-piece-len-clause-closed : goal.returns-then-piece-len-clause-cl
 unfolding internals
 returns-then-piece-len-clause-closed c = grind (arith, states)
 
-pub returns-in_err-move_down : goal.returns-in_err-move_down
-returns-in_err-move_down c = grind arith
-
 pub invariant_of-self-2 : goal.invariant_of-self-2
 unfolding internals
 invariant_of-self-2 c = grind (arith, states)

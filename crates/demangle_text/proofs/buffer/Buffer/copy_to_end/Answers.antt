@@ -7,7 +7,7 @@ use Rattle.demangle_text.proofs.States.{KeepsAll-longer}
 use Rattle.demangle_text.proofs.buffer.Buffer.copy_to_end.Goals as goal
 
 pub returns-clause-kept : goal.returns-clause-kept
-returns-clause-kept c = rw (← c.self.view_is, c.in_ok-add_text.ensures.ok) (KeepsAll-longer (store_of c.self.inside) _ c.self.invariant)
+returns-clause-kept c = rw (← c.self.view_is, c.in-Ok.ensures.ok) (KeepsAll-longer (store_of c.self.inside) _ c.self.invariant)
 
 pub invariant_of-self-2 : goal.invariant_of-self-2
 unfolding IsLiving shape main_bytes Stands frame_start frame outermost IsOlder IsAsOld inside outside saved scopes
@@ -21,6 +21,6 @@ pub returns-clause-output : goal.returns-clause-output
 unfolding IsLiving shape main_bytes Stands frame_start frame outermost IsOlder IsAsOld inside outside saved scopes
 returns-clause-output c = grind (arith, states)
 
-pub returns-in_err-add_text : goal.returns-in_err-add_text
+pub returns-in-Err : goal.returns-in-Err
 unfolding internals
-returns-in_err-add_text c = grind (arith, states)
+returns-in-Err c = grind (arith, states)

@@ -10,14 +10,14 @@ put-requires c =
     let b = c.args.self.now in
     let at = c.args.at in
     let k = length c.args.bytes.now in
-    let g = IsGap-same b _ (store_of c.self.inside) at k c.self.view_is c.in_ok-open_gap.ensures.gap in
+    let g = IsGap-same b _ (store_of c.self.inside) at k c.self.view_is c.in-Ok.ensures.gap in
     let n = length-gap b.output_text c.self.inside.output at k c.requires.within g.gap in
     record { within = omega (arith, n, c.requires.within) }
 
 gap : (c : goal.After-put) → IsGap c.args.self.now (store_of c.self.inside) c.args.at (length c.args.bytes.now)
 gap c =
     IsGap-same c.args.self.now _ (store_of c.self.inside) c.args.at (length c.args.bytes.now) c.self.view_is
-    c.in_ok-open_gap.ensures.gap
+    c.in-Ok.ensures.gap
 
 output : (c : goal.After-put) → c.put.new.self
     ≡ take c.args.at c.args.self.now.output_text ++ (c.args.bytes.now ++ drop c.args.at c.args.self.now.output_text)

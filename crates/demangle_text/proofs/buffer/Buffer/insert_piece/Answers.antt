@@ -17,7 +17,7 @@ use Rattle.demangle_text.proofs.buffer.Buffer.insert_piece.Goals.{then-first, el
 gap : (c : goal.After-put) → IsGap c.args.self.now (store_of c.self.inside) c.args.at c.in-Some.n
 gap c =
     IsGap-same c.args.self.now _ (store_of c.self.inside) c.args.at c.in-Some.n c.self.view_is
-    c.in_ok-open_gap.ensures.gap
+    c.in-Ok.ensures.gap
 
 -- the text is put from wherever it lies
 same : (c : goal.After-put) → store_of c.if-first.self-inside ≡ record (store_of c.self.inside) { output_text = c.if-first.self-inside.output }

@@ -20,7 +20,7 @@ adjacent c =
     let tail = tail-is s b c.args.second c.len.result c.self.view_is c.len.ensures.value (c.is_tail.ensures.tail c.if-is_tail.true) in
     let meets = adjacent-is s b c.args.first c.args.second c.self.view_is (c.is_tail-then-is_tail.ensures.tail c.if-is_tail-2.true) tail in
     IsJoint-inserted b c.insert_at.new.self c.args.first c.args.bytes.now c.args.second meets
-    c.requires.first_living.ordered c.requires.second_living.ordered c.in_ok-insert_at.ensures.output
+    c.requires.first_living.ordered c.requires.second_living.ordered c.in-Ok.ensures.output
 
 pub returns-then-is_tail-2-clause-shape : goal.returns-then-is_tail-2-clause-shape
 returns-then-is_tail-2-clause-shape c =
@@ -45,7 +45,7 @@ moved c =
     let f = c.if-is_tail-2.false in let k : ⊥ = false≢true (sym f ∙ t) in k in
     let tail = tail-is s b c.args.second c.len.result c.self.view_is c.len.ensures.value (c.is_tail.ensures.tail c.if-is_tail.true) in
     let before : EndsBy c.args.second.from_byte c.args.first = search rules in
-    IsJoint-moved b c.insert_piece.new.self c.args.first c.args.bytes.now c.args.second apart tail before c.requires.second_living.ordered c.in_ok-insert_piece.ensures.output
+    IsJoint-moved b c.insert_piece.new.self c.args.first c.args.bytes.now c.args.second apart tail before c.requires.second_living.ordered c.in-Ok-insert_piece.ensures.output
 
 pub returns-then-first-clause-shape : goal.returns-then-first-clause-shape
 returns-then-first-clause-shape c =
@@ -62,7 +62,7 @@ returns-then-first-clause-join_of c =
     IsJoinOf-joint c.args.self.now c.insert_piece.new.self c.args.first c.args.second q.result c.args.bytes.now _ c.requires.first_living c.requires.second_living (moved c)
     (subst (IsAt q.result c.args.second.from_byte) k q.ensures.stands)
 
-extended : (c : goal.After-whole_at-2) → IsJoint c.args.self.now c.extend_by.new.self c.args.first c.args.bytes.now c.args.second c.in_ok-from.from
+extended : (c : goal.After-whole_at-2) → IsJoint c.args.self.now c.extend_by.new.self c.args.first c.args.bytes.now c.args.second c.in-Ok-extend_by.value
 extended c =
     let b = c.args.self.now in
     let s = store_of c.self.inside in
@@ -83,11 +83,11 @@ extended c =
       | then-is_tail+else-is_tail-2+else-first+else-first-second w ↦ let k : ⊥ = omega (arith, before w.if-first.false, w.if-first-second.false) in k
       | else-is_tail w ↦ let f = w.if-is_tail.false in let k : ⊥ = false≢true (sym f ∙ t) in k
     ] in k in
-    IsJoint-spliced b c.extend_by.new.self one c.args.bytes.now two c.in_ok-from.from apart later c.requires.first_living c.in_ok-from.ensures.splice
+    IsJoint-spliced b c.extend_by.new.self one c.args.bytes.now two c.in-Ok-extend_by.value apart later c.requires.first_living c.in-Ok-extend_by.ensures.splice
 
 pub returns-clause-shape : goal.returns-clause-shape
 returns-clause-shape c =
-    let from = c.in_ok-from.from in
+    let from = c.in-Ok-extend_by.value in
     let k = c.len-2.ensures.value ∙ ap (λ b. length b.output_text) c.self-2.view_is in
     Lives-joined c.args.self.now c.extend_by.new.self c.args.first c.args.second c.whole_at-2.result c.args.bytes.now from c.requires.first_living c.requires.second_living (extended c)
     (subst (IsAt c.whole_at-2.result from) k c.whole_at-2.ensures.stands)
@@ -95,14 +95,14 @@ returns-clause-shape c =
 
 pub returns-clause-join_of : goal.returns-clause-join_of
 returns-clause-join_of c =
-    let from = c.in_ok-from.from in
+    let from = c.in-Ok-extend_by.value in
     let k = c.len-2.ensures.value ∙ ap (λ b. length b.output_text) c.self-2.view_is in
     IsJoinOf-joint c.args.self.now c.extend_by.new.self c.args.first c.args.second c.whole_at-2.result c.args.bytes.now from c.requires.first_living c.requires.second_living (extended c)
     (subst (IsAt c.whole_at-2.result from) k c.whole_at-2.ensures.stands)
 
-pub returns-in_err-insert_at : goal.returns-in_err-insert_at
+pub returns-in-Err : goal.returns-in-Err
 unfolding internals
-returns-in_err-insert_at c = grind (arith, states)
+returns-in-Err c = grind (arith, states)
 
 pub whole_at-requires : goal.whole_at-requires
 unfolding internals
@@ -115,9 +115,9 @@ pub insert_piece-requires : goal.insert_piece-requires
 unfolding internals
 insert_piece-requires c = grind (arith, states)
 
-pub returns-in_err-insert_piece : goal.returns-in_err-insert_piece
+pub returns-in-Err-insert_piece : goal.returns-in-Err-insert_piece
 unfolding internals
-returns-in_err-insert_piece c = grind (arith, states)
+returns-in-Err-insert_piece c = grind (arith, states)
 
 pub whole_at-requires-then-first : goal.whole_at-requires-then-first
 unfolding internals
@@ -126,9 +126,9 @@ whole_at-requires-then-first c = grind (arith, common_steps)
 pub returns-then-first-clause-edit : goal.returns-then-first-clause-edit
 returns-then-first-clause-edit c = grind arith
 
-pub returns-in_err-from : goal.returns-in_err-from
+pub returns-in-Err-extend_by : goal.returns-in-Err-extend_by
 unfolding internals
-returns-in_err-from c = grind (arith, states)
+returns-in-Err-extend_by c = grind (arith, states)
 
 pub returns-clause-edit : goal.returns-clause-edit
 returns-clause-edit c = grind arith

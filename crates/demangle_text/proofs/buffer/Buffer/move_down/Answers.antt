@@ -11,26 +11,26 @@ use Rattle.demangle_text.proofs.Blocks.{IsBlock, IsBlock-here, IsBlock-copied}
 use Rattle.demangle_text.proofs.Texts.{Moves}
 use Rattle.demangle_text.proofs.Carried.{Moves-kept, IsStore-after, IsEdit-after}
 use Rattle.demangle_text.proofs.buffer.Buffer.move_down.Goals as goal
-use Rattle.demangle_text.proofs.buffer.Buffer.move_down.Goals.{then-spilled+in_ok-add_text+else-from-at-2, else-spilled+else-from-at}
+use Rattle.demangle_text.proofs.buffer.Buffer.move_down.Goals.{then-spilled+in-Ok+else-from-at-2, else-spilled+else-from-at}
 
 -- a copy at the mark is all that there is since then
 pub invariant_of-self-then-from-at-2 : goal.invariant_of-self-then-from-at-2
-invariant_of-self-then-from-at-2 c = rw c.in_ok-add_text.ensures.ok (IsStore-longer (store_of c.self.inside) _ c.self.invariant)
+invariant_of-self-then-from-at-2 c = rw c.in-Ok.ensures.ok (IsStore-longer (store_of c.self.inside) _ c.self.invariant)
 
 pub returns-then-from-at-2-clause-edit : goal.returns-then-from-at-2-clause-edit
 returns-then-from-at-2-clause-edit c =
-    rw (← c.self.view_is, c.in_ok-add_text.ensures.ok) (IsEdit-keeps _ _ (KeepsAll-longer (store_of c.self.inside) _ c.self.invariant))
+    rw (← c.self.view_is, c.in-Ok.ensures.ok) (IsEdit-keeps _ _ (KeepsAll-longer (store_of c.self.inside) _ c.self.invariant))
 
 -- what is kept lies in the texts
 pub spill_torn-requires-clause-saved : goal.spill_torn-requires-clause-saved
 spill_torn-requires-clause-saved c = rw c.as_slice.ensures.value (elim c.if-spilled.branch [
-  | then-spilled+in_ok-add_text+else-from-at-2 w ↦ rw (w.self-inside-is, w.in_ok-add_text.ensures.ok) ((IsStore-longer (store_of c.self.inside) _ c.self.invariant).saved_lie)
+  | then-spilled+in-Ok+else-from-at-2 w ↦ rw (w.self-inside-is, w.in-Ok.ensures.ok) ((IsStore-longer (store_of c.self.inside) _ c.self.invariant).saved_lie)
   | else-spilled+else-from-at w ↦ rw w.self-inside-is c.self.invariant.saved_lie
 ])
 
 pub spill_torn-requires-clause-args : goal.spill_torn-requires-clause-args
 spill_torn-requires-clause-args c = rw c.as_slice.ensures.value (elim c.if-spilled.branch [
-  | then-spilled+in_ok-add_text+else-from-at-2 w ↦ rw (w.self-inside-is, w.in_ok-add_text.ensures.ok) ((IsStore-longer (store_of c.self.inside) _ c.self.invariant).args_lie)
+  | then-spilled+in-Ok+else-from-at-2 w ↦ rw (w.self-inside-is, w.in-Ok.ensures.ok) ((IsStore-longer (store_of c.self.inside) _ c.self.invariant).args_lie)
   | else-spilled+else-from-at w ↦ rw w.self-inside-is c.self.invariant.args_lie
 ])
 
@@ -44,9 +44,9 @@ block c =
     let mark : s.marked_len ≡ c.args.at = ap (λ (b : Store). b.marked_len) c.self.view_is ∙ c.requires.mark in
     let within = subst (λ (b : Store). c.args.to ≤ length (home_bytes b.output_text b.spill_text c.args.spilled)) (sym c.self.view_is) c.requires.within in
     elim c.if-spilled.branch [
-      | then-spilled+in_ok-add_text+else-from-at-2 w ↦ rw (w.self-inside-is, w.from-is, w.to-is) (
+      | then-spilled+in-Ok+else-from-at-2 w ↦ rw (w.self-inside-is, w.from-is, w.to-is) (
           IsBlock-copied s (part s c.args.spilled c.args.from c.args.to) w.add_text.new.output c.args.at w.len-copied.result w.len-to.result c.self.invariant mark
-          (w.in_ok-add_text.ensures.ok ∙ (λ j. s.output_text ++ slice_range (home_bytes s.output_text s.spill_text c.args.spilled) (w.whole_at-part.ensures.stands.begins j) (w.whole_at-part.ensures.stands.ends j)))
+          (w.in-Ok.ensures.ok ∙ (λ j. s.output_text ++ slice_range (home_bytes s.output_text s.spill_text c.args.spilled) (w.whole_at-part.ensures.stands.begins j) (w.whole_at-part.ensures.stands.ends j)))
           w.len-copied.ensures.value w.len-to.ensures.value)
       | else-spilled+else-from-at w ↦ rw (w.self-inside-is, w.from-is, w.to-is) (
           IsBlock-here s c.args.spilled c.args.at c.args.from c.args.to c.self.invariant mark w.if-spilled.false c.requires.ordered within)
@@ -59,7 +59,7 @@ moves c =
 
 pub invariant_of-self-2 : goal.invariant_of-self-2
 invariant_of-self-2 c =
-    let a = c.in_ok-spill_torn.ensures in
+    let a = c.in-Ok-spill_torn.ensures in
     let b = block c in
     (IsStore-after (store_of c.if-spilled.self-inside) _ _ _ _ c.as_slice.ensures.value c.spill_torn.ensures.spilled
     _ _ _ _ _ _ _ b.store a.saved_apart a.args_apart c.shift.ensures.value c.shift-2.ensures.value
@@ -67,7 +67,7 @@ invariant_of-self-2 c =
 
 pub returns-clause-edit : goal.returns-clause-edit
 returns-clause-edit c =
-    let a = c.in_ok-spill_torn.ensures in
+    let a = c.in-Ok-spill_torn.ensures in
     let b = block c in
     rw (← c.self.view_is)
     (IsEdit-trans _ _ _ (IsEdit-keeps _ _ b.keeps)
@@ -82,9 +82,9 @@ pub returns-then-from-at-2-clause-output : goal.returns-then-from-at-2-clause-ou
 unfolding IsLiving shape main_bytes Stands frame_start frame outermost IsOlder IsAsOld inside outside saved scopes
 returns-then-from-at-2-clause-output c = grind (arith, common_steps)
 
-pub invariant_of-self-in_err-spill_torn : goal.invariant_of-self-in_err-spill_torn
+pub invariant_of-self-in-Err-spill_torn : goal.invariant_of-self-in-Err-spill_torn
 unfolding IsLiving shape main_bytes Stands frame_start frame outermost IsOlder IsAsOld inside outside saved scopes
-invariant_of-self-in_err-spill_torn c = grind (arith, common_steps)
+invariant_of-self-in-Err-spill_torn c = grind (arith, common_steps)
 
 pub keep_only-requires-clause-ordered : goal.keep_only-requires-clause-ordered
 unfolding IsLiving shape main_bytes Stands frame_start frame outermost IsOlder IsAsOld inside outside saved scopes
@@ -100,12 +100,6 @@ shift-requires-2-clause-block c = grind (arith, common_steps)
 
 pub invariant_of-self : goal.invariant_of-self
 invariant_of-self c = grind arith
-
-pub returns-in_err-add_text : goal.returns-in_err-add_text
-returns-in_err-add_text c = grind arith
-
-pub returns-in_err-spill_torn : goal.returns-in_err-spill_torn
-returns-in_err-spill_torn c = grind arith
 
 pub keep_only-requires-clause-before : goal.keep_only-requires-clause-before
 keep_only-requires-clause-before c = grind arith

@@ -11,19 +11,16 @@ pub invariant_of-self-2 : goal.invariant_of-self-2
 invariant_of-self-2 c =
     let s = store_of c.self.inside in
     let lies = subst (λ (b : Store). IsLiving b c.args.piece) (sym c.self.view_is) c.requires.living in
-    IsStore-arg s _ refl refl refl c.self.invariant c.args.piece lies refl c.in_ok-push.ensures.ok refl
+    IsStore-arg s _ refl refl refl c.self.invariant c.args.piece lies refl c.in-Ok.ensures.ok refl
 
 pub returns-clause-scopes : goal.returns-clause-scopes
 returns-clause-scopes c =
     let s = store_of c.self.inside in
     let some : 0 < length (scopes s) = omega (arith, ap (λ (b : Store). length (scopes b)) c.self.view_is) in
-    rw (← c.self.view_is) (scopes-arg s _ refl refl refl c.self.invariant c.args.piece c.in_ok-push.ensures.ok refl some)
+    rw (← c.self.view_is) (scopes-arg s _ refl refl refl c.self.invariant c.args.piece c.in-Ok.ensures.ok refl some)
 
 pub invariant_of-self : goal.invariant_of-self
 invariant_of-self c = grind arith
-
-pub returns-in_err-push : goal.returns-in_err-push
-returns-in_err-push c = grind arith
 
 pub returns-clause-kept : goal.returns-clause-kept
 unfolding internals

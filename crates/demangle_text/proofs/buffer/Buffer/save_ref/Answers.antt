@@ -14,7 +14,7 @@ invariant_of-self-2 c =
     let s = store_of c.self.inside in
     let lies = subst (λ (b : Store). IsLiving b c.args.piece.now) (sym c.self.view_is) c.requires.living in
     record {
-      saved_lie = rw c.in_ok-push.ensures.ok (All-push (IsPiece s.output_text s.spill_text) _ _ c.self.invariant.saved_lie lies);
+      saved_lie = rw c.in-Ok.ensures.ok (All-push (IsPiece s.output_text s.spill_text) _ _ c.self.invariant.saved_lie lies);
       args_lie = c.self.invariant.args_lie;
       starts_fit = c.self.invariant.starts_fit;
       main_frame = c.self.invariant.main_frame;

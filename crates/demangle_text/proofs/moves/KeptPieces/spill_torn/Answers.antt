@@ -2,8 +2,8 @@ use Rattle.std.proofs.Common.{refl, ◌∙◌}
 use Rattle.demangle_text.proofs.States.{All-extends, shapes-extends, Extends-trans}
 use Rattle.demangle_text.proofs.moves.KeptPieces.spill_torn.Goals as goal
 
-pub returns-in_err-spill_torn_of-clause-spilled : goal.returns-in_err-spill_torn_of-clause-spilled
-returns-in_err-spill_torn_of-clause-spilled c =
+pub returns-in-Err-clause-spilled : goal.returns-in-Err-clause-spilled
+returns-in-Err-clause-spilled c =
     let e = c.spill_torn_of.ensures in
     record {
       spill = e.spill;

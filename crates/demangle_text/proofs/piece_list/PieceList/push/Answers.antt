@@ -7,7 +7,7 @@ use Rattle.demangle_text.specs.declared.piece_list.Entry.{Entry}
 use Rattle.demangle_text.specs.Pieces.{EndsBy, pieces_of, reaches_of}
 use Rattle.demangle_text.proofs.Reaches.{reached-front, reached-set_kept}
 use Rattle.demangle_text.proofs.piece_list.PieceList.push.Goals as goal
-use Rattle.demangle_text.proofs.piece_list.PieceList.push.Goals.{then-at-len+in_ok-grow, else-at-len}
+use Rattle.demangle_text.proofs.piece_list.PieceList.push.Goals.{then-at-len+in-Ok, else-at-len}
 
 -- what has capacity is the list with what it had
 record HasFront (xs ys : List Entry) (n : ℕ) : Type 0 where
@@ -22,9 +22,9 @@ front c =
     let p = length-map xs (λ (k : Entry). k.piece) in
     let r = length-map xs (λ (k : Entry). k.reach) in
     elim c.if-at-len.branch [
-      | then-at-len+in_ok-grow w ↦
+      | then-at-len+in-Ok w ↦
           let all : n ≡ length xs = omega (arith, c.len.ensures, w.if-at-len.true) in
-          let e = w.in_ok-grow.ensures in
+          let e = w.in-Ok.ensures in
           rw w.self-inside-is (record {
             pieces = ap (λ (k : ℕ). take k (pieces_of w.grow.new.entries.items)) all ∙ e.pieces ∙ sym (take_all n (pieces_of xs) (omega (arith, all, p)));
             reaches = ap (λ (k : ℕ). take k (reaches_of w.grow.new.entries.items)) all ∙ e.reaches ∙ sym (take_all n (reaches_of xs) (omega (arith, all, r)));
@@ -69,5 +69,5 @@ index_mut-requires c = grind (arith, common_steps)
 pub overflow_add-self : goal.overflow_add-self
 overflow_add-self c = grind (arith, common_steps)
 
-pub returns-in_err-grow : goal.returns-in_err-grow
-returns-in_err-grow c = grind (arith, common_steps)
+pub returns-in-Err : goal.returns-in-Err
+returns-in-Err c = grind (arith, common_steps)
