@@ -43,7 +43,7 @@ pub(crate) fn read_template_args(
     tri!(reader.open_scope_if(opens));
     let scopes = reader.buffer.scopes();
     // `list` stays the name and `<`. The arguments are printed after it, and `close_arguments` makes them part of it.
-    let list = open_arguments(&mut reader.buffer, reader.found)?;
+    let list = or_memory!(open_arguments(&mut reader.buffer, reader.found));
     // The text limit applies to the list from its `<` on, without the name in front.
     let front = reader.buffer.len(list) - 1;
     let widest = front + text_limit();
@@ -52,7 +52,7 @@ pub(crate) fn read_template_args(
         match argument_list_case(reader.rest) {
             ArgumentListCase::EndOfArguments => {
                 reader.skip(1);
-                reader.found = close_arguments(&mut reader.buffer, list)?;
+                reader.found = or_memory!(close_arguments(&mut reader.buffer, list));
                 if reader.buffer.len(reader.found) > widest {
                     return Err(Stop::Unreadable);
                 }
@@ -89,7 +89,7 @@ pub(crate) fn read_argument_pack(reader: &mut Reader, depth: usize, context: Con
     let depth = tri!(reader.enter(depth));
     reader.skip(1);
     let inside = context.hiding_dots();
-    let mut list = reader.buffer.push(b"")?;
+    let mut list = or_memory!(reader.buffer.push(b""));
     let mut first = true;
     loop {
         match argument_list_case(reader.rest) {
@@ -99,9 +99,9 @@ pub(crate) fn read_argument_pack(reader: &mut Reader, depth: usize, context: Con
                 return reader.check_width();
             }
             ArgumentListCase::NextArgument => {
-                list = reader.separate_list(list, first)?;
+                list = or_memory!(reader.separate_list(list, first));
                 tri!(read_template_arg(reader, depth, inside));
-                list = append_piece(&mut reader.buffer, list, b"", reader.found)?;
+                list = or_memory!(append_piece(&mut reader.buffer, list, b"", reader.found));
                 if reader.is_too_wide(list) {
                     return Err(Stop::Unreadable);
                 }

@@ -52,7 +52,7 @@ pub(crate) fn read_return(
         ReturnCase::SomeReturnType => {
             let mark = reader.buffer.open();
             tri!(read_type(reader, depth, context));
-            reader.found = reader.buffer.push(b"")?;
+            reader.found = or_memory!(reader.buffer.push(b""));
             reader.close_found(mark)
         }
     }
@@ -87,12 +87,12 @@ pub(crate) fn end_encoding(
             apply_name_qualifiers(&mut reader.buffer, name, quals, true)
         }
         EncodingParamsCase::SomeEncodingParams => {
-            let list = open_params(&mut reader.buffer, name)?;
+            let list = or_memory!(open_params(&mut reader.buffer, name));
             tri!(read_params(reader, depth, context.inside_params(end), end, false, list));
             close_params(&mut reader.buffer, reader.found, quals)
         }
     };
-    reader.found = ended?;
+    reader.found = or_memory!(ended);
     Ok(())
 }
 
@@ -141,10 +141,10 @@ pub(crate) fn read_entity(
     ensures bounds { TakesSome 0 result (state reader.old) (state reader.new) }
     ensures saved { SavedBounds 1 result (state reader.old) (state reader.new) }
 {
-    let opened = match entity_case(reader.rest) {
+    let begun = match entity_case(reader.rest) {
         EntityCase::StringLiteralEntity => {
             reader.skip(2);
-            reader.found = reader.buffer.append(encoding, b"::string literal")?;
+            reader.found = or_memory!(reader.buffer.append(encoding, b"::string literal"));
             reader.quals = None;
             return Ok(());
         }
@@ -161,11 +161,12 @@ pub(crate) fn read_entity(
             open_parent(&mut reader.buffer, encoding)
         }
         EntityCase::UnreadableEntity => return Err(Stop::Unreadable),
-    }?;
+    };
+    let opened = or_memory!(begun);
     let mark = reader.buffer.open();
     tri!(read_name(reader, depth, context, true));
     tri!(reader.close_found(mark));
-    reader.found = close_opened(&mut reader.buffer, opened, reader.found)?;
+    reader.found = or_memory!(close_opened(&mut reader.buffer, opened, reader.found));
     Ok(())
 }
 

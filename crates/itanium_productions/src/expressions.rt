@@ -42,13 +42,18 @@ pub(crate) fn read_expr_primary(reader: &mut Reader, depth: usize, context: Cont
             reader.skip(1);
             // Most literals print their type in parentheses. The `(` is printed before the type is read, so the type
             // need not move.
-            let paren = reader.buffer.push(b"(")?;
+            let paren = or_memory!(reader.buffer.push(b"("));
             tri!(read_framed(reader, depth, context, Framed::FramedType));
             let Some((value, rest)) = literal_value(reader.rest) else {
                 return Err(Stop::Unreadable);
             };
             reader.rest = rest;
-            let literal = write_opened_literal(&mut reader.buffer, paren, reader.found, value)?;
+            let literal = or_memory!(write_opened_literal(
+                &mut reader.buffer,
+                paren,
+                reader.found,
+                value
+            ));
             let Some(literal) = literal else {
                 return Err(Stop::Unreadable);
             };
@@ -94,7 +99,7 @@ pub(crate) fn read_address(reader: &mut Reader, depth: usize, context: Context) 
 {
     reader.skip(2);
     tri!(read_expression(reader, depth, context));
-    reader.found = address(&mut reader.buffer, reader.found)?;
+    reader.found = or_memory!(address(&mut reader.buffer, reader.found));
     Ok(())
 }
 
@@ -129,7 +134,7 @@ pub(crate) fn read_post(reader: &mut Reader, depth: usize, context: Context) -> 
     reader.skip(2);
     tri!(read_operand(reader, depth, context));
     let parts = [Glue::Piece(reader.found), Glue::Text(text.as_bytes())];
-    reader.found = glue(&mut reader.buffer, &parts)?;
+    reader.found = or_memory!(glue(&mut reader.buffer, &parts));
     Ok(())
 }
 
@@ -180,7 +185,7 @@ pub(crate) fn read_greater(reader: &mut Reader, depth: usize, context: Context) 
     tri!(read_expression(reader, depth, context));
     let left = reader.found;
     tri!(read_framed(reader, depth, context, Framed::FramedExpression));
-    reader.found = join_greater(&mut reader.buffer, left, reader.found)?;
+    reader.found = or_memory!(join_greater(&mut reader.buffer, left, reader.found));
     Ok(())
 }
 

@@ -74,7 +74,7 @@ pub(crate) fn read_worded(
     ensures bounds { TakesSome 2 result (state reader.old) (state reader.new) }
     ensures saved { SavedBounds 0 result (state reader.old) (state reader.new) }
 {
-    let begun = reader.buffer.push(words)?;
+    let begun = or_memory!(reader.buffer.push(words));
     tri!(read_framed(reader, depth, context, framed));
     reader.join_words(begun, close)
 }

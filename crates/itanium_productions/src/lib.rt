@@ -12,13 +12,22 @@
 #![tactic(auto)]
 
 /// The value of a result. An error is returned from the function around it, as it is. `?` also converts the error,
-/// which each proof has to follow, so it stands only where an `AllocError` becomes a `Stop`. The macro stands above the
-/// modules, because only what is below a macro can use it.
+/// which each proof has to follow. The macros stand above the modules, because they can only be used below.
 macro_rules! tri {
     ($result:expr) => {
         match $result {
             Ok(value) => value,
             Err(error) => return Err(error),
+        }
+    };
+}
+
+/// The value of a result. If an allocation failed, the function around it returns `Stop::Memory`.
+macro_rules! or_memory {
+    ($result:expr) => {
+        match $result {
+            Ok(value) => value,
+            Err(_) => return Err(itanium_reader::Stop::Memory),
         }
     };
 }

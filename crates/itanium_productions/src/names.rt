@@ -42,7 +42,7 @@ pub(crate) fn read_closure_type_name(
     ensures bounds { TakesSome 2 result (state reader.old) (state reader.new) }
     ensures saved { SavedBounds 1 result (state reader.old) (state reader.new) }
 {
-    let list = reader.buffer.push(b"{lambda(")?;
+    let list = or_memory!(reader.buffer.push(b"{lambda("));
     tri!(read_params(reader, depth, context, EncodingEnd::AtE, false, list));
     reader.end_lambda(reader.found)
 }
@@ -157,11 +157,11 @@ pub(crate) fn read_ordinary_segment(
     ensures bounds { TakesSome 0 result (state reader.old) (state reader.new) }
     ensures saved { SavedBounds 1 result (state reader.old) (state reader.new) }
 {
-    let opened = open_parent(&mut reader.buffer, reader.found)?;
+    let opened = or_memory!(open_parent(&mut reader.buffer, reader.found));
     let mark = reader.buffer.open();
     tri!(read_ordinary_name(reader, depth, context));
     tri!(reader.close_found(mark));
-    reader.found = close_opened(&mut reader.buffer, opened, reader.found)?;
+    reader.found = or_memory!(close_opened(&mut reader.buffer, opened, reader.found));
     Ok(())
 }
 

@@ -49,10 +49,10 @@ pub(crate) fn read_construction(reader: &mut Reader, depth: usize, context: Cont
         return Err(Stop::Unreadable);
     };
     reader.rest = rest;
-    let begun = reader.buffer.push(b"construction vtable for ")?;
+    let begun = or_memory!(reader.buffer.push(b"construction vtable for "));
     tri!(read_framed(reader, depth, context, Framed::FramedType));
     let whole = reader.buffer.up_to_end(begun);
-    reader.found = reader.buffer.join(whole, b"-in-", class)?;
+    reader.found = or_memory!(reader.buffer.join(whole, b"-in-", class));
     Ok(())
 }
 

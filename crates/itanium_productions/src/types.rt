@@ -105,7 +105,7 @@ pub(crate) fn read_expansion(reader: &mut Reader, depth: usize, context: Context
     reader.skip(2);
     tri!(read_type(reader, depth, context));
     if !context.dots_hidden {
-        reader.found = expand(&mut reader.buffer, reader.found)?;
+        reader.found = or_memory!(expand(&mut reader.buffer, reader.found));
     }
     reader.save_found()
 }
@@ -127,7 +127,7 @@ pub(crate) fn read_array_type(reader: &mut Reader, depth: usize, context: Contex
     };
     reader.rest = rest;
     tri!(read_type(reader, depth, context));
-    let Some(array) = wrap_array(&mut reader.buffer, reader.found, dimension)? else {
+    let Some(array) = or_memory!(wrap_array(&mut reader.buffer, reader.found, dimension)) else {
         return Err(Stop::Unreadable);
     };
     reader.found = array;
@@ -212,7 +212,7 @@ pub(crate) fn read_cv(reader: &mut Reader, depth: usize, context: Context) -> Re
         CvCase::CvFunction => read_function_type(reader, depth, context, quals),
         CvCase::CvOther => {
             tri!(read_type(reader, depth, context));
-            reader.found = wrap_cv(&mut reader.buffer, reader.found, quals)?;
+            reader.found = or_memory!(wrap_cv(&mut reader.buffer, reader.found, quals));
             reader.save_found()
         }
     }
@@ -243,13 +243,13 @@ pub(crate) fn read_function_type(
             reader.skip(1);
             tri!(read_type(reader, depth, context));
             let front = reader.buffer.len(reader.found);
-            let Some(list) = open_function(&mut reader.buffer, reader.found)? else {
+            let Some(list) = or_memory!(open_function(&mut reader.buffer, reader.found)) else {
                 return Err(Stop::Unreadable);
             };
             tri!(read_params(reader, depth, context, EncodingEnd::AtE, true, list));
             let (reference, rest) = ref_qualifier(reader.rest);
             let all = Quals { reference, ..quals };
-            reader.found = close_function(&mut reader.buffer, reader.found, front, all)?;
+            reader.found = or_memory!(close_function(&mut reader.buffer, reader.found, front, all));
             reader.rest = rest;
             reader.skip(1);
             reader.save_found()
@@ -292,9 +292,9 @@ pub(crate) fn read_params(
                 return Ok(());
             }
             TypeListCase::NextType => {
-                list = reader.separate_list(list, first)?;
+                list = or_memory!(reader.separate_list(list, first));
                 tri!(read_framed(reader, depth, context, Framed::FramedType));
-                list = append_piece(&mut reader.buffer, list, b"", reader.found)?;
+                list = or_memory!(append_piece(&mut reader.buffer, list, b"", reader.found));
                 if reader.is_too_wide(list) {
                     return Err(Stop::Unreadable);
                 }

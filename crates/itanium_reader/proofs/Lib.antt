@@ -1,5 +1,4 @@
 pub mod Loops
-pub mod Refused
 pub mod Texts
 pub mod Unfold
 pub mod Turns

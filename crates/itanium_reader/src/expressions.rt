@@ -41,7 +41,7 @@ impl<'a> Reader<'a> {
         ensures run { OnOk result (IsRun self.old.buffer.value self.new.buffer.value) }
         ensures memory { IsOkUnless result Memory }
     {
-        self.found = subexpr(&mut self.buffer, self.found, paren)?;
+        self.found = or_memory!(subexpr(&mut self.buffer, self.found, paren));
         Ok(())
     }
 
@@ -55,7 +55,7 @@ impl<'a> Reader<'a> {
         ensures run { OnOk result (IsRun self.old.buffer.value self.new.buffer.value) }
         ensures memory { IsOkUnless result Memory }
     {
-        self.found = self.buffer.join(left, text.as_bytes(), self.found)?;
+        self.found = or_memory!(self.buffer.join(left, text.as_bytes(), self.found));
         Ok(())
     }
 }

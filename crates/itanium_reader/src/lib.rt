@@ -10,6 +10,27 @@
 //! `itanium_grammar` for the limits. Begin with `reader.rt`, and then read `names.rt`.
 #![tactic(auto)]
 
+/// The value of a result. An error is returned from the function around it, as it is. `?` also converts the error,
+/// which each proof has to follow. The macros stand above the modules, because they can only be used below.
+macro_rules! tri {
+    ($result:expr) => {
+        match $result {
+            Ok(value) => value,
+            Err(error) => return Err(error),
+        }
+    };
+}
+
+/// The value of a result. If an allocation failed, the function around it returns `Stop::Memory`.
+macro_rules! or_memory {
+    ($result:expr) => {
+        match $result {
+            Ok(value) => value,
+            Err(_) => return Err(Stop::Memory),
+        }
+    };
+}
+
 mod expressions;
 mod names;
 mod reader;

@@ -36,12 +36,12 @@ impl<'a> Reader<'a> {
         let bytes = self.rest;
         let Some((from, to)) = source_name(bytes, 0) else {
             // The parser saves the parent before it reads the name, also if no name follows.
-            self.save_if(candidate)?;
+            tri!(self.save_if(candidate));
             return Err(Stop::Unreadable);
         };
-        self.save_if(candidate)?;
+        tri!(self.save_if(candidate));
         let text = source_text(&bytes[from..to]);
-        self.buffer.append_name(&mut self.found, b"::", text)?;
+        or_memory!(self.buffer.append_name(&mut self.found, b"::", text));
         self.rest = &bytes[to..];
         self.read_tags()
     }
@@ -55,7 +55,7 @@ impl<'a> Reader<'a> {
         ensures memory { IsOkUnless result Memory }
     {
         self.skip(2);
-        self.found = self.buffer.push(b"std")?;
+        self.found = or_memory!(self.buffer.push(b"std"));
         Ok(())
     }
 
@@ -71,7 +71,7 @@ impl<'a> Reader<'a> {
         ensures memory { IsOkUnless result Memory }
     {
         self.skip(2);
-        self.found = qualify_ctor(&mut self.buffer, self.found, destructor)?;
+        self.found = or_memory!(qualify_ctor(&mut self.buffer, self.found, destructor));
         Ok(())
     }
 
@@ -113,7 +113,7 @@ impl<'a> Reader<'a> {
                 return Err(Stop::Unreadable);
             };
             let text = source_text(&self.rest[from..to]);
-            self.found = tag(&mut self.buffer, self.found, text)?;
+            self.found = or_memory!(tag(&mut self.buffer, self.found, text));
             self.rest = &self.rest[to..];
         }
         Ok(())
@@ -132,9 +132,9 @@ impl<'a> Reader<'a> {
             return Err(Stop::Unreadable);
         };
         self.rest = rest;
-        let opened = self.buffer.push(b"{unnamed type#")?;
-        let numbered = append_number(&mut self.buffer, opened, number)?;
-        let closed = self.buffer.append(numbered, b"}")?;
+        let opened = or_memory!(self.buffer.push(b"{unnamed type#"));
+        let numbered = or_memory!(append_number(&mut self.buffer, opened, number));
+        let closed = or_memory!(self.buffer.append(numbered, b"}"));
         self.found = self.buffer.whole(closed);
         Ok(())
     }
@@ -152,8 +152,8 @@ impl<'a> Reader<'a> {
             return Err(Stop::Unreadable);
         };
         let text = source_text(&self.rest[from..to]);
-        let opened = self.buffer.push(b"operator\"\" ")?;
-        let named = self.buffer.append(opened, text)?;
+        let opened = or_memory!(self.buffer.push(b"operator\"\" "));
+        let named = or_memory!(self.buffer.append(opened, text));
         self.found = self.buffer.whole(named);
         self.rest = &self.rest[to..];
         Ok(())
@@ -171,8 +171,8 @@ impl<'a> Reader<'a> {
         let Some(text) = operator_here(self.rest) else {
             return Err(Stop::Unreadable);
         };
-        let opened = self.buffer.push(b"operator")?;
-        let named = self.buffer.append(opened, text.as_bytes())?;
+        let opened = or_memory!(self.buffer.push(b"operator"));
+        let named = or_memory!(self.buffer.append(opened, text.as_bytes()));
         self.found = self.buffer.whole(named);
         self.skip(2);
         Ok(())
@@ -193,7 +193,7 @@ impl<'a> Reader<'a> {
             return Err(Stop::Unreadable);
         };
         self.rest = rest;
-        self.found = close_lambda(&mut self.buffer, list, number)?;
+        self.found = or_memory!(close_lambda(&mut self.buffer, list, number));
         Ok(())
     }
 
@@ -216,7 +216,7 @@ impl<'a> Reader<'a> {
             self.found = self.buffer.plain(self.found);
             return Ok(());
         }
-        self.found = apply_name_qualifiers(&mut self.buffer, self.found, quals, shown)?;
+        self.found = or_memory!(apply_name_qualifiers(&mut self.buffer, self.found, quals, shown));
         Ok(())
     }
 
@@ -232,7 +232,7 @@ impl<'a> Reader<'a> {
         ensures memory { IsOkUnless result Memory }
     {
         let plain = self.buffer.plain(self.found);
-        let named = self.buffer.insert(plain, Place::Start, b"operator ")?;
+        let named = or_memory!(self.buffer.insert(plain, Place::Start, b"operator "));
         let whole = self.buffer.whole(named);
         self.found = self.buffer.with_flags(whole, false, true);
         Ok(())

@@ -116,7 +116,7 @@ impl<'a> Reader<'a> {
         ensures kept { OnOk result (SameFrame self.old.buffer.value self.new.buffer.value) }
         ensures memory { IsOkUnless result Memory }
     {
-        self.buffer.save_ref(&self.found)?;
+        or_memory!(self.buffer.save_ref(&self.found));
         Ok(())
     }
 
@@ -131,7 +131,7 @@ impl<'a> Reader<'a> {
         ensures kept { OnOk result (SameFrame self.old.buffer.value self.new.buffer.value) }
         ensures memory { IsOkUnless result Memory }
     {
-        self.buffer.copy_to_end(&mut self.found)?;
+        or_memory!(self.buffer.copy_to_end(&mut self.found));
         Ok(())
     }
 
@@ -152,7 +152,7 @@ impl<'a> Reader<'a> {
             (length (main_bytes self.new.buffer.value))) }
         ensures memory { IsOkUnless result Memory }
     {
-        self.buffer.close_in_place(mark, &mut self.found)?;
+        or_memory!(self.buffer.close_in_place(mark, &mut self.found));
         Ok(())
     }
 
@@ -170,7 +170,7 @@ impl<'a> Reader<'a> {
         ensures memory { IsOkUnless result Memory }
     {
         if candidate {
-            self.save_found()?;
+            tri!(self.save_found());
         }
         Ok(())
     }
@@ -251,7 +251,7 @@ impl<'a> Reader<'a> {
             return Err(Stop::Unreadable);
         };
         let text = source_text(&bytes[from..to]);
-        self.found = self.buffer.push(text)?;
+        self.found = or_memory!(self.buffer.push(text));
         self.rest = &bytes[to..];
         Ok(())
     }
@@ -272,7 +272,7 @@ impl<'a> Reader<'a> {
                     return Err(Stop::Unreadable);
                 };
                 self.skip(1);
-                let piece = self.buffer.push(abbreviation_text(abbreviation))?;
+                let piece = or_memory!(self.buffer.push(abbreviation_text(abbreviation)));
                 // The base name begins after `std::`, which has 5 bytes.
                 let end = 5 + abbreviation_own_len(abbreviation);
                 self.found = self.buffer.own_at(piece, 5, end);
@@ -307,7 +307,7 @@ impl<'a> Reader<'a> {
         };
         self.rest = rest;
         if context.lambda {
-            self.found = self.buffer.push(b"auto")?;
+            self.found = or_memory!(self.buffer.push(b"auto"));
             return Ok(());
         }
         let Some(argument) = self.buffer.arg(index) else {
@@ -326,7 +326,7 @@ impl<'a> Reader<'a> {
         ensures kept { OnOk result (SameFrame self.old.buffer.value self.new.buffer.value) }
         ensures memory { IsOkUnless result Memory }
     {
-        self.found = self.buffer.push(builtin_text(self.rest))?;
+        self.found = or_memory!(self.buffer.push(builtin_text(self.rest)));
         self.rest = past_builtin(self.rest);
         Ok(())
     }
@@ -346,7 +346,7 @@ impl<'a> Reader<'a> {
         if first {
             return Ok(plain);
         }
-        let separated = self.buffer.append(plain, b", ")?;
+        let separated = tri!(self.buffer.append(plain, b", "));
         Ok(separated)
     }
 
@@ -360,7 +360,7 @@ impl<'a> Reader<'a> {
         ensures memory { IsOkUnless result Memory }
     {
         if !first {
-            self.buffer.push(b", ")?;
+            or_memory!(self.buffer.push(b", "));
         }
         Ok(())
     }
@@ -375,7 +375,7 @@ impl<'a> Reader<'a> {
         ensures memory { IsOkUnless result Memory }
     {
         if opens {
-            self.buffer.open_scope()?;
+            or_memory!(self.buffer.open_scope());
         }
         Ok(())
     }
@@ -397,7 +397,7 @@ impl<'a> Reader<'a> {
     {
         self.buffer.keep_scopes(n);
         if opens {
-            self.buffer.push_arg(self.found)?;
+            or_memory!(self.buffer.push_arg(self.found));
         }
         Ok(())
     }

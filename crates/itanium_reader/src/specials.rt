@@ -28,10 +28,10 @@ fn append_signed(
         (appended (bytes.now ++ (offset_sign number ++ decimal number.magnitude)) (shape buf.old words))) }
     ensures edit { OnOk result (IsEdit buf.old buf.new) }
 {
-    let opened = buf.append(words, bytes)?;
+    let opened = tri!(buf.append(words, bytes));
     let sign = if number.negative { "-" } else { "" };
-    let signed = buf.append(opened, sign.as_bytes())?;
-    let numbered = append_number(buf, signed, number.magnitude)?;
+    let signed = tri!(buf.append(opened, sign.as_bytes()));
+    let numbered = tri!(append_number(buf, signed, number.magnitude));
     Ok(numbered)
 }
 
@@ -45,14 +45,14 @@ fn append_offset(buf: &mut Buffer, words: Piece, offset: CallOffset) -> Result<P
 {
     match offset {
         CallOffset::Plain(number) => {
-            let begun = append_signed(buf, words, b"{offset(", number)?;
-            let printed = buf.append(begun, b")}, ")?;
+            let begun = tri!(append_signed(buf, words, b"{offset(", number));
+            let printed = tri!(buf.append(begun, b")}, "));
             Ok(printed)
         }
         CallOffset::Virtual(first, second) => {
-            let begun = append_signed(buf, words, b"{virtual offset(", first)?;
-            let both = append_signed(buf, begun, b", ", second)?;
-            let printed = buf.append(both, b")}, ")?;
+            let begun = tri!(append_signed(buf, words, b"{virtual offset(", first));
+            let both = tri!(append_signed(buf, begun, b", ", second));
+            let printed = tri!(buf.append(both, b")}, "));
             Ok(printed)
         }
     }
@@ -64,15 +64,15 @@ fn push_thunk_words(buf: &mut Buffer, offsets: ThunkOffsets) -> Result<Piece, Al
     ensures edit { OnOk result (IsEdit buf.old buf.new) }
     ensures last { IfOk result (IsLast buf.new) }
 {
-    let begun = buf.push(b"{virtual override thunk(")?;
+    let begun = tri!(buf.push(b"{virtual override thunk("));
     let words = match offsets {
         ThunkOffsets::Single(offset) => append_offset(buf, begun, offset),
         ThunkOffsets::Covariant(first, second) => {
-            let one = append_offset(buf, begun, first)?;
+            let one = tri!(append_offset(buf, begun, first));
             append_offset(buf, one, second)
         }
     };
-    Ok(buf.whole(words?))
+    Ok(buf.whole(tri!(words)))
 }
 
 impl<'a> Reader<'a> {
@@ -91,7 +91,7 @@ impl<'a> Reader<'a> {
         ensures memory { IsOkUnless result Memory }
     {
         let worded = self.buffer.up_to_end(words);
-        let closed = self.buffer.append(worded, close)?;
+        let closed = or_memory!(self.buffer.append(worded, close));
         self.found = self.buffer.whole(closed);
         Ok(())
     }
@@ -115,7 +115,7 @@ impl<'a> Reader<'a> {
             return Err(Stop::Unreadable);
         };
         self.rest = rest;
-        self.found = push_thunk_words(&mut self.buffer, offsets)?;
+        self.found = or_memory!(push_thunk_words(&mut self.buffer, offsets));
         Ok(())
     }
 
@@ -133,10 +133,10 @@ impl<'a> Reader<'a> {
         };
         self.rest = rest;
         let mark = self.buffer.open();
-        let begun = self.buffer.push(b"reference temporary #")?;
-        let numbered = append_number(&mut self.buffer, begun, number as u64)?;
-        let whole = self.buffer.join(numbered, b" for ", self.found)?;
-        self.found = self.buffer.close(mark, whole)?;
+        let begun = or_memory!(self.buffer.push(b"reference temporary #"));
+        let numbered = or_memory!(append_number(&mut self.buffer, begun, number as u64));
+        let whole = or_memory!(self.buffer.join(numbered, b" for ", self.found));
+        self.found = or_memory!(self.buffer.close(mark, whole));
         Ok(())
     }
 }

@@ -1,8 +1,4 @@
 //! Why a reader stops.
-ghost use Rattle.std.specs.Prelude.{◌≡◌};
-ghost use Rattle.itanium_reader.specs.declared.stop.Stop.TheVariants.{Memory};
-
-use std::alloc::AllocError;
 
 /// Why a reader stops before its production has ended.
 #[derive(Clone, Copy)]
@@ -17,11 +13,3 @@ pub enum Stop {
 
 /// What a reader returns: nothing where it has read its production, or why it stopped.
 pub type ReadResult = Result<(), Stop>;
-
-impl From<AllocError> for Stop {
-    ghost from_gives = { λ _ e. e ≡ Memory };
-
-    fn from(_error: AllocError) -> Stop {
-        Stop::Memory
-    }
-}

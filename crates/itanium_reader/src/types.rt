@@ -26,7 +26,7 @@ impl<'a> Reader<'a> {
         ensures run { OnOk result (IsRun self.old.buffer.value self.new.buffer.value) }
         ensures memory { IsOkUnless result Memory }
     {
-        self.found = wrap_pointer(&mut self.buffer, self.found, kind)?;
+        self.found = or_memory!(wrap_pointer(&mut self.buffer, self.found, kind));
         self.save_found()
     }
 
@@ -41,7 +41,8 @@ impl<'a> Reader<'a> {
         ensures bounds { MayTakeNone 1 result (state self.old) (state self.new) }
         ensures saves_one { SavesOne result (state self.old) (state self.new) }
     {
-        let Some(whole) = wrap_member_pointer(&mut self.buffer, class, self.found)? else {
+        let Some(whole) = or_memory!(wrap_member_pointer(&mut self.buffer, class, self.found))
+        else {
             return Err(Stop::Unreadable);
         };
         self.found = whole;
@@ -56,7 +57,7 @@ impl<'a> Reader<'a> {
         ensures saved { SavedBounds 0 result (state self.old) (state self.new) }
     {
         self.skip(1);
-        self.read_source_name()?;
+        tri!(self.read_source_name());
         if let AttachedCase::ArgsAttached = attached_case(self.rest) {
             return Err(Stop::Unreadable);
         }

@@ -52,9 +52,9 @@ use Rattle.itanium_productions.proofs.+reader.Goals as goal
 
 pub args::read_template_args-loop-reader-init : goal.args::read_template_args-loop-reader-init
 args::read_template_args-loop-reader-init t c =
-    let last = IsLast-stays _ _ _ _ (c.in_ok-list.ensures {u = tt}).edit (c.in_ok-list.ensures {u = tt}).in_place in record {
+    let last = IsLast-stays _ _ _ _ (c.in-Ok-open_arguments.ensures {u = tt}).edit (c.in-Ok-open_arguments.ensures {u = tt}).in_place in record {
       below = grind (arith, common_steps);
-      front = begun_front (shape c.args.reader.now.buffer.value c.args.reader.now.found) (shape c.open_arguments.new.buf c.in_ok-list.list) (search rules) (search rules);
+      front = begun_front (shape c.args.reader.now.buffer.value c.args.reader.now.found) (shape c.open_arguments.new.buf c.in-Ok-open_arguments.value) (search rules) (search rules);
       widest = grind (arith, common_steps);
       reads = attached_start _ _ _ _ (shape c.args.reader.now.buffer.value c.args.reader.now.found) (search rules) (search rules) (search rules) (text_after-last _ _ last) (search rules) (search rules);
       begun = grind (arith, common_steps);
@@ -75,7 +75,7 @@ args::read_template_args-returns-in-EndOfArguments-clause-reads t c =
 
 pub args::read_template_args-returns-then-len-widest-clause-reads : goal.args::read_template_args-returns-then-len-widest-clause-reads
 args::read_template_args-returns-then-len-widest-clause-reads t c =
-    let last = shape c.close_arguments.new.buf c.in_ok-reader-in-EndOfArguments.field-0 in
+    let last = shape c.close_arguments.new.buf c.in-Ok-close_arguments.value in
     let long : c.len.result ≡ text_len last = search rules in
     attached_wide _ _ _ c.loop-reader.invariant.reads {last = last} (sym c.in-EndOfArguments.ensures.case) (search rules)
     (omega (arith, c.if-len-widest.true, c.loop-reader.invariant.widest, long, c.loop-reader.invariant.front))
@@ -83,7 +83,7 @@ args::read_template_args-returns-then-len-widest-clause-reads t c =
 pub args::read_template_args-returns-then-len-widest-2-clause-reads : goal.args::read_template_args-returns-then-len-widest-2-clause-reads
 args::read_template_args-returns-then-len-widest-2-clause-reads t c =
     let so_far = c.loop-reader.invariant in
-    let list = c.in_ok-list.list in
+    let list = c.in-Ok-open_arguments.value in
     let old = c.loop-reader.reader.buffer.value in
     let separated = c.separate.new.self.buffer.value in
     let framed = c.read_template_arg.new.reader in
@@ -116,7 +116,7 @@ args::read_template_args-returns-in-Err-read_template_arg-clause-reads t c =
 pub args::read_template_args-loop-reader-preserved : goal.args::read_template_args-loop-reader-preserved
 args::read_template_args-loop-reader-preserved t c =
     let so_far = c.loop-reader.invariant in
-    let list = c.in_ok-list.list in
+    let list = c.in-Ok-open_arguments.value in
     let old = c.loop-reader.reader.buffer.value in
     let separated = c.separate.new.self.buffer.value in
     let framed = c.read_template_arg.new.reader in
@@ -190,15 +190,15 @@ pub types::read_params-returns-in-EndOfTypes-clause-reads : goal.types::read_par
 types::read_params-returns-in-EndOfTypes-clause-reads t c =
     (c.loop-list.invariant.living, typed_end _ _ _ c.loop-list.invariant.reads (sym c.in-EndOfTypes.ensures.case))
 
-pub types::read_params-returns-in-Err-clause-reads : goal.types::read_params-returns-in-Err-clause-reads
-types::read_params-returns-in-Err-clause-reads t c =
-    stops _ _ (c.in-Err.ensures {u = tt}).reads
+pub types::read_params-returns-in-Err-read_framed-clause-reads : goal.types::read_params-returns-in-Err-read_framed-clause-reads
+types::read_params-returns-in-Err-read_framed-clause-reads t c =
+    stops _ _ (c.in-Err-read_framed.ensures {u = tt}).reads
     (λ none. typed_fail _ _ _ c.loop-list.invariant.reads (sym c.in-NextType.ensures.case) (search rules))
 
 pub types::read_params-returns-then-is_too_wide-clause-reads : goal.types::read_params-returns-then-is_too_wide-clause-reads
 types::read_params-returns-then-is_too_wide-clause-reads t c =
     typed_wide _ _ _ c.loop-list.invariant.reads {next = shape c.read_framed.new.reader.buffer.value c.read_framed.new.reader.found}
-    {found = shape c.append_piece.new.buf c.in_ok-list-in-NextType-2.list} {after = state c.read_framed.new.reader}
+    {found = shape c.append_piece.new.buf c.in-Ok-append_piece.value} {after = state c.read_framed.new.reader}
     (sym c.in-NextType.ensures.case) (search rules) (search rules) (search rules)
 
 pub types::read_params-loop-list-preserved : goal.types::read_params-loop-list-preserved
@@ -215,7 +215,7 @@ types::read_params-loop-list-preserved t c = record {
 pub args::read_argument_pack-returns-then-is_too_wide-clause-reads : goal.args::read_argument_pack-returns-then-is_too_wide-clause-reads
 args::read_argument_pack-returns-then-is_too_wide-clause-reads t c =
     items_wide _ _ _ c.loop-reader.invariant.reads {next = shape c.read_template_arg.new.reader.buffer.value c.read_template_arg.new.reader.found}
-    {found = shape c.append_piece.new.buf c.in_ok-list-in-NextArgument-2.list} {mid = state c.read_template_arg.new.reader}
+    {found = shape c.append_piece.new.buf c.in-Ok-append_piece.value} {mid = state c.read_template_arg.new.reader}
     (sym c.in-NextArgument.ensures.case) (search rules) (search rules) (search rules)
 
 -- an entity in a default argument is found
@@ -450,8 +450,8 @@ specials::read_construction-returns-clause-bounds t c =
     let class = (c.in-Ok.ensures {u = tt}).bounds in
     let base = (c.in-Ok-read_framed.ensures {u = tt}).bounds in
     let before = ap (λ (s : spec.ParserState). length s.scopes) c.skip.ensures.state in
-    let pushed : scopes c.push.new.self ≡ scopes c.read_type.new.reader.buffer.value = cc (c.in_ok-begun.ensures.kept.lists.scopes_same, c.deref_mut.ensures.value) in
-    let joined : scopes c.join.new.self ≡ scopes c.read_framed.new.reader.buffer.value = cc (c.in_ok-reader.ensures.edit.lists.scopes_same, c.deref_mut-2.ensures.value) in
+    let pushed : scopes c.push.new.self ≡ scopes c.read_type.new.reader.buffer.value = cc (c.in-Ok-push.ensures.kept.lists.scopes_same, c.deref_mut.ensures.value) in
+    let joined : scopes c.join.new.self ≡ scopes c.read_framed.new.reader.buffer.value = cc (c.in-Ok-join.ensures.edit.lists.scopes_same, c.deref_mut-2.ensures.value) in
     record {
       taken = omega (arith, left, two, class.taken, base.taken, c.in-Some.ensures.shorter, c.requires.some);
       counted = omega (arith, left, entered, two, class.counted, base.counted, c.in-Some.ensures.shorter, c.requires.some);
@@ -466,8 +466,8 @@ specials::read_construction-returns-clause-saved t c =
     let base = (c.in-Ok-read_framed.ensures {u = tt}).saved in
     let before = ap (λ (s : spec.ParserState). length s.saved) c.skip.ensures.state in
     let most = ap (λ (s : spec.ParserState). s.most_saved) c.skip.ensures.state in
-    let pushed : saved c.push.new.self ≡ saved c.read_type.new.reader.buffer.value = cc (c.in_ok-begun.ensures.kept.lists.saved_same, c.deref_mut.ensures.value) in
-    let joined : saved c.join.new.self ≡ saved c.read_framed.new.reader.buffer.value = cc (c.in_ok-reader.ensures.edit.lists.saved_same, c.deref_mut-2.ensures.value) in
+    let pushed : saved c.push.new.self ≡ saved c.read_type.new.reader.buffer.value = cc (c.in-Ok-push.ensures.kept.lists.saved_same, c.deref_mut.ensures.value) in
+    let joined : saved c.join.new.self ≡ saved c.read_framed.new.reader.buffer.value = cc (c.in-Ok-join.ensures.edit.lists.saved_same, c.deref_mut-2.ensures.value) in
     record {
       list = omega (arith, left, two, before, class.list, ap length pushed, base.list, ap length joined, c.in-Some.ensures.shorter, c.requires.some);
       most = omega (arith, left, two, before, most, class.list, class.most, ap length pushed, base.list, base.most, ap length joined, c.in-Some.ensures.shorter);
@@ -520,15 +520,15 @@ pub specials::read_construction-returns-clause-reads : goal.specials::read_const
 specials::read_construction-returns-clause-reads t c =
     let type = spec.parse_type c.args.depth c.args.context in
     let class_read = c.in-Ok.ensures {u = tt} in
-    let push = c.in_ok-begun.ensures {u = tt} in
+    let push = c.in-Ok-push.ensures {u = tt} in
     let base_read = c.in-Ok-read_framed.ensures {u = tt} in
-    let join = c.in_ok-reader.ensures {u = tt} in
+    let join = c.in-Ok-join.ensures {u = tt} in
     let one = c.read_type.new.reader in
     let two = c.read_framed.new.reader in
     let pushed = c.push.new.self in
     let joined_in = c.join.new.self in
     let b = two.buffer.value in
-    let begun = c.in_ok-begun.begun in
+    let begun = c.in-Ok-push.value in
     let whole = c.up_to_end-whole.result in
     let class = shape one.buffer.value one.found in
     let base = shape b two.found in
@@ -544,9 +544,9 @@ specials::read_construction-returns-clause-reads t c =
     let printed : text (shape b whole) ≡ word ++ text base =
     ap (λ (s : Shape). text s) taken ∙ appended_text (text_after b begun) (shape b begun)
     ∙ ap (λ (s : Shape). text s ++ text_after b begun) words ∙ ap (λ (v : List ℕ). word ++ v) after in
-    let joins : shape joined_in c.in_ok-reader.field-0 ≡ joined (shape b whole) (codes "-in-") (shape b one.found) =
-    subst (λ (s : Buffer). shape joined_in c.in_ok-reader.field-0 ≡ joined (shape s whole) (codes "-in-") (shape s one.found)) c.deref_mut-2.ensures.value join.shape.shape_is in
-    let built : shape joined_in c.in_ok-reader.field-0 ≡ construction_shape base class =
+    let joins : shape joined_in c.in-Ok-join.value ≡ joined (shape b whole) (codes "-in-") (shape b one.found) =
+    subst (λ (s : Buffer). shape joined_in c.in-Ok-join.value ≡ joined (shape s whole) (codes "-in-") (shape s one.found)) c.deref_mut-2.ensures.value join.shape.shape_is in
+    let built : shape joined_in c.in-Ok-join.value ≡ construction_shape base class =
     joins ∙ ap (λ (v : List ℕ). plain_shape ((v ++ codes "-in-") ++ text (shape b one.found))) printed
     ∙ ap (λ (s : Shape). plain_shape (((word ++ text base) ++ codes "-in-") ++ text s)) class_is
     ∙ ap plain_shape (append_assoc (word ++ text base) (codes "-in-") (text class) ∙ append_assoc word (text base) (codes "-in-" ++ text class))
@@ -572,7 +572,7 @@ specials::read_construction-returns-clause-reads t c =
     let offset : past_base_offset one.rest.now ≡ Some c.in-Some.rest.now = search rules in (
       join.shape.living,
       construction_read type (state c.args.reader.now) (ap type (sym c.skip.ensures.state) ∙ class_read.reads.1) offset (ap type (sym before) ∙ base_read.reads.1) built
-          ∙ ap (λ (a : spec.ParserState). Some (shape joined_in c.in_ok-reader.field-0, a)) (sym ended),
+          ∙ ap (λ (a : spec.ParserState). Some (shape joined_in c.in-Ok-join.value, a)) (sym ended),
     )
 
 pub types::read_cv-returns-in-CvFunction-clause-reads : goal.types::read_cv-returns-in-CvFunction-clause-reads
@@ -630,12 +630,12 @@ names::read_ordinary_segment-returns-clause-run t c =
     let last = c.close_opened.new.buf in
     let opens : Opens parent c.open-mark.new.self c.open-mark.result =
     subst (λ (b : Buffer). Opens b c.open-mark.new.self c.open-mark.result) c.deref_mut-2.ensures.value c.open-mark.ensures.opens in
-    let since = IsSince-run _ _ _ _ (IsSince-opens _ _ _ opens) (c.in-Ok.ensures {u = tt}).run in
+    let since = IsSince-run _ _ _ _ (IsSince-opens _ _ _ opens) (c.in-Ok-read_ordinary_name.ensures {u = tt}).run in
     let kept : SameFrame parent c.close_found.new.self.buffer.value = SameFrame-closed _ _ _ _ since (c.in-Ok-close_found.ensures {u = tt}).closed in
     let before : IsEdit c.args.reader.now.buffer.value parent =
-    subst (λ (b : Buffer). IsEdit b parent) c.deref_mut.ensures.value (c.in_ok-opened.ensures {u = tt}).edit in
+    subst (λ (b : Buffer). IsEdit b parent) c.deref_mut.ensures.value (c.in-Ok.ensures {u = tt}).edit in
     let after : IsEdit c.close_found.new.self.buffer.value last =
-    subst (λ (b : Buffer). IsEdit b last) c.deref_mut-3.ensures.value (c.in_ok-reader.ensures {u = tt}).edit in
+    subst (λ (b : Buffer). IsEdit b last) c.deref_mut-3.ensures.value (c.in-Ok-close_opened.ensures {u = tt}).edit in
     IsRun-trans _ _ _ (IsRun-edit _ _ before) (IsRun-trans _ _ _ (IsRun-same _ _ kept) (IsRun-edit _ _ after))
 
 pub names::read_segment-returns-in-Err-clause-reads : goal.names::read_segment-returns-in-Err-clause-reads
@@ -790,9 +790,9 @@ frames::read_framed-returns-clause-kept t c = on_success c.close_found.result (�
 
 pub frames::read_worded-join_words-requires-clause-after : goal.frames::read_worded-join_words-requires-clause-after
 frames::read_worded-join_words-requires-clause-after t c =
-    let begun = c.in_ok-begun.ensures {u = tt} in
-    text_after-follows c.push.new.self c.read_framed.new.reader.buffer.value c.in_ok-begun.begun _ begun.shape.living
-    (IsLast-push _ _ _ begun.kept begun.mark begun.stands) (c.in-Ok.ensures {u = tt}).output
+    let begun = c.in-Ok.ensures {u = tt} in
+    text_after-follows c.push.new.self c.read_framed.new.reader.buffer.value c.in-Ok.value _ begun.shape.living
+    (IsLast-push _ _ _ begun.kept begun.mark begun.stands) (c.in-Ok-read_framed.ensures {u = tt}).output
 
 -- the same of how the substitution table grows
 edited_growth : (slack : ℕ) (result : Result (Unit {0}) Stop) {before mid : spec.ParserState} (after : spec.ParserState) → IsOkUnless result Memory
@@ -801,8 +801,8 @@ edited_growth slack (Ok u) {before} after memory same growth = subst (λ (s : sp
 edited_growth slack (Err Unreadable) after memory same growth = absurd (cc memory)
 edited_growth slack (Err Memory) after memory same growth = tt
 
-pub types::read_function_type-returns-in_ok-reader-in-PlainFunction-clause-bounds : goal.types::read_function_type-returns-in_ok-reader-in-PlainFunction-clause-bounds
-types::read_function_type-returns-in_ok-reader-in-PlainFunction-clause-bounds t c =
+pub types::read_function_type-returns-in-Ok-close_function-clause-bounds : goal.types::read_function_type-returns-in-Ok-close_function-clause-bounds
+types::read_function_type-returns-in-Ok-close_function-clause-bounds t c =
     let left = ap (λ (s : spec.ParserState). length s.rest) c.skip.ensures.state in
     let entered = ap (λ (s : spec.ParserState). s.entered) c.skip.ensures.state in
     let before = ap (λ (s : spec.ParserState). length s.scopes) c.skip.ensures.state in
@@ -810,9 +810,9 @@ types::read_function_type-returns-in_ok-reader-in-PlainFunction-clause-bounds t 
     let first = (c.in-Ok.ensures {u = tt}).bounds in
     let params = (c.in-Ok-read_params.ensures {u = tt}).bounds in
     let opened : scopes c.open_function.new.buf ≡ scopes c.read_type.new.reader.buffer.value =
-    cc ((c.in_ok-list-in-PlainFunction.ensures {u = tt}).edit.lists.scopes_same, c.deref_mut.ensures.value) in
+    cc ((c.in-Ok-open_function.ensures {u = tt}).edit.lists.scopes_same, c.deref_mut.ensures.value) in
     let closed : scopes c.close_function.new.buf ≡ scopes c.read_params.new.reader.buffer.value =
-    cc ((c.in_ok-reader-in-PlainFunction.ensures {u = tt}).edit.lists.scopes_same, c.deref_mut-in-PlainFunction.ensures.value) in
+    cc ((c.in-Ok-close_function.ensures {u = tt}).edit.lists.scopes_same, c.deref_mut-in-PlainFunction.ensures.value) in
     let end_left = ap (λ (s : spec.ParserState). length s.rest) c.skip-in-PlainFunction.ensures.state in
     let end_entered = ap (λ (s : spec.ParserState). s.entered) c.skip-in-PlainFunction.ensures.state in
     let end_scopes = ap (λ (s : spec.ParserState). length s.scopes) c.skip-in-PlainFunction.ensures.state in
@@ -824,8 +824,8 @@ types::read_function_type-returns-in_ok-reader-in-PlainFunction-clause-bounds t 
       scopes_stand = omega (arith, before, first.scopes_stand, ap length opened, params.scopes_stand, ap length closed, end_scopes);
     }
 
-pub types::read_function_type-returns-in_ok-reader-in-PlainFunction-clause-saved : goal.types::read_function_type-returns-in_ok-reader-in-PlainFunction-clause-saved
-types::read_function_type-returns-in_ok-reader-in-PlainFunction-clause-saved t c =
+pub types::read_function_type-returns-in-Ok-close_function-clause-saved : goal.types::read_function_type-returns-in-Ok-close_function-clause-saved
+types::read_function_type-returns-in-Ok-close_function-clause-saved t c =
     let left = ap (λ (s : spec.ParserState). length s.rest) c.skip.ensures.state in
     let before = ap (λ (s : spec.ParserState). length s.saved) c.skip.ensures.state in
     let most = ap (λ (s : spec.ParserState). s.most_saved) c.skip.ensures.state in
@@ -833,9 +833,9 @@ types::read_function_type-returns-in_ok-reader-in-PlainFunction-clause-saved t c
     let first = (c.in-Ok.ensures {u = tt}).saved in
     let params = (c.in-Ok-read_params.ensures {u = tt}).saved in
     let opened : saved c.open_function.new.buf ≡ saved c.read_type.new.reader.buffer.value =
-    cc ((c.in_ok-list-in-PlainFunction.ensures {u = tt}).edit.lists.saved_same, c.deref_mut.ensures.value) in
+    cc ((c.in-Ok-open_function.ensures {u = tt}).edit.lists.saved_same, c.deref_mut.ensures.value) in
     let closed : saved c.close_function.new.buf ≡ saved c.read_params.new.reader.buffer.value =
-    cc ((c.in_ok-reader-in-PlainFunction.ensures {u = tt}).edit.lists.saved_same, c.deref_mut-in-PlainFunction.ensures.value) in
+    cc ((c.in-Ok-close_function.ensures {u = tt}).edit.lists.saved_same, c.deref_mut-in-PlainFunction.ensures.value) in
     let end_left = ap (λ (s : spec.ParserState). length s.rest) c.skip-in-PlainFunction.ensures.state in
     let end_saved = ap (λ (s : spec.ParserState). length s.saved) c.skip-in-PlainFunction.ensures.state in
     let end_most = ap (λ (s : spec.ParserState). s.most_saved) c.skip-in-PlainFunction.ensures.state in
@@ -852,23 +852,23 @@ encodings::read_entity-returns-clause-run t c =
     let m = c.match-entity_case.reader in
     let edit : IsEdit c.args.reader.now.buffer.value m.buffer.value = elim c.match-entity_case.branch [
       | encodings::read_entity-in-DefaultArgumentEntity+in-Some w ↦
-          let ok = sym w.branch'-is ∙ c.in_ok-opened.was {u = tt} in
-          let edits : IsEdit w.deref_mut-in-DefaultArgumentEntity.result.now w.open_default_arg.new.buf =
-          subst (λ (r : Result Piece AllocError). OnOk r (IsEdit w.deref_mut-in-DefaultArgumentEntity.result.now w.open_default_arg.new.buf)) ok w.open_default_arg.ensures.edit in
+          let ok = sym w.begun-is ∙ c.in-Ok-begun.is in
+          let edits : IsEdit w.deref_mut-in-DefaultArgumentEntity.result.now w.open_default_arg-begun.new.buf =
+          subst (λ (r : Result Piece AllocError). OnOk r (IsEdit w.deref_mut-in-DefaultArgumentEntity.result.now w.open_default_arg-begun.new.buf)) ok w.open_default_arg-begun.ensures.edit in
           rw w.reader-is (search rules)
       | encodings::read_entity-in-NameEntity w ↦
-          let ok = sym w.branch'-is ∙ c.in_ok-opened.was {u = tt} in
-          let edits : IsEdit w.deref_mut-in-NameEntity.result.now w.open_parent.new.buf =
-          subst (λ (r : Result Piece AllocError). OnOk r (IsEdit w.deref_mut-in-NameEntity.result.now w.open_parent.new.buf)) ok w.open_parent.ensures.edit in
+          let ok = sym w.begun-is ∙ c.in-Ok-begun.is in
+          let edits : IsEdit w.deref_mut-in-NameEntity.result.now w.open_parent-begun.new.buf =
+          subst (λ (r : Result Piece AllocError). OnOk r (IsEdit w.deref_mut-in-NameEntity.result.now w.open_parent-begun.new.buf)) ok w.open_parent-begun.ensures.edit in
           rw w.reader-is (search rules)
     ] in
     let closed = c.close_found.new.self in
     let opens : Opens m.buffer.value c.open-mark.new.self c.open-mark.result =
     subst (λ (b : Buffer). Opens b c.open-mark.new.self c.open-mark.result) c.deref_mut-2.ensures.value c.open-mark.ensures.opens in
-    let since = IsSince-run _ _ _ _ (IsSince-opens _ _ _ opens) (c.in-Ok.ensures {u = tt}).run in
+    let since = IsSince-run _ _ _ _ (IsSince-opens _ _ _ opens) (c.in-Ok-read_name.ensures {u = tt}).run in
     let kept : SameFrame m.buffer.value closed.buffer.value = SameFrame-closed _ _ _ _ since (c.in-Ok-close_found.ensures {u = tt}).closed in
     let last : IsEdit closed.buffer.value c.close_opened.new.buf =
-    subst (λ (b : Buffer). IsEdit b c.close_opened.new.buf) c.deref_mut-3.ensures.value (c.in_ok-reader.ensures {u = tt}).edit in
+    subst (λ (b : Buffer). IsEdit b c.close_opened.new.buf) c.deref_mut-3.ensures.value (c.in-Ok-close_opened.ensures {u = tt}).edit in
     IsRun-trans _ _ _ (IsRun-edit _ _ edit) (IsRun-trans _ _ _ (IsRun-same _ _ kept) (IsRun-edit _ _ last))
 
 pub encodings::read_entity-returns-clause-reads : goal.encodings::read_entity-returns-clause-reads
@@ -877,14 +877,14 @@ encodings::read_entity-returns-clause-reads t c =
     let before = c.args.reader.now in
     let encoding = shape before.buffer.value c.args.encoding in
     let m = c.match-entity_case.reader in
-    let opened : EntityOpens bare encoding (state before) m c.in_ok-opened.opened = elim c.match-entity_case.branch [
+    let opened : EntityOpens bare encoding (state before) m c.in-Ok-begun.value = elim c.match-entity_case.branch [
       | encodings::read_entity-in-DefaultArgumentEntity+in-Some w ↦
-          let ok = sym w.branch'-is ∙ c.in_ok-opened.was {u = tt} in
-          let edits : IsEdit w.deref_mut-in-DefaultArgumentEntity.result.now w.open_default_arg.new.buf =
-          subst (λ (r : Result Piece AllocError). OnOk r (IsEdit w.deref_mut-in-DefaultArgumentEntity.result.now w.open_default_arg.new.buf)) ok w.open_default_arg.ensures.edit in
-          let lives : Lives w.open_default_arg.new.buf c.in_ok-opened.opened (default_arg_opened (shape w.deref_mut-in-DefaultArgumentEntity.result.now c.args.encoding) w.in-Some.number) =
-          subst (λ (r : Result Piece AllocError). IfOk r (λ p. Lives w.open_default_arg.new.buf p (default_arg_opened (shape w.deref_mut-in-DefaultArgumentEntity.result.now c.args.encoding) w.in-Some.number)))
-          ok w.open_default_arg.ensures.shape in
+          let ok = sym w.begun-is ∙ c.in-Ok-begun.is in
+          let edits : IsEdit w.deref_mut-in-DefaultArgumentEntity.result.now w.open_default_arg-begun.new.buf =
+          subst (λ (r : Result Piece AllocError). OnOk r (IsEdit w.deref_mut-in-DefaultArgumentEntity.result.now w.open_default_arg-begun.new.buf)) ok w.open_default_arg-begun.ensures.edit in
+          let lives : Lives w.open_default_arg-begun.new.buf c.in-Ok-begun.value (default_arg_opened (shape w.deref_mut-in-DefaultArgumentEntity.result.now c.args.encoding) w.in-Some.number) =
+          subst (λ (r : Result Piece AllocError). IfOk r (λ p. Lives w.open_default_arg-begun.new.buf p (default_arg_opened (shape w.deref_mut-in-DefaultArgumentEntity.result.now c.args.encoding) w.in-Some.number)))
+          ok w.open_default_arg-begun.ensures.shape in
           rw w.reader-is record {
             front = default_arg_opened encoding w.in-Some.number;
             lives = search rules;
@@ -893,12 +893,12 @@ encodings::read_entity-returns-clause-reads t c =
                 (search rules) (search rules) (ap bare (search rules) ∙ read) built same;
           }
       | encodings::read_entity-in-NameEntity w ↦
-          let ok = sym w.branch'-is ∙ c.in_ok-opened.was {u = tt} in
-          let edits : IsEdit w.deref_mut-in-NameEntity.result.now w.open_parent.new.buf =
-          subst (λ (r : Result Piece AllocError). OnOk r (IsEdit w.deref_mut-in-NameEntity.result.now w.open_parent.new.buf)) ok w.open_parent.ensures.edit in
-          let lives : Lives w.open_parent.new.buf c.in_ok-opened.opened (parent_opened (shape w.deref_mut-in-NameEntity.result.now c.args.encoding)) =
-          subst (λ (r : Result Piece AllocError). IfOk r (λ p. Lives w.open_parent.new.buf p (parent_opened (shape w.deref_mut-in-NameEntity.result.now c.args.encoding))))
-          ok w.open_parent.ensures.shape in
+          let ok = sym w.begun-is ∙ c.in-Ok-begun.is in
+          let edits : IsEdit w.deref_mut-in-NameEntity.result.now w.open_parent-begun.new.buf =
+          subst (λ (r : Result Piece AllocError). OnOk r (IsEdit w.deref_mut-in-NameEntity.result.now w.open_parent-begun.new.buf)) ok w.open_parent-begun.ensures.edit in
+          let lives : Lives w.open_parent-begun.new.buf c.in-Ok-begun.value (parent_opened (shape w.deref_mut-in-NameEntity.result.now c.args.encoding)) =
+          subst (λ (r : Result Piece AllocError). IfOk r (λ p. Lives w.open_parent-begun.new.buf p (parent_opened (shape w.deref_mut-in-NameEntity.result.now c.args.encoding))))
+          ok w.open_parent-begun.ensures.shape in
           rw w.reader-is record {
             front = parent_opened encoding;
             lives = search rules;
@@ -909,10 +909,10 @@ encodings::read_entity-returns-clause-reads t c =
     let closed = c.close_found.new.self in
     let opens : Opens m.buffer.value c.open-mark.new.self c.open-mark.result =
     subst (λ (b : Buffer). Opens b c.open-mark.new.self c.open-mark.result) c.deref_mut-2.ensures.value c.open-mark.ensures.opens in
-    let since = IsSince-run _ _ _ _ (IsSince-opens _ _ _ opens) (c.in-Ok.ensures {u = tt}).run in
+    let since = IsSince-run _ _ _ _ (IsSince-opens _ _ _ opens) (c.in-Ok-read_name.ensures {u = tt}).run in
     let kept : SameFrame m.buffer.value closed.buffer.value = SameFrame-closed _ _ _ _ since (c.in-Ok-close_found.ensures {u = tt}).closed in
-    let front = kept.pieces c.in_ok-opened.opened opened.lives.living in
-    let built = rw c.deref_mut-3.ensures.value at (c.in_ok-reader.ensures {u = tt}).shape.shape_is in (
+    let front = kept.pieces c.in-Ok-begun.value opened.lives.living in
+    let built = rw c.deref_mut-3.ensures.value at (c.in-Ok-close_opened.ensures {u = tt}).shape.shape_is in (
       search rules,
       opened.gives (shape closed.buffer.value closed.found) _ _ (state closed) _ (search rules)
           (built ∙ ap (λ (f : Shape). enclosed f (shape closed.buffer.value closed.found)) (front.shape_is ∙ opened.lives.shape_is))

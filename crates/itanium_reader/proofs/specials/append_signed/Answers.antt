@@ -9,9 +9,9 @@ returns-clause-shape c =
     let s = shape c.args.buf.now c.args.words in
     let sign = c.as_bytes.result.now in
     let digits = decimal c.args.number.magnitude in
-    let signed = c.in_ok-signed.ensures.shape.shape_is ∙ ap (appended sign) c.in_ok-opened.ensures.shape.shape_is in
+    let signed = (c.in-Ok-append.ensures {u = tt}).shape.shape_is ∙ ap (appended sign) (c.in-Ok.ensures {u = tt}).shape.shape_is in
     record {
-      living = c.in_ok-numbered.ensures.shape.living;
-      shape_is = c.in_ok-numbered.ensures.shape.shape_is ∙ ap (appended digits) signed ∙ signed_printed c.args.bytes.now sign digits s
+      living = (c.in-Ok-append_number.ensures {u = tt}).shape.living;
+      shape_is = (c.in-Ok-append_number.ensures {u = tt}).shape.shape_is ∙ ap (appended digits) signed ∙ signed_printed c.args.bytes.now sign digits s
           ∙ ap (λ (t : List ℕ). appended (c.args.bytes.now ++ (t ++ digits)) s) (search rules);
     }

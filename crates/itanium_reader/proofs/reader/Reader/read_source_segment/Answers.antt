@@ -7,7 +7,6 @@ use Rattle.itanium_reader.specs.Parser as spec
 use Rattle.itanium_reader.specs.Outcome.{state}
 use Rattle.itanium_reader.proofs.Texts.{named_is}
 use Rattle.itanium_reader.proofs.Unfold.{source_in_read, gives_same}
-use Rattle.itanium_reader.proofs.Refused.{refused}
 use Rattle.itanium_reader.proofs.reader.Reader.read_source_segment.Goals as goal
 
 pub returns-clause-reads : goal.returns-clause-reads
@@ -18,7 +17,4 @@ returns-clause-reads c =
     let parent = shape c.args.self.now.buffer.value c.args.self.now.found in
     gives_same _ _ c.read_tags.ensures.reads
     (source_in_read parent (spec.save_if c.args.candidate parent (state c.args.self.now)) {name = slice_range bytes c.in-Some.from to} {rest = drop to bytes} {mid = state c.save_if-2.new.self}
-    (search rules) (search (rules, named_is)) (c.in_ok-save_if-2.ensures {u = tt}).state (search (rules, all)))
-
-pub returns-in_err-append_name : goal.returns-in_err-append_name
-returns-in_err-append_name c = rw (refused c.from_residual-in_err-append_name.result c.from_residual-in_err-append_name.ensures) (search rules)
+    (search rules) (search (rules, named_is)) (c.in-Ok-save_if.ensures {u = tt}).state (search (rules, all)))

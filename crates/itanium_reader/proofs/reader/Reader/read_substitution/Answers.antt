@@ -8,8 +8,8 @@ returns-in_default-clause-reads c = grind (arith, substitutions)
 pub returns-in_default-saved-clause-reads : goal.returns-in_default-saved-clause-reads
 returns-in_default-saved-clause-reads c = grind (arith, substitutions)
 
-pub returns-in_ok-piece-in-AbbreviationSubstitution-clause-reads : goal.returns-in_ok-piece-in-AbbreviationSubstitution-clause-reads
-returns-in_ok-piece-in-AbbreviationSubstitution-clause-reads c = grind (arith, substitutions)
+pub returns-in-Ok-clause-reads : goal.returns-in-Ok-clause-reads
+returns-in-Ok-clause-reads c = grind (arith, substitutions)
 
 pub returns-in-Some-saved-clause-reads : goal.returns-in-Some-saved-clause-reads
 returns-in-Some-saved-clause-reads c = grind (arith, substitutions)
