@@ -20,8 +20,7 @@
 #![tactic(auto)]
 
 /// The value of a result. An error is returned from the function around it, as it is. `?` also converts the error,
-/// which each proof has to follow, so it stands only where the error changes. The macro stands above the modules,
-/// because only what is below a macro can use it.
+/// which each proof has to follow. The macro stands above the modules, because it can only be used below.
 macro_rules! tri {
     ($result:expr) => {
         match $result {

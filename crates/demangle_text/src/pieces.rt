@@ -139,6 +139,7 @@ impl Piece {
         ensures templ { result.templ ≡ self.templ }
         ensures ctor { result.ctor ≡ self.ctor }
     {
+        // Bytes in front of the base name move it, and so do bytes at an empty one. Bytes inside make it longer.
         let (own_start, own_end) = match (self.kind, place) {
             (Some(Kind::Function), _) => (0, to - from),
             _ if at <= self.own_start => (self.own_start + n, self.own_end + n),

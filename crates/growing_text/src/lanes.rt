@@ -3,7 +3,7 @@ ghost use Rattle.std.specs.Prelude.{◌≡◌, ◌+◌, ◌≤◌, ◌<◌, [], 
 
 use std::simd::prelude::*;
 
-// Copies the text into spare bytes of the same length. A text of up to 64 bytes is copied by lanes.
+// Copies the text into spare bytes of the same length. A text of 4 to 64 bytes is copied by lanes.
 #[inline(always)]
 pub(crate) fn copy_text(dest: &mut [u8], text: &[u8])
     requires same { length dest.old ≡ length text.now }

@@ -27,7 +27,7 @@ macro_rules! or_memory {
     ($result:expr) => {
         match $result {
             Ok(value) => value,
-            Err(_) => return Err(itanium_reader::Stop::Memory),
+            Err(std::alloc::AllocError) => return Err(itanium_reader::Stop::Memory),
         }
     };
 }

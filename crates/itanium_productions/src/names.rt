@@ -60,7 +60,7 @@ pub(crate) fn read_ordinary_name(reader: &mut Reader, depth: usize, context: Con
     ensures saved { SavedBounds 1 result (state reader.old) (state reader.new) }
 {
     match ordinary_case(reader.rest) {
-        // No caller comes here with a `<source-name>`: each caller reads that case itself.
+        // A `<source-name>` never comes here: it is read before this function is called.
         OrdinaryCase::SourceName => reader.read_source_name(),
         OrdinaryCase::UnnamedTypeName => {
             reader.skip(2);

@@ -6,8 +6,8 @@
 //! Only `itanium_demangle` and `itanium_productions` use this crate. Its `specs/Parser` defines the parser as
 //! functions over shapes, without a buffer. Each reader is proved to equal its function there.
 //!
-//! The crate uses `itanium_syntax` to tell what the next bytes are, `demangle_edit` for the text, and
-//! `itanium_grammar` for the limits. Begin with `reader.rt`, and then read `names.rt`.
+//! The crate uses `itanium_syntax` to tell what the next bytes are, and `demangle_text` and `demangle_edit` for the
+//! text. Its contracts use shapes of `itanium_grammar`. Begin with `reader.rt`, and then read `names.rt`.
 #![tactic(auto)]
 
 /// The value of a result. An error is returned from the function around it, as it is. `?` also converts the error,
@@ -26,7 +26,7 @@ macro_rules! or_memory {
     ($result:expr) => {
         match $result {
             Ok(value) => value,
-            Err(_) => return Err(Stop::Memory),
+            Err(std::alloc::AllocError) => return Err(Stop::Memory),
         }
     };
 }

@@ -35,7 +35,7 @@ impl<'a> Reader<'a> {
     {
         let bytes = self.rest;
         let Some((from, to)) = source_name(bytes, 0) else {
-            // The parser saves the parent before it reads the name, also if no name follows.
+            // The parent counts in the table's peak also if no name follows.
             tri!(self.save_if(candidate));
             return Err(Stop::Unreadable);
         };
@@ -213,6 +213,7 @@ impl<'a> Reader<'a> {
             return Ok(());
         }
         if !shown && quals.reference.is_none() {
+            // Words that aren't printed still make the name a plain piece.
             self.found = self.buffer.plain(self.found);
             return Ok(());
         }

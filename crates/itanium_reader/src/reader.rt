@@ -28,7 +28,7 @@ use std::alloc::AllocError;
 /// productions are names, types, argument lists, packs, thunks, expressions and signatures.
 pub const MAX_TEXT: usize = 1_048_576;
 
-/// Returns `MAX_TEXT`, in bytes.
+/// Returns `MAX_TEXT`, in bytes. It is a function, because proofs get the value from a clause.
 #[inline(always)]
 #[tactic(auto, using(crate::proofs::Texts::max_text_is))]
 pub fn text_limit() -> usize
@@ -38,9 +38,9 @@ pub fn text_limit() -> usize
     MAX_TEXT
 }
 
-/// Reads mangled bytes. Each production has a function over a `Reader`, or a method. The function returns `Ok` if the
-/// production was read; then `found` is the piece of its printing. It returns `Stop::Unreadable` if the bytes aren't
-/// read as the production within the limits on nesting and text, and `Stop::Memory` if an allocation fails.
+/// Reads mangled bytes. Most productions have a function over a `Reader`, or a method. The function returns `Ok` if the
+/// production was read; then `found` is mostly the piece of its printing. It returns `Stop::Unreadable` if the bytes
+/// aren't read as the production within the limits on nesting and text, and `Stop::Memory` if an allocation fails.
 #[derive(Drop)]
 pub struct Reader<'a> {
     /// The bytes that aren't read yet.
@@ -346,8 +346,7 @@ impl<'a> Reader<'a> {
         if first {
             return Ok(plain);
         }
-        let separated = tri!(self.buffer.append(plain, b", "));
-        Ok(separated)
+        self.buffer.append(plain, b", ")
     }
 
     /// Appends `, ` to the output in front of a list's next text, and nothing if that is the `first`.
@@ -380,8 +379,8 @@ impl<'a> Reader<'a> {
         Ok(())
     }
 
-    /// Drops the scopes past the first n, which the argument in `found` opened. If `opens` is true, appends the
-    /// argument to the scope that its list opened.
+    /// Ends an argument of a list: drops the scopes past the first n, which the argument in `found` opened. If `opens`
+    /// is true, the list has a scope, and the argument is appended to it.
     #[inline(always)]
     pub fn add_argument(&mut self, opens: bool, n: usize) -> ReadResult
         requires living { IsLiving self.old.buffer.value self.old.found }

@@ -31,8 +31,7 @@ fn append_signed(
     let opened = tri!(buf.append(words, bytes));
     let sign = if number.negative { "-" } else { "" };
     let signed = tri!(buf.append(opened, sign.as_bytes()));
-    let numbered = tri!(append_number(buf, signed, number.magnitude));
-    Ok(numbered)
+    append_number(buf, signed, number.magnitude)
 }
 
 /// Appends the printing of a `<call-offset>` to the words, and then `, `.
@@ -46,14 +45,12 @@ fn append_offset(buf: &mut Buffer, words: Piece, offset: CallOffset) -> Result<P
     match offset {
         CallOffset::Plain(number) => {
             let begun = tri!(append_signed(buf, words, b"{offset(", number));
-            let printed = tri!(buf.append(begun, b")}, "));
-            Ok(printed)
+            buf.append(begun, b")}, ")
         }
         CallOffset::Virtual(first, second) => {
             let begun = tri!(append_signed(buf, words, b"{virtual offset(", first));
             let both = tri!(append_signed(buf, begun, b", ", second));
-            let printed = tri!(buf.append(both, b")}, "));
-            Ok(printed)
+            buf.append(both, b")}, ")
         }
     }
 }

@@ -1,8 +1,8 @@
 //! Tells what the next bytes of a mangled C++ symbol are (Itanium C++ ABI 5.1).
 //!
-//! Each production with several alternatives has a function `.._case`, which returns the alternative that the next
+//! Most productions with several alternatives have a function `.._case`, which returns the alternative that the next
 //! bytes select. If several fit, the first one counts. Other functions read single items: numbers, source names, the
-//! abbreviations of std, operators and call offsets. Some functions return a constant text that is printed, such as
+//! abbreviations of std, operators, qualifiers and call offsets. Some functions return a constant text that is printed, such as
 //! that of an operator. No function here composes a text, or calls a reader of `itanium_reader` or
 //! `itanium_productions`. The contracts are equations with definitions of `specs/`, and bounds.
 //!

@@ -11,7 +11,7 @@ use std::process::ExitCode;
 use symfilter_engine::{Tally, filter};
 
 fn main(rt: HostRuntime) -> ExitCode {
-    // Neither the source nor the sink has a buffer: the filter reads and writes whole chunks.
+    // Neither the source nor the sink has a buffer: the filter reads and writes many lines at a time.
     let mut source = Tally::new(rt.stdin());
     let mut sink = Tally::new(rt.stdout());
     match filter(rt.alloc(), &mut source, &mut sink) {

@@ -182,8 +182,8 @@ fn append_block(
     Ok(first)
 }
 
-/// Appends what is written for the first lines or words, ordinary or not, and returns their length in bytes. After an
-/// error nothing is appended.
+/// Appends what is written for all ordinary lines or words at the front, or otherwise for the first line or block of
+/// words. Returns their length in bytes. After an error nothing is appended.
 #[inline(always)]
 fn append_next(
     alloc: Global,
@@ -214,9 +214,9 @@ fn append_next(
     }
 }
 
-/// Appends what is written for the first lines or words to an empty output, and returns their length in bytes. Stops
-/// once the output has `OUTPUT_LEN` bytes, and in front of a line or word for which an allocation fails. Returns an
-/// error if that is the first one.
+/// Appends what is written for lines or words to an empty output, until the output has `OUTPUT_LEN` bytes or none is
+/// left. Returns the length in bytes of these lines or words. If an allocation fails, returns the error if nothing was
+/// appended before. Otherwise it stops there, and the next call begins with the line or words that failed.
 fn gather_whole(
     alloc: Global,
     demangler: &mut Demangler,
@@ -244,8 +244,8 @@ fn gather_whole(
     Ok(whole.len() - rest.len())
 }
 
-/// Writes the text for the first lines or words, and returns their length in bytes. Ordinary ones of at least
-/// `LONG_LEN` bytes in all are written without a copy. Others are gathered in the output first.
+/// Writes one portion, and returns the length in bytes of the lines or words that it is for. That is the ordinary ones
+/// at the front, without a copy, if they have at least `LONG_LEN` bytes. Otherwise it is what `gather_whole` gathers.
 fn write_next<W: Sink>(
     alloc: Global,
     demangler: &mut Demangler,
