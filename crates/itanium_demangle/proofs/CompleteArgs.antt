@@ -13,11 +13,11 @@ use Rattle.itanium_grammar.specs.Grammar.{Position, Cost, skip, within_list, Arg
 use Rattle.itanium_grammar.proofs.Progress.{argument_takes}
 use Rattle.itanium_grammar.proofs.Scopes.{argument_keeps}
 use Rattle.itanium_grammar.specs.Cases.{ArgumentListCase}
-use Rattle.itanium_reader.specs.Parser.{after_turn, loop, add_argument, add_nowhere, ◌>>=◌, parse_argument}
+use Rattle.itanium_reader.specs.Parser.{after_turn, loop, end_argument, add_nowhere, ◌>>=◌, parse_argument}
 use Rattle.itanium_reader.specs.Parser.{parse_primary, parse_encoding, parse_special, parse_name, next_item, argument_list_as}
 use Rattle.itanium_reader.specs.Parser.{list_turn, parse_list, parse_packed, parse_args, parse_pack}
 use Rattle.itanium_demangle.specs.Meaning.{state_at}
-use Rattle.itanium_demangle.proofs.Shapes.{same_read, IsInside, add_argument-scopes, open_scope_if-scopes, open_scope_if-inside, inside_more, shape-pack_of}
+use Rattle.itanium_demangle.proofs.Shapes.{same_read, IsInside, end_argument-scopes, open_scope_if-scopes, open_scope_if-inside, inside_more, shape-pack_of}
 use Rattle.itanium_demangle.specs.Readers.{shape_of_args}
 use Rattle.itanium_demangle.proofs.Fitting.{Met, met, met_then, met_then_again, met_as, met_turn, met_fits}
 use Rattle.itanium_demangle.proofs.Grows.{listed_more_item, listed_longer, closed_longer}
@@ -28,7 +28,7 @@ abbrev TurnsMet : ℕ → ℕ → Type 0
 TurnsMet d n = (x : Context) (o : Bool) (k : ℕ) (outer : List (List Tree)) (own : Option (List Tree)) (p q : Position) (list : List Tree) (c : Cost)
     → ArgumentListAs (argument_list_case p.rest) x outer own p list q c → IsInside o k outer own → Small d c
     → (e m : ℕ) (first : Bool) (front : Shape) → length p.rest < n
-    → Met text_len (loop (list_turn (add_argument o k) (parse_argument d x)) n (first, front) (state_at (within_list outer own p) e m)) (reached (λ us. listed_each first front (map shape_of us)) list q c e m)
+    → Met text_len (loop (list_turn (end_argument o k) (parse_argument d x)) n (first, front) (state_at (within_list outer own p) e m)) (reached (λ us. listed_each first front (map shape_of us)) list q c e m)
 
 -- a pack's arguments put onto a list, in n turns
 abbrev PackedMet : ℕ → ℕ → Type 0
@@ -47,8 +47,8 @@ module _ (d : ℕ) (each : ArgumentsComplete d) where
   arguments_as_met : (n : ℕ) → TurnsMet d n → {case : ArgumentListCase} {x : Context} {o : Bool} {k : ℕ} {outer : List (List Tree)} {own : Option (List Tree)} {p q : Position} {list : List Tree} {c : Cost}
       → ArgumentListAs case x outer own p list q c → IsInside o k outer own → Small d c
       → (e m : ℕ) (first : Bool) (front : Shape) → length p.rest < suc n
-      → Met text_len (argument_list_as case (add_argument o k) (parse_argument d x) (first, front) (state_at (within_list outer own p) e m)
-      >>= λ r. after_turn r.0 (loop (list_turn (add_argument o k) (parse_argument d x)) n) r.1)
+      → Met text_len (argument_list_as case (end_argument o k) (parse_argument d x) (first, front) (state_at (within_list outer own p) e m)
+      >>= λ r. after_turn r.0 (loop (list_turn (end_argument o k) (parse_argument d x)) n) r.1)
       (reached (λ us. listed_each first front (map shape_of us)) list q c e m)
   arguments_as_met n again end_of_arguments inside deep e m first front enough = met (same_read refl refl refl (omega arith) (omega arith))
   arguments_as_met n again {o = o} {k = k} (one_more_argument {q = q} {t = t} {ts = ts} {c = c} {outer = outer} {own = own} a more) inside deep e m first front enough =
@@ -57,7 +57,7 @@ module _ (d : ℕ) (each : ArgumentsComplete d) where
       let args = option_map (λ args. args ++ t ∷ []) own in
       let rest = again _ o k _ _ _ _ _ _ more (inside_more t inside) (omega arith) (e + c.count) (max m c.peak) false list (omega arith) in
       met_then_again _ _ (each _ _ _ _ _ a (omega arith) e m) (turn_longer first front (shape_of t) (map shape_of ts))
-      (rw (add_argument-scopes own t inside (argument_keeps a))
+      (rw (end_argument-scopes own t inside (argument_keeps a))
       (met_turn list (state_at (within_list outer args q) (e + c.count) (max m c.peak)) next_item _ (listed_longer false list (map shape_of ts))
       (met_as rest (same_read refl refl refl (omega arith) (omega arith)))))
 

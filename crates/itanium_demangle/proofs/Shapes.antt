@@ -217,13 +217,13 @@ inside_more {outer = outer} {own = Some args} t inside = record {
 }
 
 -- an argument goes into the list's own scope, and those that it opened are dropped
-pub add_argument-scopes : {o : Bool} {k : ℕ} {outer : List (List Tree)} (own : Option (List Tree)) (t : Tree) {later : List (List Tree)}
+pub end_argument-scopes : {o : Bool} {k : ℕ} {outer : List (List Tree)} (own : Option (List Tree)) (t : Tree) {later : List (List Tree)}
     → IsInside o k outer own → Keeps (scopes_inside outer own) later
     → (if o then with_arg (shape_of t) (take k (map (map shape_of) later)) else take k (map (map shape_of) later))
     ≡ map (map shape_of) (scopes_inside outer (option_map (λ args. args ++ t ∷ []) own))
-add_argument-scopes {k = k} {outer = outer} None t {later = later} inside keeps =
+end_argument-scopes {k = k} {outer = outer} None t {later = later} inside keeps =
     rw (inside.opened, take-map (map shape_of) k later, inside.count_is) (ap (map (map shape_of)) (taken_scopes keeps))
-add_argument-scopes {k = k} {outer = outer} (Some own) t {later = later} inside keeps =
+end_argument-scopes {k = k} {outer = outer} (Some own) t {later = later} inside keeps =
     rw (inside.opened, take-map (map shape_of) k later, inside.count_is, taken_scopes keeps, map-append (map shape_of) outer (own ∷ []))
     (with_arg-own (shape_of t) (map (map shape_of) outer) (map shape_of own)
     ∙ ap (λ args. map (map shape_of) outer ++ args ∷ []) (one_more own t)

@@ -19,7 +19,7 @@ use Rattle.itanium_reader.specs.Parser.{ParserState, Turn, after_turn, loop, par
 use Rattle.itanium_reader.specs.Parser.{parse_argument, parse_primary, parse_encoding, parse_special, parse_name}
 use Rattle.itanium_reader.specs.Parser.{next_item, argument_list_as, list_turn, parse_list, parse_packed, parse_args, parse_pack}
 use Rattle.itanium_demangle.specs.Meaning.{state_at}
-use Rattle.itanium_demangle.proofs.Shapes.{IsInside, add_argument-scopes, open_scope_if-scopes, open_scope_if-inside, inside_more}
+use Rattle.itanium_demangle.proofs.Shapes.{IsInside, end_argument-scopes, open_scope_if-scopes, open_scope_if-inside, inside_more}
 use Rattle.itanium_demangle.proofs.Fitting.{met_passed, past_fitting}
 use Rattle.itanium_demangle.proofs.Readings.{Within, PacksSound, ArgsSound, ArgumentsComplete, ArgumentsSound}
 use Rattle.itanium_demangle.proofs.CompleteArgs.{list_met, pack_met, args_complete, packs_complete}
@@ -29,7 +29,7 @@ use Rattle.demangle_edit.specs.Built.{listed_more}
 abbrev TurnsSound : ℕ → ℕ → Type 0
 TurnsSound d n = (x : Context) (o : Bool) (k : ℕ) (outer : List (List Tree)) (own : Option (List Tree)) (first : Bool) (front : Shape) (p : Position) (e m : ℕ) (y : Shape × ParserState)
     → IsInside o k outer own → length p.rest < n
-    → loop (list_turn (parser.add_argument o k) (parse_argument d x)) n (first, front) (state_at (within_list outer own p) e m) ≡ Some y
+    → loop (list_turn (parser.end_argument o k) (parse_argument d x)) n (first, front) (state_at (within_list outer own p) e m) ≡ Some y
     → Within (ArgumentListAs (argument_list_case p.rest) x outer own p) d
 
 -- a pack's arguments after what stands of its list, in n turns
@@ -40,19 +40,19 @@ PackedSound d n = (x : Context) (first : Bool) (front : Shape) (p : Position) (e
 module _ (d : ℕ) (each : ArgumentsSound d) where
   arguments_as_sound : (n : ℕ) → TurnsSound d n → (case : ArgumentListCase) (x : Context) (o : Bool) (k : ℕ) (outer : List (List Tree)) (own : Option (List Tree)) (first : Bool) (front : Shape) (p : Position) (e m : ℕ) (y : Shape × ParserState)
       → IsInside o k outer own → length p.rest < suc n
-      → (argument_list_as case (parser.add_argument o k) (parse_argument d x) (first, front) (state_at (within_list outer own p) e m)
-      >>= λ r. after_turn r.0 (loop (list_turn (parser.add_argument o k) (parse_argument d x)) n) r.1) ≡ Some y
+      → (argument_list_as case (parser.end_argument o k) (parse_argument d x) (first, front) (state_at (within_list outer own p) e m)
+      >>= λ r. after_turn r.0 (loop (list_turn (parser.end_argument o k) (parse_argument d x)) n) r.1) ≡ Some y
       → Within (ArgumentListAs case x outer own p) d
   arguments_as_sound n again EndOfArguments x o k outer own first front p e m y inside enough is = record { tree = _; next = _; cost = _; reading = end_of_arguments; deep = omega arith }
   arguments_as_sound n again NextArgument x o k outer own first front p e m y inside enough is =
       let here = within_list outer own p in
-      option_and_then_some _ (argument_list_as NextArgument (parser.add_argument o k) (parse_argument d x) (first, front) (state_at here e m)) y is (λ v turned rest.
+      option_and_then_some _ (argument_list_as NextArgument (parser.end_argument o k) (parse_argument d x) (first, front) (state_at here e m)) y is (λ v turned rest.
       option_and_then_some _ (parse_argument d x (state_at here e m)) v turned (λ z arg made.
       let found = each x here e m z arg in
       let i = found.within in
       let shorter = (argument_takes i.reading).shorter in
-      let stepped = past_fitting (listed_more first front z.0, parser.add_argument o k z.0 z.1) next_item v made in
-      let there = rw (← same_Some _ _ stepped, found.is, add_argument-scopes own i.tree inside (argument_keeps i.reading)) at rest in
+      let stepped = past_fitting (listed_more first front z.0, parser.end_argument o k z.0 z.1) next_item v made in
+      let there = rw (← same_Some _ _ stepped, found.is, end_argument-scopes own i.tree inside (argument_keeps i.reading)) at rest in
       let args = option_map (λ args. args ++ i.tree ∷ []) own in
       let r = again x o k outer args false (listed_more first front (shape_of i.tree)) i.next (e + i.cost.count) (max m i.cost.peak) y (inside_more i.tree inside) (omega arith) there in
       record {
@@ -106,7 +106,7 @@ args_sound d each_is each x of_name p e m y is =
     let within = after-le (after_drop 1 p.rest) in
     option_and_then_some _ (parse_list (parse_argument d x) opens (state_at p (e + 1) m)) y is (λ u read through.
     let there = rw (open_scope_if-scopes opens p.scopes) at read in
-    option_and_then_some _ (parse_loop (list_turn (parser.add_argument opens count) (parse_argument d x)) (true, plain_shape (codes "<")) (state_at begun (e + 1) m)) u there
+    option_and_then_some _ (parse_loop (list_turn (parser.end_argument opens count) (parse_argument d x)) (true, plain_shape (codes "<")) (state_at begun (e + 1) m)) u there
     (λ z list _.
     let r = arguments_sound d each _ x opens count p.scopes own true (plain_shape (codes "<")) (skip 1 p) (e + 1) m z (open_scope_if-inside opens p.scopes) (omega arith) list in
     let narrow = met_passed (list_met d each_is opens p r.reading r.deep (e + 1) m) read through in

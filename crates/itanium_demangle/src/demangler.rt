@@ -83,12 +83,12 @@ fn end_answer(reader: &mut Reader, mark: Mark) -> Result<bool, AllocError>
         return Ok(false);
     }
     reader.buffer.keep_scopes(0);
-    let rest = suffix(reader.rest);
-    if rest.is_empty() {
+    let ending = suffix(reader.rest);
+    if ending.is_empty() {
         reader.buffer.close_in_place(mark, &mut reader.found)?;
         return Ok(true);
     }
-    let whole = reader.buffer.append(reader.found, rest)?;
+    let whole = reader.buffer.append(reader.found, ending)?;
     reader.buffer.close(mark, whole)?;
     Ok(true)
 }

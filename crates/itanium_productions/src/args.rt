@@ -61,7 +61,7 @@ pub(crate) fn read_template_args(
             ArgumentListCase::NextArgument => {
                 tri!(reader.separate(first));
                 tri!(read_template_arg(reader, depth, context));
-                tri!(reader.add_argument(opens, scopes));
+                tri!(reader.end_argument(opens, scopes));
                 // Tested after each argument, so that the list can't grow far beyond the limit before its `E`.
                 if reader.buffer.len(reader.buffer.up_to_end(list)) > widest {
                     return Err(Stop::Unreadable);

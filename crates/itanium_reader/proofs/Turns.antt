@@ -22,7 +22,7 @@ use Rattle.itanium_grammar.specs.Cases.{SegmentCase, EndOfSegments, ArgsSegment,
 use Rattle.itanium_grammar.specs.Cases.{EndOfTypes, NextType}
 use Rattle.itanium_grammar.specs.Answer.{max_text}
 use Rattle.itanium_reader.specs.Parser.{ParserState, Parses, ParsesName, ◌>>=◌, is_too_wide, fitting}
-use Rattle.itanium_reader.specs.Parser.{enter, with_rest, save, skip, open_scope_if, add_argument}
+use Rattle.itanium_reader.specs.Parser.{enter, with_rest, save, skip, open_scope_if, end_argument}
 use Rattle.itanium_reader.specs.Parser.{add_nowhere, taken_back, past_initializer}
 use Rattle.itanium_reader.specs.Parser.{tag_turn, parse_unqualified}
 use Rattle.itanium_reader.specs.Parser.{parse_tags, parse_source_in}
@@ -147,16 +147,16 @@ pub pack_start : (d : ℕ) (x : Context) (s : ParserState) {below : ℕ} {inside
 pack_start d x s deep less within built left = rw (less, left, within, built) (list_start (pack_opens d x s deep ∙ ended_then _ whole_shape fitting))
 
 -- the turns of a list up to its E
-module _ {whole : Option (Shape × ParserState)} (add_argument : Shape → ParserState → ParserState)
+module _ {whole : Option (Shape × ParserState)} (end_argument : Shape → ParserState → ParserState)
     (item : Parses Shape) (finish : Shape × ParserState → Option (Shape × ParserState)) {first : Bool} {list : Shape}
     {s : ParserState}
-    (so_far : ListSoFar whole (list_turn add_argument item) finish (first, list) s) where
+    (so_far : ListSoFar whole (list_turn end_argument item) finish (first, list) s) where
   pub items_end : {after : ParserState} → argument_list_case s.rest ≡ EndOfArguments → after ≡ skip 1 s → whole ≡ finish (list, after)
   unfolding list_turn
   items_end case left = rw left (list_end so_far (rw case refl))
 
   pub items_more : {next found : Shape} {mid after : ParserState} → argument_list_case s.rest ≡ NextArgument → item s ≡ Some (next, mid) → length mid.rest < length s.rest
-      → found ≡ listed_more first list next → is_too_wide found ≡ false → after ≡ add_argument next mid → after.rest ≡ mid.rest → ListSoFar whole (list_turn add_argument item) finish (false, found) after
+      → found ≡ listed_more first list next → is_too_wide found ≡ false → after ≡ end_argument next mid → after.rest ≡ mid.rest → ListSoFar whole (list_turn end_argument item) finish (false, found) after
   unfolding list_turn
   items_more {next} {found} case read shorter built fits left same =
       let narrow : is_too_wide (listed_more first list next) ≡ false = ap is_too_wide (sym built) ∙ fits in
@@ -192,17 +192,17 @@ abbrev pub attached_to : Shape → Shape × ParserState → Option (Shape × Par
 attached_to name r = fitting (whole_shape (arguments_closed r.0), r.1) >>= λ list. Some (attached name list.0, list.1)
 
 -- A list after a name has come this far: this text stands after its `<`.
-pub record AttachedSoFar (whole : Option (Shape × ParserState)) (add_argument : Shape → ParserState → ParserState)
+pub record AttachedSoFar (whole : Option (Shape × ParserState)) (end_argument : Shape → ParserState → ParserState)
     (item : Parses Shape) (name : Shape) (first : Bool) (list : List ℕ) (s : ParserState) : Type 0 where
   pub own : ℕ × ℕ
   pub templ : Bool
   pub ctor : Bool
-  pub so_far : ListSoFar whole (list_turn add_argument item) (attached_to name) (first, begun_list list own templ ctor) s
+  pub so_far : ListSoFar whole (list_turn end_argument item) (attached_to name) (first, begun_list list own templ ctor) s
 
 -- a list begins after a name
 pub attached_start : (d : ℕ) (x : Context) (of_name : Bool) (s : ParserState) (name : Shape) {below : ℕ} {opens : Bool} {n : ℕ} {list : List ℕ} {after : ParserState} → 0 < d → below ≡ d - 1
     → opens ≡ opens_scope of_name x → list ≡ [] → after ≡ open_scope_if opens (skip 1 (enter s)) → n ≡ length after.scopes
-    → AttachedSoFar (attached_by (parse_args d x of_name) name s) (add_argument opens n) (parse_argument below x) name true list after
+    → AttachedSoFar (attached_by (parse_args d x of_name) name s) (end_argument opens n) (parse_argument below x) name true list after
 attached_start d x of_name s name {below} {opens} {n} {list} {after} deep less opened none left scopes = record {
   own = (0, 1);
   templ = false;
@@ -217,8 +217,8 @@ attached_start d x of_name s name {below} {opens} {n} {list} {after} deep less o
     ended_thrice (Some r) first second = refl
 
 -- the turns of a list after a name
-module _ {whole : Option (Shape × ParserState)} (add_argument : Shape → ParserState → ParserState) (item : Parses Shape) (name : Shape) {first : Bool} {list : List ℕ} {s : ParserState}
-    (so_far : AttachedSoFar whole add_argument item name first list s) where
+module _ {whole : Option (Shape × ParserState)} (end_argument : Shape → ParserState → ParserState) (item : Parses Shape) (name : Shape) {first : Bool} {list : List ℕ} {s : ParserState}
+    (so_far : AttachedSoFar whole end_argument item name first list s) where
   -- the list so far, and the whole of it
   abbrev list_so_far : Shape
   list_so_far = begun_list list so_far.own so_far.templ so_far.ctor
@@ -241,13 +241,13 @@ module _ {whole : Option (Shape × ParserState)} (add_argument : Shape → Parse
       → text_len last - front_len name ≤ max_text → after ≡ skip 1 s → whole ≡ Some (last, after)
   attached_end case built short left =
       let fits : is_too_wide list_whole ≡ false = not_wide list_whole (omega (arith, short, ended_len built)) in
-      items_end add_argument item (attached_to name) so_far.so_far case left ∙ rw (fits, sym (ended built)) refl
+      items_end end_argument item (attached_to name) so_far.so_far case left ∙ rw (fits, sym (ended built)) refl
 
   pub attached_wide : {last : Shape} → argument_list_case s.rest ≡ EndOfArguments → last ≡ arguments_closed (appended list (arguments_opened name))
       → max_text < text_len last - front_len name → whole ≡ None
   attached_wide case built long =
       let wide : is_too_wide list_whole ≡ true = wide_by list_whole (omega (arith, long, ended_len built)) in
-      items_end add_argument item (attached_to name) so_far.so_far case refl ∙ rw wide refl
+      items_end end_argument item (attached_to name) so_far.so_far case refl ∙ rw wide refl
 
   -- with one text more
   more_len : (next : Shape) {more : List ℕ} {all : Shape} → more ≡ (list ++ separator first) ++ text next → all ≡ appended more (arguments_opened name)
@@ -261,23 +261,23 @@ module _ {whole : Option (Shape × ParserState)} (add_argument : Shape → Parse
 
   pub attached_more : {next all : Shape} {more : List ℕ} {mid after : ParserState} → argument_list_case s.rest ≡ NextArgument → item s ≡ Some (next, mid) → length mid.rest < length s.rest
       → more ≡ (list ++ separator first) ++ text next → all ≡ appended more (arguments_opened name) → text_len all - front_len name ≤ max_text
-      → after ≡ add_argument next mid → after.rest ≡ mid.rest → AttachedSoFar whole add_argument item name false more after
+      → after ≡ end_argument next mid → after.rest ≡ mid.rest → AttachedSoFar whole end_argument item name false more after
   attached_more {next} {all} {more} {mid} {after} case read shorter longer built short left same =
       let listed = listed_more first list_so_far next in
       let fits : is_too_wide listed ≡ false = not_wide listed (omega (arith, short, more_len next longer built)) in record {
         own = listed.own;
         templ = so_far.templ;
         ctor = so_far.ctor;
-        so_far = rw longer (items_more add_argument item (attached_to name) so_far.so_far case read shorter refl fits left same);
+        so_far = rw longer (items_more end_argument item (attached_to name) so_far.so_far case read shorter refl fits left same);
       }
 
   pub attached_more_wide : {next all : Shape} {more : List ℕ} {mid : ParserState} → argument_list_case s.rest ≡ NextArgument → item s ≡ Some (next, mid)
       → more ≡ (list ++ separator first) ++ text next → all ≡ appended more (arguments_opened name) → max_text < text_len all - front_len name → whole ≡ None
   attached_more_wide {next} case read longer built long =
-      items_wide add_argument item (attached_to name) so_far.so_far case read refl (wide_by (listed_more first list_so_far next) (omega (arith, long, more_len next longer built)))
+      items_wide end_argument item (attached_to name) so_far.so_far case read refl (wide_by (listed_more first list_so_far next) (omega (arith, long, more_len next longer built)))
 
   pub attached_fail : argument_list_case s.rest ≡ NextArgument → item s ≡ None → whole ≡ None
-  attached_fail case none = items_fail add_argument item (attached_to name) so_far.so_far case none
+  attached_fail case none = items_fail end_argument item (attached_to name) so_far.so_far case none
 
 -- no list is read after a name where none may open
 pub no_attached : (d : ℕ) (x : Context) (of_name : Bool) (name : Shape) (s : ParserState) → d ≡ 0 → attached_by (parse_args d x of_name) name s ≡ None

@@ -159,8 +159,8 @@ abbrev pub open_scope_if : Bool → ParserState → ParserState
 open_scope_if opens s = record s { scopes = if opens then s.scopes ++ [] ∷ [] else s.scopes }
 
 -- the scopes past the first n are dropped, and the argument goes into the scope that its list opened
-abbrev pub add_argument : Bool → ℕ → Shape → ParserState → ParserState
-add_argument opens n t s = record s { scopes = if opens then with_arg t (take n s.scopes) else take n s.scopes }
+abbrev pub end_argument : Bool → ℕ → Shape → ParserState → ParserState
+end_argument opens n t s = record s { scopes = if opens then with_arg t (take n s.scopes) else take n s.scopes }
 
 -- a name of std that a letter abbreviates, after the S
 abbrev pub parse_abbreviation : Parses Shape
@@ -220,14 +220,14 @@ next_item list = Some (goes_on (false, list.0), list.1)
 -- on
 abbrev pub argument_list_as : ArgumentListCase → (Shape → ParserState → ParserState) → Parses Shape → Bool × Shape
     → Parses (Turn (Bool × Shape) Shape)
-argument_list_as EndOfArguments add_argument item so_far s = Some (ends so_far.1, skip 1 s)
-argument_list_as NextArgument add_argument item so_far s =
-    item s >>= λ next. fitting (listed_more so_far.0 so_far.1 next.0, add_argument next.0 next.1) >>= next_item
+argument_list_as EndOfArguments end_argument item so_far s = Some (ends so_far.1, skip 1 s)
+argument_list_as NextArgument end_argument item so_far s =
+    item s >>= λ next. fitting (listed_more so_far.0 so_far.1 next.0, end_argument next.0 next.1) >>= next_item
 
 -- one turn of the loop over arguments: the next bytes select the case
 unfoldable pub list_turn : (Shape → ParserState → ParserState) → Parses Shape → Bool × Shape
     → Parses (Turn (Bool × Shape) Shape)
-list_turn add_argument item so_far s = argument_list_as (argument_list_case s.rest) add_argument item so_far s
+list_turn end_argument item so_far s = argument_list_as (argument_list_case s.rest) end_argument item so_far s
 
 -- an item that goes nowhere but into its list
 abbrev pub add_nowhere : Shape → ParserState → ParserState
@@ -650,7 +650,7 @@ scopes_in opens s = length (open_scope_if opens s).scopes
 -- a list from its I to its E
 abbrev pub parse_list : Parses Shape → Bool → Parses Shape
 parse_list argument opens s =
-    parse_loop (list_turn (add_argument opens (scopes_in opens s)) argument) (true, plain_shape (codes "<"))
+    parse_loop (list_turn (end_argument opens (scopes_in opens s)) argument) (true, plain_shape (codes "<"))
     (open_scope_if opens (skip 1 s)) >>= λ list.
     Some (whole_shape (arguments_closed list.0), list.1)
 

@@ -382,11 +382,11 @@ impl<'a> Reader<'a> {
     /// Ends an argument of a list: drops the scopes past the first n, which the argument in `found` opened. If `opens`
     /// is true, the list has a scope, and the argument is appended to it.
     #[inline(always)]
-    pub fn add_argument(&mut self, opens: bool, n: usize) -> ReadResult
+    pub fn end_argument(&mut self, opens: bool, n: usize) -> ReadResult
         requires living { IsLiving self.old.buffer.value self.old.found }
         requires scopes { n ≤ length (scopes self.old.buffer.value) }
         requires opened { opens ≡ true → 0 < n }
-        ensures state { OnOk result (state self.new ≡ spec.add_argument opens n
+        ensures state { OnOk result (state self.new ≡ spec.end_argument opens n
             (shape self.old.buffer.value self.old.found) (state self.old)) }
         ensures scopes_left { OnOk result (length (scopes self.new.buffer.value) ≡ n) }
         ensures output { OnOk result (main_bytes self.new.buffer.value ≡ main_bytes self.old.buffer.value) }

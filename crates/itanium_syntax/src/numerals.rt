@@ -92,12 +92,12 @@ pub fn short_numeral(bytes: &[u8]) -> Option<(u64, usize)>
     ensures within { IfSome result (λ found. found.1 ≤ length bytes.now) }
 {
     if let [first, second, third, ..] = bytes {
-        let tens = digit(Radix::Decimal, *first)?;
+        let value = digit(Radix::Decimal, *first)?;
         let Some(ones) = digit(Radix::Decimal, *second) else {
-            return Some((tens, 1));
+            return Some((value, 1));
         };
         if !matches!(*third, b'0'..=b'9') {
-            return Some((tens * 10 + ones, 2));
+            return Some((value * 10 + ones, 2));
         }
     }
     numeral(Radix::Decimal, bytes)

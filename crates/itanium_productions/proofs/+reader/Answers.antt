@@ -87,16 +87,16 @@ args::read_template_args-returns-then-len-widest-2-clause-reads t c =
     let old = c.loop-reader.reader.buffer.value in
     let separated = c.separate.new.self.buffer.value in
     let framed = c.read_template_arg.new.reader in
-    let new = c.add_argument.new.self.buffer.value in
+    let new = c.end_argument.new.self.buffer.value in
     let next = shape framed.buffer.value framed.found in
     let kept = (c.in-Ok-separate.ensures {u = tt}).kept in
     let one = text_after-more old separated list (separator c.loop-reader.first) so_far.begun.living so_far.inner (c.in-Ok-separate.ensures {u = tt}).output in
     let two = text_after-more separated framed.buffer.value list (text next) (kept.pieces list so_far.begun.living).living
     (IsInner-same old separated list so_far.inner kept) (c.in-Ok-read_template_arg.ensures {u = tt}).output in
-    let three = text_after-same framed.buffer.value new list (c.in-Ok-add_argument.ensures {u = tt}).output in
+    let three = text_after-same framed.buffer.value new list (c.in-Ok-end_argument.ensures {u = tt}).output in
     let longer : text_after new list ≡ (text_after old list ++ separator c.loop-reader.first) ++ text next =
     three ∙ two ∙ ap (λ (v : List ℕ). v ++ text next) one in
-    let begun = Lives-same _ _ _ _ (c.in-Ok-add_argument.ensures {u = tt}).kept
+    let begun = Lives-same _ _ _ _ (c.in-Ok-end_argument.ensures {u = tt}).kept
     (Lives-same _ _ _ _ (c.in-Ok-read_template_arg.ensures {u = tt}).kept (Lives-same _ _ _ _ kept so_far.begun)) in
     let all = shape new c.up_to_end.result in
     let built : all ≡ appended (text_after new list) (arguments_opened (shape c.args.reader.now.buffer.value c.args.reader.now.found)) =
@@ -120,16 +120,16 @@ args::read_template_args-loop-reader-preserved t c =
     let old = c.loop-reader.reader.buffer.value in
     let separated = c.separate.new.self.buffer.value in
     let framed = c.read_template_arg.new.reader in
-    let new = c.add_argument.new.self.buffer.value in
+    let new = c.end_argument.new.self.buffer.value in
     let next = shape framed.buffer.value framed.found in
     let kept = (c.in-Ok-separate.ensures {u = tt}).kept in
     let one = text_after-more old separated list (separator c.loop-reader.first) so_far.begun.living so_far.inner (c.in-Ok-separate.ensures {u = tt}).output in
     let two = text_after-more separated framed.buffer.value list (text next) (kept.pieces list so_far.begun.living).living
     (IsInner-same old separated list so_far.inner kept) (c.in-Ok-read_template_arg.ensures {u = tt}).output in
-    let three = text_after-same framed.buffer.value new list (c.in-Ok-add_argument.ensures {u = tt}).output in
+    let three = text_after-same framed.buffer.value new list (c.in-Ok-end_argument.ensures {u = tt}).output in
     let longer : text_after new list ≡ (text_after old list ++ separator c.loop-reader.first) ++ text next =
     three ∙ two ∙ ap (λ (v : List ℕ). v ++ text next) one in
-    let begun = Lives-same _ _ _ _ (c.in-Ok-add_argument.ensures {u = tt}).kept
+    let begun = Lives-same _ _ _ _ (c.in-Ok-end_argument.ensures {u = tt}).kept
     (Lives-same _ _ _ _ (c.in-Ok-read_template_arg.ensures {u = tt}).kept (Lives-same _ _ _ _ kept so_far.begun)) in
     let all = shape new c.up_to_end.result in
     let built : all ≡ appended (text_after new list) (arguments_opened (shape c.args.reader.now.buffer.value c.args.reader.now.found)) =
@@ -665,8 +665,8 @@ args::read_template_args-overflow_sub-front t c = grind (arith, common_steps)
 pub args::read_template_args-returns-in-EndOfArguments-clause-run : goal.args::read_template_args-returns-in-EndOfArguments-clause-run
 args::read_template_args-returns-in-EndOfArguments-clause-run t c = grind (arith, argument_lists)
 
-pub args::read_template_args-add_argument-requires-clause-living : goal.args::read_template_args-add_argument-requires-clause-living
-args::read_template_args-add_argument-requires-clause-living t c = grind (arith, common_steps)
+pub args::read_template_args-end_argument-requires-clause-living : goal.args::read_template_args-end_argument-requires-clause-living
+args::read_template_args-end_argument-requires-clause-living t c = grind (arith, common_steps)
 
 pub args::read_template_args-up_to_end-requires-clause-inner : goal.args::read_template_args-up_to_end-requires-clause-inner
 args::read_template_args-up_to_end-requires-clause-inner t c = grind (arith, argument_lists)

@@ -123,7 +123,7 @@ abbrev pub invariant-args::read_template_args-loop-reader : goal.invariant-args:
 invariant-args::read_template_args-loop-reader l = record {
   below : l.depth < l.fn.depth;
   reads : AttachedSoFar (spec.attached_by (spec.parse_args l.fn.depth l.context l.of_name) (shape l.fn.reader.buffer.value l.fn.reader.found) (state l.fn.reader))
-      (spec.add_argument l.opens l.scopes) (spec.parse_argument l.depth l.context) (shape l.fn.reader.buffer.value l.fn.reader.found) l.first
+      (spec.end_argument l.opens l.scopes) (spec.parse_argument l.depth l.context) (shape l.fn.reader.buffer.value l.fn.reader.found) l.first
       (text_after l.reader.buffer.value l.list) (state l.reader);
   front : l.front ≡ front_len (shape l.fn.reader.buffer.value l.fn.reader.found);
   widest : l.widest ≡ l.front + max_text;
