@@ -3,7 +3,7 @@
 # its sources, one crate after another. After `make -j4 all libcosvigle.so.0` it needs no toolchain: run it by sudo if
 # PREFIX needs that.
 #
-#     make -j4                                 seventeen to fifty minutes where nothing is proved yet
+#     make -j4                                 sixteen to fifty minutes where nothing is proved yet
 #     make cosvigle                            the program alone
 #     make install PREFIX=/usr DESTDIR=/tmp/x  PREFIX: /usr/local unless given; DESTDIR: put in front, for packages;
 #                  LIBDIR=/usr/lib64           BINDIR, LIBDIR, INCLUDEDIR, MANDIR: below PREFIX unless given

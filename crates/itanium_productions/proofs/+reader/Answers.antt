@@ -1,7 +1,7 @@
 use Rattle.itanium_reader.proofs.Rules.{argument_lists, arguments, encodings, expressions, local_names, packs, primaries, specials, thunks}
 use Rattle.itanium_productions.proofs.OwnQualifiers.{names}
 use Rattle.itanium_reader.proofs.Rules.{first_segments, nested_names, outer_names, unqualified_names}
-use Rattle.itanium_reader.proofs.Rules.{typed_lists, words}
+use Rattle.itanium_reader.proofs.Rules.{words}
 use Rattle.std.proofs.lemmas.Grind.{common_steps}
 use Rattle.std.proofs.Common.{◌≡◌, ◌<◌, ◌+◌, ◌*◌, ◌^◌, ◌∙◌, ℕ, List, [], ◌∷◌, ◌++◌, length, drop, refl, rules, sym, ap, subst, arith, append_assoc, max, true, Option, Some}
 use Rattle.std.proofs.Common.{codes}
@@ -53,20 +53,20 @@ use Rattle.itanium_productions.proofs.+reader.Goals as goal
 pub args::read_template_args-loop-reader-init : goal.args::read_template_args-loop-reader-init
 args::read_template_args-loop-reader-init t c =
     let last = IsLast-stays _ _ _ _ (c.in-Ok-open_arguments.ensures {u = tt}).edit (c.in-Ok-open_arguments.ensures {u = tt}).in_place in record {
-      below = grind (arith, common_steps);
+      below = grind arith;
       front = begun_front (shape c.args.reader.now.buffer.value c.args.reader.now.found) (shape c.open_arguments.new.buf c.in-Ok-open_arguments.value) (search rules) (search rules);
-      widest = grind (arith, common_steps);
+      widest = grind arith;
       reads = attached_start _ _ _ _ (shape c.args.reader.now.buffer.value c.args.reader.now.found) (search rules) (search rules) (search rules) (text_after-last _ _ last) (search rules) (search rules);
-      begun = grind (arith, common_steps);
+      begun = grind arith;
       inner = IsInner-last _ _ last;
-      run = grind (arith, common_steps);
-      scopes_stand = grind (arith, common_steps);
-      scopes_kept = grind (arith, common_steps);
-      opened = grind (arith, common_steps);
-      taken = grind (arith, common_steps);
-      counted = grind (arith, common_steps);
-      list = grind (arith, common_steps);
-      most = grind (arith, common_steps);
+      run = grind arith;
+      scopes_stand = grind arith;
+      scopes_kept = grind arith;
+      opened = grind arith;
+      taken = grind arith;
+      counted = grind arith;
+      list = grind arith;
+      most = grind arith;
     }
 
 pub args::read_template_args-returns-in-EndOfArguments-clause-reads : goal.args::read_template_args-returns-in-EndOfArguments-clause-reads
@@ -136,31 +136,31 @@ args::read_template_args-loop-reader-preserved t c =
     subst (λ (b : Buffer). shape b c.up_to_end.result ≡ appended (text_after b list) (shape b list)) c.deref-in-NextArgument-2.ensures c.up_to_end.ensures.shape.shape_is
     ∙ ap (appended (text_after new list)) begun.shape_is in
     let long : c.len-in-NextArgument.result ≡ text_len all = search rules in record {
-      below = grind (arith, common_steps);
+      below = grind arith;
       front = c.loop-reader.invariant.front;
       widest = c.loop-reader.invariant.widest;
       reads = attached_more _ _ _ so_far.reads {next = next} {all = all} {mid = state framed} (sym c.in-NextArgument.ensures.case) (search rules) (search rules) longer built
           (omega (arith, c.if-len-widest-2.false, so_far.widest, long, so_far.front)) (search rules) (search rules);
       begun = begun;
-      inner = grind (arith, common_steps);
+      inner = grind arith;
       run = search rules;
-      scopes_stand = grind (arith, common_steps);
-      scopes_kept = grind (arith, common_steps);
-      opened = grind (arith, common_steps);
-      taken = grind (arith, common_steps);
-      counted = grind (arith, common_steps);
-      list = grind (arith, common_steps);
-      most = grind (arith, common_steps);
+      scopes_stand = grind arith;
+      scopes_kept = grind arith;
+      opened = grind arith;
+      taken = grind arith;
+      counted = grind arith;
+      list = grind arith;
+      most = grind arith;
     }
 
 pub args::read_argument_pack-loop-reader-init : goal.args::read_argument_pack-loop-reader-init
 args::read_argument_pack-loop-reader-init t c = record {
-  below = grind (arith, common_steps);
+  below = grind arith;
   reads = pack_start _ _ _ (search rules) (search rules) (search rules) (search rules) (search rules);
-  living = grind (arith, common_steps);
-  run = grind (arith, common_steps);
-  cost = grind (arith, common_steps);
-  growth = grind (arith, common_steps);
+  living = grind arith;
+  run = grind arith;
+  cost = grind arith;
+  growth = grind arith;
 }
 
 pub args::read_argument_pack-returns-in-EndOfArguments-clause-reads : goal.args::read_argument_pack-returns-in-EndOfArguments-clause-reads
@@ -177,13 +177,13 @@ args::read_argument_pack-returns-in-Err-read_template_arg-clause-reads t c =
 
 pub args::read_argument_pack-loop-reader-preserved : goal.args::read_argument_pack-loop-reader-preserved
 args::read_argument_pack-loop-reader-preserved t c = record {
-  below = grind (arith, common_steps);
+  below = grind arith;
   reads = items_more _ _ _ c.loop-reader.invariant.reads {next = shape c.read_template_arg.new.reader.buffer.value c.read_template_arg.new.reader.found} {mid = state c.read_template_arg.new.reader}
       (sym c.in-NextArgument.ensures.case) (search rules) (search rules) (search rules) (search rules) (search rules) (search rules);
-  living = grind (arith, common_steps);
+  living = grind arith;
   run = search rules;
-  cost = grind (arith, common_steps);
-  growth = grind (arith, common_steps);
+  cost = grind arith;
+  growth = grind arith;
 }
 
 pub types::read_params-returns-in-EndOfTypes-clause-reads : goal.types::read_params-returns-in-EndOfTypes-clause-reads
@@ -206,10 +206,10 @@ types::read_params-loop-list-preserved t c = record {
   reads = typed_more _ _ _ c.loop-list.invariant.reads
       {next = shape c.read_framed.new.reader.buffer.value c.read_framed.new.reader.found}
       (sym c.in-NextType.ensures.case) (search rules) (search rules) (search rules) (search rules);
-  living = grind (arith, common_steps);
+  living = grind arith;
   run = search rules;
-  cost = grind (arith, common_steps);
-  growth = grind (arith, common_steps);
+  cost = grind arith;
+  growth = grind arith;
 }
 
 pub args::read_argument_pack-returns-then-is_too_wide-clause-reads : goal.args::read_argument_pack-returns-then-is_too_wide-clause-reads
@@ -285,10 +285,10 @@ names::read_segments-loop-reader-preserved-then-begins_source t c =
     record {
       reads = segments_read _ _ c.loop-reader.invariant.reads {next = shape new.buffer.value new.found} {mid = state new} case.0 (case.1 ∙ read.reads.1) (search rules)
           (rw case.2 (search rules)) refl (search rules);
-      living = grind (arith, common_steps);
-      last = grind (arith, common_steps);
-      run = grind (arith, common_steps);
-      cost = grind (arith, common_steps);
+      living = grind arith;
+      last = grind arith;
+      run = grind arith;
+      cost = grind arith;
       list = omega (arith, longer, read.saved.list, c.loop-reader.invariant.list);
       most = omega (arith, longer, read.saved.list, read.saved.most, c.loop-reader.invariant.list, c.loop-reader.invariant.most);
     }
@@ -357,10 +357,10 @@ names::read_segments-loop-reader-preserved t c =
     let longer = length-append (saved m.buffer.value) (shape m.buffer.value m.found ∷ []) in
     record {
       reads = segments_read _ _ c.loop-reader.invariant.reads {next = shape m.buffer.value m.found} {mid = state m} later.goes_on later.gives (search rules) (search rules) refl (search rules);
-      living = grind (arith, common_steps);
-      last = grind (arith, common_steps);
-      run = grind (arith, common_steps);
-      cost = grind (arith, common_steps);
+      living = grind arith;
+      last = grind arith;
+      run = grind arith;
+      cost = grind arith;
       list = search (rules, longer);
       most = search (rules, longer);
     }
@@ -393,9 +393,6 @@ names::read_first_segment-returns-in-Err-read_tags-clause-reads t c =
 
 pub names::read_first_segment-returns-in-Err-clause-reads : goal.names::read_first_segment-returns-in-Err-clause-reads
 names::read_first_segment-returns-in-Err-clause-reads t c = grind (arith, first_segments)
-
-pub names::read_first_segment-returns-in-Ok-copy_found_to_end-clause-run : goal.names::read_first_segment-returns-in-Ok-copy_found_to_end-clause-run
-names::read_first_segment-returns-in-Ok-copy_found_to_end-clause-run t c = grind (arith, common_steps)
 
 pub names::read_first_segment-returns-then-begins_source-clause-reads : goal.names::read_first_segment-returns-then-begins_source-clause-reads
 names::read_first_segment-returns-then-begins_source-clause-reads t c =
@@ -575,15 +572,6 @@ specials::read_construction-returns-clause-reads t c =
           ∙ ap (λ (a : spec.ParserState). Some (shape joined_in c.in-Ok-join.value, a)) (sym ended),
     )
 
-pub types::read_cv-returns-in-CvFunction-clause-reads : goal.types::read_cv-returns-in-CvFunction-clause-reads
-types::read_cv-returns-in-CvFunction-clause-reads t c = grind (arith, buffers)
-
-pub types::read_expansion-returns-clause-saved : goal.types::read_expansion-returns-clause-saved
-types::read_expansion-returns-clause-saved t c = grind (arith, common_steps)
-
-pub types::read_params-returns-then-is_too_wide-clause-saved : goal.types::read_params-returns-then-is_too_wide-clause-saved
-types::read_params-returns-then-is_too_wide-clause-saved t c = grind (arith, typed_lists)
-
 pub types::read_pointer-returns-clause-saved : goal.types::read_pointer-returns-clause-saved
 types::read_pointer-returns-clause-saved t c = grind (arith, common_steps)
 
@@ -662,15 +650,6 @@ args::read_template_args-returns-in-Err-clause-reads t c = grind (arith, argumen
 pub args::read_template_args-overflow_sub-front : goal.args::read_template_args-overflow_sub-front
 args::read_template_args-overflow_sub-front t c = grind (arith, common_steps)
 
-pub args::read_template_args-returns-in-EndOfArguments-clause-run : goal.args::read_template_args-returns-in-EndOfArguments-clause-run
-args::read_template_args-returns-in-EndOfArguments-clause-run t c = grind (arith, argument_lists)
-
-pub args::read_template_args-end_argument-requires-clause-living : goal.args::read_template_args-end_argument-requires-clause-living
-args::read_template_args-end_argument-requires-clause-living t c = grind (arith, common_steps)
-
-pub args::read_template_args-up_to_end-requires-clause-inner : goal.args::read_template_args-up_to_end-requires-clause-inner
-args::read_template_args-up_to_end-requires-clause-inner t c = grind (arith, argument_lists)
-
 pub encodings::read_encoding-returns-in-Err-clause-reads : goal.encodings::read_encoding-returns-in-Err-clause-reads
 encodings::read_encoding-returns-in-Err-clause-reads t c = grind (arith, encodings)
 
@@ -695,9 +674,6 @@ expressions::read_expression-returns-in-Err-read-clause-reads t c = grind (arith
 pub expressions::read_expression-returns-clause-reads : goal.expressions::read_expression-returns-clause-reads
 expressions::read_expression-returns-clause-reads t c =
     checked c.check_width.result c.match-expression_case.reader c.check_width.ensures.fits (search rules) (λ narrow. grind (arith, expressions)) (λ wide. grind (arith, expressions))
-
-pub expressions::read_post-returns-clause-run : goal.expressions::read_post-returns-clause-run
-expressions::read_post-returns-clause-run t c = grind (arith, buffers)
 
 pub specials::read_thunk-returns-in-Err-clause-reads : goal.specials::read_thunk-returns-in-Err-clause-reads
 specials::read_thunk-returns-in-Err-clause-reads t c = grind (arith, thunks)
@@ -735,17 +711,8 @@ expressions::read_expr_primary-returns-in-Some-literal-clause-reads t c = grind 
 pub expressions::read_conditional-returns-clause-reads : goal.expressions::read_conditional-returns-clause-reads
 expressions::read_conditional-returns-clause-reads t c = grind (arith, common_steps)
 
-pub expressions::read_conditional-returns-clause-saved : goal.expressions::read_conditional-returns-clause-saved
-expressions::read_conditional-returns-clause-saved t c = grind (arith, buffers)
-
 pub args::read_template_arg-returns-in-Err-read-clause-reads : goal.args::read_template_arg-returns-in-Err-read-clause-reads
 args::read_template_arg-returns-in-Err-read-clause-reads t c = grind (arith, arguments)
-
-pub args::read_template_args-close_arguments-requires-clause-inner : goal.args::read_template_args-close_arguments-requires-clause-inner
-args::read_template_args-close_arguments-requires-clause-inner t c = grind (arith, argument_lists)
-
-pub specials::read_construction-returns-clause-run : goal.specials::read_construction-returns-clause-run
-specials::read_construction-returns-clause-run t c = grind (arith, words)
 
 pub specials::read_special_name-returns-in-TemporarySpecial-clause-reads : goal.specials::read_special_name-returns-in-TemporarySpecial-clause-reads
 specials::read_special_name-returns-in-TemporarySpecial-clause-reads t c = grind (arith, specials)

@@ -1,4 +1,3 @@
-use Rattle.demangle_text.proofs.Laws.{laws}
 use Rattle.std.proofs.Common.{arith}
 use Rattle.std.proofs.lemmas.Grind.{common_steps}
 use Rattle.std.proofs.Common.{rules, true, List, map, ap, ◌∙◌, refl, subst, IfOk}
@@ -36,7 +35,7 @@ returns-clause-appends c =
     c.open-mark.ensures.mark run c.close.ensures.closed c.close.ensures.stands
 
 pub returns-in-Err-append_piece-clause-shape : goal.returns-in-Err-append_piece-clause-shape
-returns-in-Err-append_piece-clause-shape c = grind (arith, laws)
+returns-in-Err-append_piece-clause-shape c = grind arith
 
 pub returns-clause-edit : goal.returns-clause-edit
 returns-clause-edit c = grind (arith, common_steps)

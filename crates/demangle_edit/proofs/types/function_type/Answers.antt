@@ -1,5 +1,3 @@
-use Rattle.demangle_edit.proofs.Declarators.{declarators}
-use Rattle.demangle_text.proofs.Laws.{laws}
 use Rattle.std.proofs.Common.{arith}
 use Rattle.std.proofs.lemmas.Grind.{common_steps}
 use Rattle.std.proofs.Common.{◌≡◌, false, map, codes, sym, ap, ◌∙◌, is_some}
@@ -41,7 +39,7 @@ pub declare-requires-clause-within : goal.declare-requires-clause-within
 declare-requires-clause-within c = grind (arith, common_steps)
 
 pub returns-clause-edit : goal.returns-clause-edit
-returns-clause-edit c = grind (arith, declarators, laws)
+returns-clause-edit c = grind arith
 
 pub returns-then-is_some : goal.returns-then-is_some
 returns-then-is_some c = grind arith

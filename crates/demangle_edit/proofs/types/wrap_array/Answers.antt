@@ -58,4 +58,4 @@ pub returns-in-Ok-insert_dimension : goal.returns-in-Ok-insert_dimension
 returns-in-Ok-insert_dimension c = grind arith
 
 pub returns-in-Ok-insert_dimension-2-clause-edit : goal.returns-in-Ok-insert_dimension-2-clause-edit
-returns-in-Ok-insert_dimension-2-clause-edit c = grind (arith, elements)
+returns-in-Ok-insert_dimension-2-clause-edit c = grind arith

@@ -4,7 +4,7 @@ use Rattle.std.proofs.lemmas.List.{length-set, get_or_default}
 use Rattle.std.proofs.lemmas.List.Elements.{AllWithin-more, AllWithin-more_set}
 use Rattle.demangle_text.specs.declared.pieces.Piece.{Piece}
 use Rattle.demangle_text.specs.Pieces.{IsApart, IsPiece, Extends, shape_in}
-use Rattle.demangle_text.proofs.States.{IsPiece-spilled, shape-spilled, replaced_lie, replaced_shapes, Extends-trans, states}
+use Rattle.demangle_text.proofs.States.{IsPiece-spilled, shape-spilled, replaced_lie, replaced_shapes, Extends-trans}
 use Rattle.demangle_text.proofs.Reaches.{within-apart}
 use Rattle.demangle_text.proofs.moves.spill_torn_of.Goals as goal
 use Rattle.demangle_text.proofs.moves.spill_torn_of.Goals.{then-is_torn+in-Ok, else-is_torn}
@@ -62,4 +62,4 @@ loop-i-preserved c =
     ]
 
 pub returns-in-Err : goal.returns-in-Err
-returns-in-Err c = grind (arith, states)
+returns-in-Err c = grind arith

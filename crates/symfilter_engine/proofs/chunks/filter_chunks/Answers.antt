@@ -72,7 +72,7 @@ chunks-preserved g c =
     let within : done ≤ end = omega (arith, c.in_ok-done.ensures.bound, ap (λ l. length (take end l)) same, length-take-le end all inside) in
     let long : length c.if-done-gt0.chunk.items ≡ length all =
     elim c.if-done-gt0.branch [
-      | then-done-gt0 w ↦ subst (λ v. length v.items ≡ length all) (sym w.chunk-is) (grind (arith, common_steps))
+      | then-done-gt0 w ↦ subst (λ v. length v.items ≡ length all) (sym w.chunk-is) (grind arith)
       | else-done-gt0 w ↦ ap (λ v. length v.items) w.chunk-is
     ] in
     let moved : take (end - done) c.if-done-gt0.chunk.items ≡ drop done (take end all) =
@@ -133,7 +133,7 @@ returns-then-end-kept-clause-memory g c = λ refused.
     (subst (λ l. 0 < length (take kept l)) c.deref.ensures.value (c.write_last.ensures.some refused)) (c.write_last.ensures.memory refused)
 
 pub returns-in_err-chunk-clause-outcome : goal.returns-in_err-chunk-clause-outcome
-returns-in_err-chunk-clause-outcome g c = grind (arith, common_steps)
+returns-in_err-chunk-clause-outcome g c = grind arith
 
 pub slice_bounds-write_last-end : goal.slice_bounds-write_last-end
 slice_bounds-write_last-end g c = grind (arith, common_steps)
@@ -142,7 +142,7 @@ pub write_last-requires-clause-unended : goal.write_last-requires-clause-unended
 write_last-requires-clause-unended g c = grind (arith, common_steps)
 
 pub returns-then-end-kept-clause-put : goal.returns-then-end-kept-clause-put
-returns-then-end-kept-clause-put g c = grind (arith, common_steps)
+returns-then-end-kept-clause-put g c = grind arith
 
 pub slice_bounds-write_chunk-end : goal.slice_bounds-write_chunk-end
 slice_bounds-write_chunk-end g c = grind (arith, common_steps)
@@ -154,16 +154,16 @@ pub copy_within-requires-clause-start_le_end : goal.copy_within-requires-clause-
 copy_within-requires-clause-start_le_end g c = grind (arith, common_steps)
 
 pub copy_within-requires-clause-in_bounds : goal.copy_within-requires-clause-in_bounds
-copy_within-requires-clause-in_bounds g c = grind (arith, common_steps)
+copy_within-requires-clause-in_bounds g c = grind arith
 
 pub copy_within-requires-clause-dest_in_bounds : goal.copy_within-requires-clause-dest_in_bounds
-copy_within-requires-clause-dest_in_bounds g c = grind (arith, common_steps)
+copy_within-requires-clause-dest_in_bounds g c = grind arith
 
 pub overflow_sub-kept : goal.overflow_sub-kept
 overflow_sub-kept g c = grind (arith, common_steps)
 
 pub same-demangler-in-chunks-2 : goal.same-demangler-in-chunks-2
-same-demangler-in-chunks-2 g c = grind (arith, common_steps)
+same-demangler-in-chunks-2 g c = grind arith
 
 pub chunks-smaller : goal.chunks-smaller
-chunks-smaller g c = grind (arith, common_steps)
+chunks-smaller g c = grind arith

@@ -10,8 +10,8 @@ returns-in-Ok-clause-ok g c =
     let count = c.in-Ok.count in
     let spare : kept < length c.if-kept-len.chunk.items =
     elim c.if-kept-len.branch [
-      | then-kept-len+in_ok-resize w ↦ subst (λ v. kept < length v.items) (sym w.chunk-is) (grind (arith, common_steps))
-      | else-kept-len w ↦ subst (λ v. kept < length v.items) (sym w.chunk-is) (grind (arith, common_steps))
+      | then-kept-len+in_ok-resize w ↦ subst (λ v. kept < length v.items) (sym w.chunk-is) (grind arith)
+      | else-kept-len w ↦ subst (λ v. kept < length v.items) (sym w.chunk-is) (grind arith)
     ] in
     let stays : take kept c.if-kept-len.chunk.items ≡ take kept c.args.chunk.now.items =
     elim c.if-kept-len.branch [

@@ -3,7 +3,6 @@ use Rattle.std.proofs.lemmas.List.{take-append-drop}
 use Rattle.std.proofs.lemmas.List.Elements.{All-append, All-same}
 use Rattle.std.specs.Prelude.{All}
 use Rattle.symfilter_engine.specs.Replaced.{IsWordByte}
-use Rattle.std.proofs.lemmas.Grind.{common_steps}
 use Rattle.symfilter_engine.proofs.ReplacedText.{whole_at}
 use Rattle.symfilter_engine.proofs.WordPlaces.{word_down}
 use Rattle.symfilter_engine.proofs.word_bounds.whole_words_len.Goals as goal
@@ -16,13 +15,13 @@ returns-clause-word c =
 
 pub returns-then-not-is_word_byte-clause-whole : goal.returns-then-not-is_word_byte-clause-whole
 returns-then-not-is_word_byte-clause-whole c =
-    whole_at c.args.bytes.now (c.loop-place.place - 1) (grind (arith, common_steps)) (sym c.is_word_byte.ensures.value ∙ c.if-not-is_word_byte.true)
+    whole_at c.args.bytes.now (c.loop-place.place - 1) (grind arith) (sym c.is_word_byte.ensures.value ∙ c.if-not-is_word_byte.true)
 
 pub loop-place-preserved : goal.loop-place-preserved
 loop-place-preserved c =
     let bytes = c.args.bytes.now in
     let place : ℕ = c.loop-place.place - 1 in
-    let inside : place < length bytes = grind (arith, common_steps) in
+    let inside : place < length bytes = grind arith in
     let more : suc place ≡ c.loop-place.place = omega arith in
     record {
       low = omega arith;

@@ -1,4 +1,3 @@
-use Rattle.std.proofs.lemmas.Grind.{common_steps}
 use Rattle.std.proofs.Common.{[], ◌≡◌, ◌+◌, min, ◌≤◌, ◌++◌, IfSome, IfNone, length, take, refl, sym, subst, arith, append-nil}
 use Rattle.std.proofs.lemmas.List.{length-take-le}
 use Rattle.std.proofs.lemmas.List.Elements.{All-take}
@@ -89,7 +88,7 @@ returns-clause-ok c =
     c.loop-more.invariant.ordered c.loop-more.invariant.inside c.loop-more.invariant.boundary c.loop-more.invariant.so_far c.in_default.ensures.none c.add.ensures.ok
 
 pub loop-more-smaller-in-Some-2 : goal.loop-more-smaller-in-Some-2
-loop-more-smaller-in-Some-2 c = grind (arith, common_steps)
+loop-more-smaller-in-Some-2 c = grind arith
 
 pub loop-more-smaller : goal.loop-more-smaller
-loop-more-smaller c = grind (arith, common_steps)
+loop-more-smaller c = grind arith

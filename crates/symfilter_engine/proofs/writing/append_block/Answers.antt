@@ -1,5 +1,4 @@
 use Rattle.std.proofs.Common.{arith}
-use Rattle.std.proofs.lemmas.Grind.{common_steps}
 use Rattle.std.proofs.Common.{◌≡◌, take, subst, rules}
 use Rattle.symfilter_engine.specs.Progress.{AppendsReplaced}
 use Rattle.symfilter_engine.proofs.LineEnds.{block_appended}
@@ -13,4 +12,4 @@ returns-clause-ok c =
     (subst (λ l. AppendsReplaced c.args.options text l c.append_words-2.new.output) kept c.in_ok-append_words.ensures.ok)
 
 pub block_len-len-requires-clause-some : goal.block_len-len-requires-clause-some
-block_len-len-requires-clause-some c = grind (arith, common_steps)
+block_len-len-requires-clause-some c = grind arith

@@ -1,26 +1,25 @@
 use Rattle.std.proofs.Common.{◌≢◌, [], length, ap, arith}
-use Rattle.std.proofs.lemmas.Bool.Decides.{nat_tests}
 use Rattle.std.proofs.lemmas.List.{nil_from_length}
 use Rattle.std.proofs.lemmas.Result.{on_ok_weaker, on_err_weaker}
 use Rattle.symfilter_engine.proofs.FilteredText.{at_fault, no_last, last_written, last_unwritten, last_begins, last_replaced, replaced_begins}
 use Rattle.symfilter_engine.proofs.writing.write_last.Goals as goal
 
 pub returns-then-is_empty-clause-ok : goal.returns-then-is_empty-clause-ok
-returns-then-is_empty-clause-ok g c = no_last c.args.placement c.args.last.now _ (nil_from_length c.args.last.now (grind (arith, nat_tests)))
+returns-then-is_empty-clause-ok g c = no_last c.args.placement c.args.last.now _ (nil_from_length c.args.last.now (grind arith))
 
 pub returns-in_err-answer-in-Lines-clause-err : goal.returns-in_err-answer-in-Lines-clause-err
 returns-in_err-answer-in-Lines-clause-err g c = at_fault _ (last_unwritten c.args.placement c.args.last.now _)
 
 pub returns-in_ok-answer-in-Lines-clause-ok : goal.returns-in_ok-answer-in-Lines-clause-ok
 returns-in_ok-answer-in-Lines-clause-ok g c =
-    let some : c.args.last.now ≢ [] = λ e. let n = ap length e in grind (arith, nat_tests) in
+    let some : c.args.last.now ≢ [] = λ e. let n = ap length e in grind arith in
     on_ok_weaker _ (λ writes. last_written c.args.placement _ c.args.last.now c.in_ok-answer-in-Lines.answer.now (g.W.Sink.taken c.args.sink.now)
     (g.W.Sink.taken c.write_all.new.sink) c.in-Lines.is some (c.requires.unended _ c.in-Lines.is) c.in_ok-answer-in-Lines.ensures writes)
     c.write_all.ensures.ok
 
 pub returns-in_ok-answer-in-Lines-clause-err : goal.returns-in_ok-answer-in-Lines-clause-err
 returns-in_ok-answer-in-Lines-clause-err g c =
-    let some : c.args.last.now ≢ [] = λ e. let n = ap length e in grind (arith, nat_tests) in
+    let some : c.args.last.now ≢ [] = λ e. let n = ap length e in grind arith in
     on_err_weaker _ (λ writes. last_begins c.args.placement _ c.args.last.now c.in_ok-answer-in-Lines.answer.now (g.W.Sink.taken c.args.sink.now)
     (g.W.Sink.taken c.write_all.new.sink) c.in-Lines.is some (c.requires.unended _ c.in-Lines.is) c.in_ok-answer-in-Lines.ensures writes)
     c.write_all.ensures.err

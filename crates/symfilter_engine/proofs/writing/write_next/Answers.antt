@@ -1,5 +1,4 @@
 use Rattle.std.proofs.Common.{subst, arith}
-use Rattle.std.proofs.lemmas.Grind.{common_steps}
 use Rattle.symfilter_engine.specs.Progress.{WritesFrontOfBytes}
 use Rattle.symfilter_engine.proofs.FilteredText.{at_fault, lines_unwritten, lines_begin}
 use Rattle.symfilter_engine.proofs.writing.write_next.Goals as goal
@@ -20,4 +19,4 @@ returns-in_err-write_all-2-clause-err g c =
     (subst (λ l. WritesFrontOfBytes l (g.W.Sink.taken c.args.sink.now) (g.W.Sink.taken c.write_all-2.new.sink)) c.as_slice.ensures.value c.in_err-write_all-2.ensures.err))
 
 pub returns-clause-ok : goal.returns-clause-ok
-returns-clause-ok g c = grind (arith, common_steps)
+returns-clause-ok g c = grind arith

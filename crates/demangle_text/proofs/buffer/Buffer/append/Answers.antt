@@ -1,5 +1,5 @@
 -- The bytes go after the text, which ends the output then, and the outline is that of the shape with the bytes.
-use Rattle.demangle_text.proofs.States.{states, internals}
+use Rattle.demangle_text.proofs.States.{internals}
 use Rattle.std.proofs.lemmas.Grind.{common_steps, elements}
 use Rattle.std.proofs.Common.{◌≡◌, ◌-◌, ◌++◌, ℕ, OnOk, OnErr, length, refl, sym, ap, ◌∙◌, subst, arith}
 use Rattle.demangle_text.specs.declared.pieces.Place.TheVariants.{End}
@@ -88,7 +88,7 @@ returns-clause-edit_of c =
 
 pub ensure_at_end-requires-clause-ordered : goal.ensure_at_end-requires-clause-ordered
 unfolding internals
-ensure_at_end-requires-clause-ordered c = grind (arith, states)
+ensure_at_end-requires-clause-ordered c = grind arith
 
 pub truncated_on_err-requires : goal.truncated_on_err-requires
 unfolding internals

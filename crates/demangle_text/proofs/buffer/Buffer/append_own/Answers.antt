@@ -2,7 +2,7 @@
 use Rattle.demangle_text.specs.State.{IsAsOld, IsLiving, IsOlder, Stands, frame, frame_start, inside, main_bytes, outermost, outside, saved, scopes}
 use Rattle.std.proofs.lemmas.Grind.{common_steps}
 use Rattle.std.proofs.Common.{◌≡◌, ◌+◌, ◌-◌, ◌++◌, ℕ, List, length, refl, ap, ◌∙◌, subst, arith}
-use Rattle.demangle_text.proofs.States.{internals, states}
+use Rattle.demangle_text.proofs.States.{internals}
 use Rattle.std.proofs.lemmas.List.{length-append}
 use Rattle.demangle_text.specs.declared.pieces.Place.TheVariants.{End}
 use Rattle.demangle_text.specs.Pieces.{Store, IsAt, outline_of, own_at, own_text, layout_with}
@@ -73,4 +73,4 @@ with_bytes-requires-clause-within c = grind (arith, common_steps)
 
 pub returns-in-Err : goal.returns-in-Err
 unfolding internals
-returns-in-Err c = grind (arith, states)
+returns-in-Err c = grind arith

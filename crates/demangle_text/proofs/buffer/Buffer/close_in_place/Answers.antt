@@ -20,19 +20,19 @@ returns-then-piece-len-clause-output c =
 
 pub invariant_of-self : goal.invariant_of-self
 unfolding internals
-invariant_of-self c = grind (arith, states)
+invariant_of-self c = grind arith
 
 pub returns-then-piece-len-clause-shape : goal.returns-then-piece-len-clause-shape
 unfolding internals
-returns-then-piece-len-clause-shape c = grind (arith, states)
+returns-then-piece-len-clause-shape c = grind arith
 
 pub returns-then-piece-len-clause-closed : goal.returns-then-piece-len-clause-closed
 unfolding internals
-returns-then-piece-len-clause-closed c = grind (arith, states)
+returns-then-piece-len-clause-closed c = grind arith
 
 pub invariant_of-self-2 : goal.invariant_of-self-2
 unfolding internals
-invariant_of-self-2 c = grind (arith, states)
+invariant_of-self-2 c = grind arith
 
 pub returns-clause-shape : goal.returns-clause-shape
 unfolding internals
@@ -40,7 +40,7 @@ returns-clause-shape c = grind (arith, common_steps)
 
 pub returns-clause-closed : goal.returns-clause-closed
 unfolding internals
-returns-clause-closed c = grind (arith, states)
+returns-clause-closed c = grind arith
 
 pub returns-clause-output : goal.returns-clause-output
 unfolding internals

@@ -23,4 +23,4 @@ returns-clause-output c = grind (arith, states)
 
 pub returns-in-Err : goal.returns-in-Err
 unfolding internals
-returns-in-Err c = grind (arith, states)
+returns-in-Err c = grind arith

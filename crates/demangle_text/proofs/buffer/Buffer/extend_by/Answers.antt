@@ -1,5 +1,5 @@
 -- The bytes and the other text go after the text that ends the output then.
-use Rattle.demangle_text.proofs.States.{states, internals}
+use Rattle.demangle_text.proofs.States.{internals}
 use Rattle.demangle_text.specs.State.{IsAsOld, IsOlder, Stands, frame, frame_start, inside, main_bytes, outermost, outside, saved, scopes, shape}
 use Rattle.std.proofs.Common.{arith}
 use Rattle.std.proofs.lemmas.Grind.{common_steps}
@@ -78,7 +78,7 @@ returns-clause-splice c =
 
 pub invariant_of-self : goal.invariant_of-self
 unfolding IsLiving shape main_bytes Stands frame_start frame outermost IsOlder IsAsOld inside outside saved scopes
-invariant_of-self c = grind (arith, states)
+invariant_of-self c = grind arith
 
 pub truncated_on_err-requires : goal.truncated_on_err-requires
 unfolding IsLiving shape main_bytes Stands frame_start frame outermost IsOlder IsAsOld inside outside saved scopes

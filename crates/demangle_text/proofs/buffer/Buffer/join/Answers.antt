@@ -3,7 +3,7 @@
 use Rattle.std.proofs.Common.{rules, ◌-◌, length, ap, ◌∙◌, subst, arith, sym}
 use Rattle.std.proofs.lemmas.Bool.{false≢true}
 use Rattle.std.proofs.lemmas.Grind.{common_steps}
-use Rattle.demangle_text.proofs.States.{internals, states}
+use Rattle.demangle_text.proofs.States.{internals}
 use Rattle.demangle_text.specs.Pieces.{IsAt, IsTail, IsAdjacent, IsJoint, EndsBy, whole_outline}
 use Rattle.demangle_text.specs.State.{IsLiving}
 use Rattle.demangle_text.specs.View.{store_of}
@@ -102,7 +102,7 @@ returns-clause-join_of c =
 
 pub returns-in-Err : goal.returns-in-Err
 unfolding internals
-returns-in-Err c = grind (arith, states)
+returns-in-Err c = grind arith
 
 pub whole_at-requires : goal.whole_at-requires
 unfolding internals
@@ -113,11 +113,11 @@ returns-then-is_tail-2-clause-edit c = grind arith
 
 pub insert_piece-requires : goal.insert_piece-requires
 unfolding internals
-insert_piece-requires c = grind (arith, states)
+insert_piece-requires c = grind arith
 
 pub returns-in-Err-insert_piece : goal.returns-in-Err-insert_piece
 unfolding internals
-returns-in-Err-insert_piece c = grind (arith, states)
+returns-in-Err-insert_piece c = grind arith
 
 pub whole_at-requires-then-first : goal.whole_at-requires-then-first
 unfolding internals
@@ -128,7 +128,7 @@ returns-then-first-clause-edit c = grind arith
 
 pub returns-in-Err-extend_by : goal.returns-in-Err-extend_by
 unfolding internals
-returns-in-Err-extend_by c = grind (arith, states)
+returns-in-Err-extend_by c = grind arith
 
 pub returns-clause-edit : goal.returns-clause-edit
 returns-clause-edit c = grind arith

@@ -5,7 +5,6 @@ use Rattle.demangle_text.specs.Pieces.{Store, IsSpilled}
 use Rattle.growing_text.specs.Gap.{HasGap}
 use Rattle.demangle_text.specs.View.{store_of}
 use Rattle.demangle_text.specs.State.{KeepsAll}
-use Rattle.demangle_text.proofs.States.{states}
 use Rattle.demangle_text.proofs.Carried.{KeepsAll-spilled}
 use Rattle.demangle_text.proofs.Gaps.{length-gap, IsStore-opened, IsGap-opened}
 use Rattle.demangle_text.proofs.buffer.Buffer.open_gap.Goals as goal
@@ -101,7 +100,7 @@ pub spill_torn-requires : goal.spill_torn-requires
 spill_torn-requires c = grind arith
 
 pub invariant_of-self-in-Err-spill_torn : goal.invariant_of-self-in-Err-spill_torn
-invariant_of-self-in-Err-spill_torn c = grind (arith, states)
+invariant_of-self-in-Err-spill_torn c = grind arith
 
 pub open_gap-requires : goal.open_gap-requires
 open_gap-requires c = grind arith

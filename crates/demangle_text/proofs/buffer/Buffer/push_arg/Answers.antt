@@ -1,6 +1,6 @@
 -- An argument after all others.
 use Rattle.std.proofs.Common.{◌<◌, length, refl, sym, subst, ap, arith}
-use Rattle.demangle_text.proofs.States.{internals, states}
+use Rattle.demangle_text.proofs.States.{internals}
 use Rattle.demangle_text.specs.Pieces.{Store}
 use Rattle.demangle_text.specs.View.{store_of}
 use Rattle.demangle_text.specs.State.{IsLiving, scopes}
@@ -24,4 +24,4 @@ invariant_of-self c = grind arith
 
 pub returns-clause-kept : goal.returns-clause-kept
 unfolding internals
-returns-clause-kept c = grind (arith, states)
+returns-clause-kept c = grind arith

@@ -9,4 +9,4 @@ pub returns-clause-run : goal.returns-clause-run
 returns-clause-run c = grind (arith, common_steps)
 
 pub close-requires-clause-innermost : goal.close-requires-clause-innermost
-close-requires-clause-innermost c = grind (arith, common_steps)
+close-requires-clause-innermost c = grind arith

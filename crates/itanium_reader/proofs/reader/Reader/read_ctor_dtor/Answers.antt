@@ -1,6 +1,5 @@
 use Rattle.std.proofs.Common.{arith}
-use Rattle.std.proofs.lemmas.Grind.{common_steps}
 use Rattle.itanium_reader.proofs.reader.Reader.read_ctor_dtor.Goals as goal
 
 pub returns-clause-last : goal.returns-clause-last
-returns-clause-last c = grind (arith, common_steps)
+returns-clause-last c = grind arith

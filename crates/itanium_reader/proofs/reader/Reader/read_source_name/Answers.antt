@@ -6,4 +6,4 @@ pub returns-clause-reads : goal.returns-clause-reads
 returns-clause-reads c = grind (arith, common_steps)
 
 pub returns-clause-last : goal.returns-clause-last
-returns-clause-last c = grind (arith, common_steps)
+returns-clause-last c = grind arith
