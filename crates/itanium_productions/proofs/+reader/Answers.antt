@@ -885,3 +885,313 @@ encodings::read_entity-returns-clause-reads t c =
           (built ∙ ap (λ (f : Shape). enclosed f (shape closed.buffer.value closed.found)) (front.shape_is ∙ opened.lives.shape_is))
           (search rules),
     )
+
+-- What follows only saves time: the check proves these goals without it, clause by clause.
+pub args::read_argument_pack-returns-in-Err-push : goal.args::read_argument_pack-returns-in-Err-push
+args::read_argument_pack-returns-in-Err-push t c = grind arith
+
+pub args::read_argument_pack-returns-in-Err-separate_list : goal.args::read_argument_pack-returns-in-Err-separate_list
+args::read_argument_pack-returns-in-Err-separate_list t c = grind arith
+
+pub args::read_argument_pack-returns-in-Err-append_piece : goal.args::read_argument_pack-returns-in-Err-append_piece
+args::read_argument_pack-returns-in-Err-append_piece t c = grind arith
+
+pub args::read_template_args-returns-in-Err-open_scope_if : goal.args::read_template_args-returns-in-Err-open_scope_if
+args::read_template_args-returns-in-Err-open_scope_if t c = grind arith
+
+pub args::read_template_args-returns-in-Err-open_arguments : goal.args::read_template_args-returns-in-Err-open_arguments
+args::read_template_args-returns-in-Err-open_arguments t c = grind arith
+
+pub args::read_template_args-returns-in-Err-close_arguments : goal.args::read_template_args-returns-in-Err-close_arguments
+args::read_template_args-returns-in-Err-close_arguments t c = grind arith
+
+pub args::read_template_args-returns-in-Err-separate : goal.args::read_template_args-returns-in-Err-separate
+args::read_template_args-returns-in-Err-separate t c = grind arith
+
+pub args::read_template_args-returns-in-Err-end_argument : goal.args::read_template_args-returns-in-Err-end_argument
+args::read_template_args-returns-in-Err-end_argument t c = grind arith
+
+pub encodings::end_encoding-returns-in-Err : goal.encodings::end_encoding-returns-in-Err
+encodings::end_encoding-returns-in-Err t c = grind arith
+
+pub encodings::end_encoding-returns-in-Err-read_params : goal.encodings::end_encoding-returns-in-Err-read_params
+encodings::end_encoding-returns-in-Err-read_params t c = grind arith
+
+pub encodings::end_encoding-returns : goal.encodings::end_encoding-returns
+encodings::end_encoding-returns t c = grind arith
+
+pub encodings::read_entity-returns-in-StringLiteralEntity : goal.encodings::read_entity-returns-in-StringLiteralEntity
+encodings::read_entity-returns-in-StringLiteralEntity t c = grind arith
+
+pub encodings::read_entity-returns-in_default : goal.encodings::read_entity-returns-in_default
+encodings::read_entity-returns-in_default t c = grind arith
+
+pub encodings::read_entity-returns-in-UnreadableEntity : goal.encodings::read_entity-returns-in-UnreadableEntity
+encodings::read_entity-returns-in-UnreadableEntity t c = grind arith
+
+pub encodings::read_entity-returns-in-Err-read_name : goal.encodings::read_entity-returns-in-Err-read_name
+encodings::read_entity-returns-in-Err-read_name t c = grind arith
+
+pub encodings::read_entity-returns-in-Err-close_found : goal.encodings::read_entity-returns-in-Err-close_found
+encodings::read_entity-returns-in-Err-close_found t c = grind arith
+
+pub encodings::read_return-returns-in-Err : goal.encodings::read_return-returns-in-Err
+encodings::read_return-returns-in-Err t c = grind arith
+
+pub encodings::read_return-returns-in-NoReturnType : goal.encodings::read_return-returns-in-NoReturnType
+encodings::read_return-returns-in-NoReturnType t c = grind arith
+
+pub expressions::read_address-returns-in-Err : goal.expressions::read_address-returns-in-Err
+expressions::read_address-returns-in-Err t c = grind arith
+
+pub expressions::read_address-returns : goal.expressions::read_address-returns
+expressions::read_address-returns t c = grind arith
+
+pub expressions::read_binary-returns-in-Err : goal.expressions::read_binary-returns-in-Err
+expressions::read_binary-returns-in-Err t c = grind arith
+
+pub expressions::read_binary-returns-in-Err-read_framed : goal.expressions::read_binary-returns-in-Err-read_framed
+expressions::read_binary-returns-in-Err-read_framed t c = grind arith
+
+pub expressions::read_binary-returns : goal.expressions::read_binary-returns
+expressions::read_binary-returns t c = grind arith
+
+pub expressions::read_conditional-returns-in-Err : goal.expressions::read_conditional-returns-in-Err
+expressions::read_conditional-returns-in-Err t c = grind arith
+
+pub expressions::read_conditional-returns-in-Err-read_framed : goal.expressions::read_conditional-returns-in-Err-read_framed
+expressions::read_conditional-returns-in-Err-read_framed t c = grind arith
+
+pub expressions::read_conditional-returns-in-Err-print_binary : goal.expressions::read_conditional-returns-in-Err-print_binary
+expressions::read_conditional-returns-in-Err-print_binary t c = grind arith
+
+pub expressions::read_conditional-returns-in-Err-read_framed-2 : goal.expressions::read_conditional-returns-in-Err-read_framed-2
+expressions::read_conditional-returns-in-Err-read_framed-2 t c = grind arith
+
+pub expressions::read_greater-returns-in-Err : goal.expressions::read_greater-returns-in-Err
+expressions::read_greater-returns-in-Err t c = grind arith
+
+pub expressions::read_greater-returns-in-Err-read_framed : goal.expressions::read_greater-returns-in-Err-read_framed
+expressions::read_greater-returns-in-Err-read_framed t c = grind arith
+
+pub expressions::read_greater-returns : goal.expressions::read_greater-returns
+expressions::read_greater-returns t c = grind arith
+
+pub expressions::read_operand-returns-in-Err : goal.expressions::read_operand-returns-in-Err
+expressions::read_operand-returns-in-Err t c = grind arith
+
+pub expressions::read_operand-returns : goal.expressions::read_operand-returns
+expressions::read_operand-returns t c = grind arith
+
+pub expressions::read_post-returns-in-Err : goal.expressions::read_post-returns-in-Err
+expressions::read_post-returns-in-Err t c = grind arith
+
+pub expressions::read_post-returns : goal.expressions::read_post-returns
+expressions::read_post-returns t c = grind arith
+
+pub expressions::read_pre-returns : goal.expressions::read_pre-returns
+expressions::read_pre-returns t c = grind arith
+
+pub expressions::read_unary-returns : goal.expressions::read_unary-returns
+expressions::read_unary-returns t c = grind arith
+
+pub frames::read_framed-returns-in-Err : goal.frames::read_framed-returns-in-Err
+frames::read_framed-returns-in-Err t c = grind arith
+
+pub frames::read_worded-returns-in-Err-read_framed : goal.frames::read_worded-returns-in-Err-read_framed
+frames::read_worded-returns-in-Err-read_framed t c = grind arith
+
+pub frames::read_worded-returns : goal.frames::read_worded-returns
+frames::read_worded-returns t c = grind arith
+
+pub names::read_closure_type_name-returns-in-Err-read_params : goal.names::read_closure_type_name-returns-in-Err-read_params
+names::read_closure_type_name-returns-in-Err-read_params t c = grind arith
+
+pub names::read_closure_type_name-returns : goal.names::read_closure_type_name-returns
+names::read_closure_type_name-returns t c = grind arith
+
+pub names::read_first_segment-returns-in-Err-read_template_param : goal.names::read_first_segment-returns-in-Err-read_template_param
+names::read_first_segment-returns-in-Err-read_template_param t c = grind arith
+
+pub names::read_first_segment-returns-in-Err-copy_found_to_end : goal.names::read_first_segment-returns-in-Err-copy_found_to_end
+names::read_first_segment-returns-in-Err-copy_found_to_end t c = grind arith
+
+pub names::read_first_segment-returns-in-Err-read_std : goal.names::read_first_segment-returns-in-Err-read_std
+names::read_first_segment-returns-in-Err-read_std t c = grind arith
+
+pub names::read_first_segment-returns-in-Err-read_substitution : goal.names::read_first_segment-returns-in-Err-read_substitution
+names::read_first_segment-returns-in-Err-read_substitution t c = grind arith
+
+pub names::read_first_segment-returns-in-Err-copy_found_to_end-2 : goal.names::read_first_segment-returns-in-Err-copy_found_to_end-2
+names::read_first_segment-returns-in-Err-copy_found_to_end-2 t c = grind arith
+
+pub names::read_first_segment-returns-in-Err-read_unqualified_name : goal.names::read_first_segment-returns-in-Err-read_unqualified_name
+names::read_first_segment-returns-in-Err-read_unqualified_name t c = grind arith
+
+pub names::read_first_segment-returns-in-Ok-copy_found_to_end : goal.names::read_first_segment-returns-in-Ok-copy_found_to_end
+names::read_first_segment-returns-in-Ok-copy_found_to_end t c = grind arith
+
+pub names::read_first_segment-returns-in-Ok-read_std : goal.names::read_first_segment-returns-in-Ok-read_std
+names::read_first_segment-returns-in-Ok-read_std t c = grind arith
+
+pub names::read_first_segment-returns-in-Ok-copy_found_to_end-2 : goal.names::read_first_segment-returns-in-Ok-copy_found_to_end-2
+names::read_first_segment-returns-in-Ok-copy_found_to_end-2 t c = grind arith
+
+pub names::read_first_segment-returns-in-Ok-read_unqualified_name : goal.names::read_first_segment-returns-in-Ok-read_unqualified_name
+names::read_first_segment-returns-in-Ok-read_unqualified_name t c = grind arith
+
+pub names::read_name-returns-in-Err-print_quals : goal.names::read_name-returns-in-Err-print_quals
+names::read_name-returns-in-Err-print_quals t c = grind arith
+
+pub names::read_ordinary_name-returns-in-Err : goal.names::read_ordinary_name-returns-in-Err
+names::read_ordinary_name-returns-in-Err t c = grind arith
+
+pub names::read_ordinary_name-returns-in-SourceName : goal.names::read_ordinary_name-returns-in-SourceName
+names::read_ordinary_name-returns-in-SourceName t c = grind arith
+
+pub names::read_ordinary_name-returns-in-UnnamedTypeName : goal.names::read_ordinary_name-returns-in-UnnamedTypeName
+names::read_ordinary_name-returns-in-UnnamedTypeName t c = grind arith
+
+pub names::read_ordinary_name-returns-in-LambdaName : goal.names::read_ordinary_name-returns-in-LambdaName
+names::read_ordinary_name-returns-in-LambdaName t c = grind arith
+
+pub names::read_ordinary_name-returns-in-Ok : goal.names::read_ordinary_name-returns-in-Ok
+names::read_ordinary_name-returns-in-Ok t c = grind arith
+
+pub names::read_ordinary_name-returns-in-LiteralOperatorName : goal.names::read_ordinary_name-returns-in-LiteralOperatorName
+names::read_ordinary_name-returns-in-LiteralOperatorName t c = grind arith
+
+pub names::read_ordinary_name-returns-in-OperatorName : goal.names::read_ordinary_name-returns-in-OperatorName
+names::read_ordinary_name-returns-in-OperatorName t c = grind arith
+
+pub names::read_ordinary_name-returns-in-UnreadableName : goal.names::read_ordinary_name-returns-in-UnreadableName
+names::read_ordinary_name-returns-in-UnreadableName t c = grind arith
+
+pub names::read_ordinary_segment-returns-in-Err-read_ordinary_name : goal.names::read_ordinary_segment-returns-in-Err-read_ordinary_name
+names::read_ordinary_segment-returns-in-Err-read_ordinary_name t c = grind arith
+
+pub names::read_ordinary_segment-returns-in-Err-close_found : goal.names::read_ordinary_segment-returns-in-Err-close_found
+names::read_ordinary_segment-returns-in-Err-close_found t c = grind arith
+
+pub names::read_segments-returns-in-Err : goal.names::read_segments-returns-in-Err
+names::read_segments-returns-in-Err t c = grind arith
+
+pub names::read_segments-returns-in-Err-save_if : goal.names::read_segments-returns-in-Err-save_if
+names::read_segments-returns-in-Err-save_if t c = grind arith
+
+pub names::read_segments-returns-in-Err-save_if-2 : goal.names::read_segments-returns-in-Err-save_if-2
+names::read_segments-returns-in-Err-save_if-2 t c = grind arith
+
+pub names::read_unscoped_name-returns-in-Err : goal.names::read_unscoped_name-returns-in-Err
+names::read_unscoped_name-returns-in-Err t c = grind arith
+
+pub names::read_unscoped_name-returns-in-Err-read_substitution : goal.names::read_unscoped_name-returns-in-Err-read_substitution
+names::read_unscoped_name-returns-in-Err-read_substitution t c = grind arith
+
+pub names::read_unscoped_name-returns-in-NoneAttached : goal.names::read_unscoped_name-returns-in-NoneAttached
+names::read_unscoped_name-returns-in-NoneAttached t c = grind arith
+
+pub names::read_unscoped_name-returns-in-ArgsAttached : goal.names::read_unscoped_name-returns-in-ArgsAttached
+names::read_unscoped_name-returns-in-ArgsAttached t c = grind arith
+
+pub names::read_unscoped_name-returns-in-Err-read : goal.names::read_unscoped_name-returns-in-Err-read
+names::read_unscoped_name-returns-in-Err-read t c = grind arith
+
+pub names::read_unscoped_name-returns-in-Err-save_found : goal.names::read_unscoped_name-returns-in-Err-save_found
+names::read_unscoped_name-returns-in-Err-save_found t c = grind arith
+
+pub names::read_unscoped_name-returns-in-NoneAttached-attached_case : goal.names::read_unscoped_name-returns-in-NoneAttached-attached_case
+names::read_unscoped_name-returns-in-NoneAttached-attached_case t c = grind arith
+
+pub names::read_unscoped_name-returns-in-Ok-save_found : goal.names::read_unscoped_name-returns-in-Ok-save_found
+names::read_unscoped_name-returns-in-Ok-save_found t c = grind arith
+
+pub specials::read_construction-returns-in-Err : goal.specials::read_construction-returns-in-Err
+specials::read_construction-returns-in-Err t c = grind arith
+
+pub specials::read_construction-returns-in_default : goal.specials::read_construction-returns-in_default
+specials::read_construction-returns-in_default t c = grind arith
+
+pub specials::read_construction-returns-in-Err-read_framed : goal.specials::read_construction-returns-in-Err-read_framed
+specials::read_construction-returns-in-Err-read_framed t c = grind arith
+
+pub specials::read_temporary-returns-in-Err : goal.specials::read_temporary-returns-in-Err
+specials::read_temporary-returns-in-Err t c = grind arith
+
+pub specials::read_temporary-returns : goal.specials::read_temporary-returns
+specials::read_temporary-returns t c = grind arith
+
+pub specials::read_thunk-returns-in-Err-close_found : goal.specials::read_thunk-returns-in-Err-close_found
+specials::read_thunk-returns-in-Err-close_found t c = grind arith
+
+pub specials::read_thunk-returns-in-Err-join_words : goal.specials::read_thunk-returns-in-Err-join_words
+specials::read_thunk-returns-in-Err-join_words t c = grind arith
+
+pub types::read_array_type-returns-in_default : goal.types::read_array_type-returns-in_default
+types::read_array_type-returns-in_default t c = grind arith
+
+pub types::read_array_type-returns-in-Err : goal.types::read_array_type-returns-in-Err
+types::read_array_type-returns-in-Err t c = grind arith
+
+pub types::read_array_type-returns-in_default-2 : goal.types::read_array_type-returns-in_default-2
+types::read_array_type-returns-in_default-2 t c = grind arith
+
+pub types::read_array_type-returns : goal.types::read_array_type-returns
+types::read_array_type-returns t c = grind arith
+
+pub types::read_cv-returns-in-Err : goal.types::read_cv-returns-in-Err
+types::read_cv-returns-in-Err t c = grind arith
+
+pub types::read_cv-returns-in-CvFunction : goal.types::read_cv-returns-in-CvFunction
+types::read_cv-returns-in-CvFunction t c = grind arith
+
+pub types::read_cv-returns-in-Ok-wrap_cv : goal.types::read_cv-returns-in-Ok-wrap_cv
+types::read_cv-returns-in-Ok-wrap_cv t c = grind arith
+
+pub types::read_elaborated-returns-in-Err : goal.types::read_elaborated-returns-in-Err
+types::read_elaborated-returns-in-Err t c = grind arith
+
+pub types::read_expansion-returns-in-Err : goal.types::read_expansion-returns-in-Err
+types::read_expansion-returns-in-Err t c = grind arith
+
+pub types::read_expansion-returns : goal.types::read_expansion-returns
+types::read_expansion-returns t c = grind arith
+
+pub types::read_function_type-returns-in-Err : goal.types::read_function_type-returns-in-Err
+types::read_function_type-returns-in-Err t c = grind arith
+
+pub types::read_function_type-returns-in_default : goal.types::read_function_type-returns-in_default
+types::read_function_type-returns-in_default t c = grind arith
+
+pub types::read_function_type-returns-in-Err-read_params : goal.types::read_function_type-returns-in-Err-read_params
+types::read_function_type-returns-in-Err-read_params t c = grind arith
+
+pub types::read_function_type-returns-in-ExternFunction : goal.types::read_function_type-returns-in-ExternFunction
+types::read_function_type-returns-in-ExternFunction t c = grind arith
+
+pub types::read_params-returns-in-NoParams : goal.types::read_params-returns-in-NoParams
+types::read_params-returns-in-NoParams t c = grind arith
+
+pub types::read_pointer-returns-in-Err : goal.types::read_pointer-returns-in-Err
+types::read_pointer-returns-in-Err t c = grind arith
+
+pub types::read_pointer_to_member_type-returns-in-Err : goal.types::read_pointer_to_member_type-returns-in-Err
+types::read_pointer_to_member_type-returns-in-Err t c = grind arith
+
+pub types::read_pointer_to_member_type-returns-in-Err-read_framed : goal.types::read_pointer_to_member_type-returns-in-Err-read_framed
+types::read_pointer_to_member_type-returns-in-Err-read_framed t c = grind arith
+
+pub types::read_pointer_to_member_type-returns : goal.types::read_pointer_to_member_type-returns
+types::read_pointer_to_member_type-returns t c = grind arith
+
+pub types::read_type-returns-in-Err-save_found : goal.types::read_type-returns-in-Err-save_found
+types::read_type-returns-in-Err-save_found t c = grind arith
+
+pub types::read_type_attached-returns-in-Err : goal.types::read_type_attached-returns-in-Err
+types::read_type_attached-returns-in-Err t c = grind arith
+
+pub types::read_type_attached-returns-in-NoneAttached : goal.types::read_type_attached-returns-in-NoneAttached
+types::read_type_attached-returns-in-NoneAttached t c = grind arith
+
+pub types::read_type_attached-returns-in-Ok : goal.types::read_type_attached-returns-in-Ok
+types::read_type_attached-returns-in-Ok t c = grind arith

@@ -1,3 +1,4 @@
+use Rattle.std.proofs.Common.{arith}
 use Rattle.std.proofs.Common.{◌≡◌, ◌+◌, ◌-◌, List, ℕ, [], true, false, length, take, drop, rules, refl, sym, ap, subst, ◌∙◌}
 use Rattle.std.proofs.lemmas.List.{take_rest, drop-drop}
 use Rattle.std.proofs.Math.Seq.{drop-length}
@@ -126,3 +127,16 @@ returns-in_ok-write_all-in-Words-2-clause-ok g c =
     (take_rest bytes n) c.in_ok-write_all-in-Words.ensures.ok c.in_ok-write_whole-in-Words.ensures.ok)
     (word_passed c.in-Words.options (drop whole rest) _ _ c.whole_words_len-whole.ensures.word plain
     (subst (Appends (g.W.Sink.taken c.write_whole-in-Words.new.sink) (g.W.Sink.taken c.write_all-in-Words.new.sink)) same c.in_ok-write_all-in-Words-2.ensures.ok))))
+
+-- What follows only saves time: the check proves these goals without it, clause by clause.
+pub write_whole-requires : goal.write_whole-requires
+write_whole-requires g c = grind arith
+
+pub write_whole-requires-in-Words : goal.write_whole-requires-in-Words
+write_whole-requires-in-Words g c = grind arith
+
+pub write_all-requires : goal.write_all-requires
+write_all-requires g c = grind arith
+
+pub write_all-requires-in-Words : goal.write_all-requires-in-Words
+write_all-requires-in-Words g c = grind arith

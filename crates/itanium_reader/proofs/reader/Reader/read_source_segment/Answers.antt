@@ -1,3 +1,4 @@
+use Rattle.std.proofs.Common.{arith}
 use Rattle.std.proofs.Common.{◌≡◌, ◌-◌, length, rules, sym}
 use Rattle.std.specs.Prelude.{take, drop, slice_range}
 use Rattle.std.proofs.Math.Seq.{take-length}
@@ -18,3 +19,13 @@ returns-clause-reads c =
     gives_same _ _ c.read_tags.ensures.reads
     (source_in_read parent (spec.save_if c.args.candidate parent (state c.args.self.now)) {name = slice_range bytes c.in-Some.from to} {rest = drop to bytes} {mid = state c.save_if-2.new.self}
     (search rules) (search (rules, named_is)) (c.in-Ok-save_if.ensures {u = tt}).state (search (rules, all)))
+
+-- What follows only saves time: the check proves these goals without it, clause by clause.
+pub returns-in-Err : goal.returns-in-Err
+returns-in-Err c = grind arith
+
+pub returns-in_default : goal.returns-in_default
+returns-in_default c = grind arith
+
+pub returns-in-Err-save_if : goal.returns-in-Err-save_if
+returns-in-Err-save_if c = grind arith
