@@ -15,7 +15,7 @@ use Rattle.demangle_text.specs.declared.buffer.Buffer.{Buffer}
 use Rattle.demangle_edit.proofs.Built.{appended_text}
 use Rattle.itanium_syntax.specs.Offsets.{past_base_offset}
 use Rattle.demangle_text.proofs.Laws.{runs, IsRun-edit, IsRun-same, IsRun-trans, IsSince-opens, IsSince-run, SameFrame-closed, Lives-same, IsLast-stays, IsLast-push, IsInner-last, IsInner-same, text_after-follows}
-use Rattle.demangle_text.proofs.Laws.{text_after-more, text_after-same, text_after-last, text_after-follows}
+use Rattle.demangle_text.proofs.Laws.{text_after-more, text_after-same, text_after-last}
 use Rattle.demangle_edit.specs.Built.{arguments_opened, separator}
 use Rattle.demangle_quals.specs.declared.quals.Quals.{Quals}
 use Rattle.demangle_edit.specs.Names.{default_arg_shape, qualified}
