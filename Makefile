@@ -1,15 +1,19 @@
-# Builds and installs the programs, the libraries for C, their headers and the manual page. The builds are proved ones,
-# by the Rattle toolchain. Build first, and then install. `make install` alone builds what is missing, or older than
-# its sources, one crate after another. After `make -j4 all libcosvigle.so.0` it needs no toolchain: run it by sudo if
+# Builds and installs the programs, the libraries for C, their headers and the manual page. There are two builds: the
+# proved one, by the Rattle toolchain, and the extracted one, by cargo, which needs no toolchain of Rattle. Build first,
+# and then install. `make install` alone builds what is missing, or older than its sources, one crate after another.
+# After `make -j4 all libcosvigle.so.0`, or after `make rust`, it runs no compiler but that of C: run it by sudo if
 # PREFIX needs that.
 #
-#     make -j4                                 sixteen to fifty minutes where nothing is proved yet
-#     make cosvigle                            the program alone
+#     make rust                                the extracted build, half a minute (packaging/rust.mk)
+#     make -j4                                 the proved build, sixteen to fifty minutes where nothing is proved yet
+#     make cosvigle                            the program alone, proved
 #     make install PREFIX=/usr DESTDIR=/tmp/x  PREFIX: /usr/local unless given; DESTDIR: put in front, for packages;
 #                  LIBDIR=/usr/lib64           BINDIR, LIBDIR, INCLUDEDIR, MANDIR: below PREFIX unless given
+#                  FROM=rust                   the extracted build; the proved one unless given
 #     make uninstall                           removes what `make install` with the same variables installed
 #
-# BUILD is the folder for the files that are made here and installed; it is this one unless given.
+# BUILD is the folder for the files that are made here and installed. Unless it is given it is this one, and with
+# FROM=rust out/rust.
 
 PREFIX = /usr/local
 BINDIR = $(PREFIX)/bin
@@ -17,7 +21,8 @@ LIBDIR = $(PREFIX)/lib
 INCLUDEDIR = $(PREFIX)/include
 MANDIR = $(PREFIX)/share/man
 DESTDIR =
-BUILD = .
+FROM = proved
+BUILD = $(if $(filter rust,$(FROM)),out/rust,.)
 VERSION = 0.1.0
 SONAME = libcosvigle.so.0
 
@@ -45,6 +50,15 @@ made = $(BUILD)/libcosvigle.a $(BUILD)/$(SONAME) $(BUILD)/cosvigle.pc $(BUILD)/c
 headers = include/cosvigle.h include/cosvigle.hpp
 
 all: $(symfilter) $(cosvigle) $(library)
+
+include packaging/rust.mk
+
+# What is installed, of either build.
+programs.proved = $(symfilter) $(cosvigle)
+programs.rust = $(rust_programs)
+ifeq ($(programs.$(FROM)),)
+$(error FROM=$(FROM) isn't one of: proved rust)
+endif
 
 cosvigle: $(cosvigle)
 symfilter: $(symfilter)
@@ -89,16 +103,24 @@ $(library): $(call sources,cosvigle_c)
 	+$(call below,cosvigle_c)
 	$(call prove,cosvigle_c,lib,--crate-type staticlib --backend llvm --toolchain "$$kit/toolchain" -o $@)
 
+ifeq ($(FROM),rust)
+$(BUILD)/libcosvigle.a: $(rust_archive)
+	cp $< $@
+else
 # One archive out of the crate's and the toolchain's library where malloc is called, which each library for C needs.
 $(BUILD)/libcosvigle.a: $(library)
 	@$(needs_rt)
 	rm -f $@
 	heap=$$(dirname "$$(rt doc)")/c/liblibc_c.a && test -f "$$heap" && \
 	    printf 'create $@\naddlib $(library)\naddlib %s\nsave\nend\n' "$$heap" | ar -M
+endif
+
+# (an archive of Rust has all of Rust's library)
+smaller.rust = -Wl,--gc-sections -Wl,--strip-debug
 
 $(BUILD)/$(SONAME): $(BUILD)/libcosvigle.a packaging/cosvigle.map
 	$(CC) -shared -o $@ -Wl,-soname,$(SONAME) -Wl,--version-script=packaging/cosvigle.map -Wl,-z,defs -Wl,-z,noexecstack \
-	    -Wl,--whole-archive $(BUILD)/libcosvigle.a -Wl,--no-whole-archive
+	    $(smaller.$(FROM)) -Wl,--whole-archive $(BUILD)/libcosvigle.a -Wl,--no-whole-archive
 
 # What depends on the variables is made each time.
 fill = sed -e 's|@PREFIX@|$(PREFIX)|g' -e 's|@LIBDIR@|$(LIBDIR)|g' -e 's|@INCLUDEDIR@|$(INCLUDEDIR)|g' \
@@ -113,10 +135,10 @@ $(BUILD)/cosvigle-static.pc: packaging/cosvigle.pc.in FORCE
 $(BUILD)/%.cmake: packaging/%.cmake.in FORCE
 	$(fill) $< >$@
 
-install: all $(made)
+install: $(programs.$(FROM)) $(made)
 	install -d $(DESTDIR)$(BINDIR) $(DESTDIR)$(LIBDIR)/pkgconfig $(DESTDIR)$(LIBDIR)/cmake/cosvigle $(DESTDIR)$(INCLUDEDIR) \
 	    $(DESTDIR)$(MANDIR)/man1
-	install $(symfilter) $(cosvigle) $(DESTDIR)$(BINDIR)
+	install $(programs.$(FROM)) $(DESTDIR)$(BINDIR)
 	install -m 644 docs/cosvigle.1 $(DESTDIR)$(MANDIR)/man1
 	install -m 644 $(BUILD)/libcosvigle.a $(DESTDIR)$(LIBDIR)
 	install -m 755 $(BUILD)/$(SONAME) $(DESTDIR)$(LIBDIR)/libcosvigle.so.$(VERSION)
