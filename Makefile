@@ -8,8 +8,11 @@
 #     make install PREFIX=/usr DESTDIR=/tmp/x  PREFIX: /usr/local unless given; DESTDIR: put in front, for packages;
 #                  LIBDIR=/usr/lib64           BINDIR, LIBDIR, INCLUDEDIR, MANDIR: below PREFIX unless given
 #     make uninstall                           removes what `make install` with the same variables installed
+#     make dist, make deb, make wheel          packages of what is built; packaging/packages.mk says which
+#     make check                               the quick tests, without proofs; needs the toolchain
 #
-# BUILD is the folder for the files that are made here and installed; it is this one unless given.
+# BUILD is the folder for the files that are made here and installed; it is this one unless given. The shared library
+# is linked by $(CC) $(CFLAGS) $(LDFLAGS).
 
 PREFIX = /usr/local
 BINDIR = $(PREFIX)/bin
@@ -18,8 +21,10 @@ INCLUDEDIR = $(PREFIX)/include
 MANDIR = $(PREFIX)/share/man
 DESTDIR =
 BUILD = .
-VERSION = 0.1.0
-SONAME = libcosvigle.so.0
+VERSION := $(file <VERSION)
+# The number of the interface (include/cosvigle.h, "Compatibility").
+ABI = 0
+SONAME = libcosvigle.so.$(ABI)
 
 symfilter = crates/symfilter/out/symfilter
 cosvigle = crates/cosvigle/out/cosvigle
@@ -97,12 +102,14 @@ $(BUILD)/libcosvigle.a: $(library)
 	    printf 'create $@\naddlib $(library)\naddlib %s\nsave\nend\n' "$$heap" | ar -M
 
 $(BUILD)/$(SONAME): $(BUILD)/libcosvigle.a packaging/cosvigle.map
-	$(CC) -shared -o $@ -Wl,-soname,$(SONAME) -Wl,--version-script=packaging/cosvigle.map -Wl,-z,defs -Wl,-z,noexecstack \
+	$(CC) $(CFLAGS) $(LDFLAGS) -shared -o $@ -Wl,-soname,$(SONAME) -Wl,--version-script=packaging/cosvigle.map -Wl,-z,defs -Wl,-z,noexecstack \
 	    -Wl,--whole-archive $(BUILD)/libcosvigle.a -Wl,--no-whole-archive
 
-# What depends on the variables is made each time.
-fill = sed -e 's|@PREFIX@|$(PREFIX)|g' -e 's|@LIBDIR@|$(LIBDIR)|g' -e 's|@INCLUDEDIR@|$(INCLUDEDIR)|g' \
-    -e 's|@VERSION@|$(VERSION)|g'
+# What depends on the variables is made each time. The files for pkg-config and CMake find the other files from the
+# folder in which they are themselves. So here are the paths to these, seen from LIBDIR.
+from_libdir = $(shell realpath -m --relative-to=$(LIBDIR) $(1))
+fill = sed -e 's|@PREFIX@|$(call from_libdir,$(PREFIX))|g' -e 's|@INCLUDEDIR@|$(call from_libdir,$(INCLUDEDIR))|g' \
+    -e 's|@VERSION@|$(VERSION)|g' -e 's|@SONAME@|$(SONAME)|g'
 
 $(BUILD)/cosvigle.pc: packaging/cosvigle.pc.in FORCE
 	$(fill) -e 's|@NAME@|cosvigle|' -e 's|@LINK@|-lcosvigle|' $< >$@
@@ -133,9 +140,14 @@ uninstall:
 	rm -f $(addprefix $(DESTDIR)$(INCLUDEDIR)/,$(notdir $(headers)))
 	rm -rf $(DESTDIR)$(LIBDIR)/cmake/cosvigle
 
+check:
+	.ci/quick
+
 clean:
 	rm -f $(made)
 
+include packaging/packages.mk
+
 FORCE:
 
-.PHONY: all cosvigle symfilter install uninstall clean FORCE
+.PHONY: all cosvigle symfilter install uninstall check clean FORCE
