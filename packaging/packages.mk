@@ -18,7 +18,7 @@ STRIP = strip
 
 triplet = x86_64-linux-gnu
 distribution = cosvigle-$(VERSION)-$(triplet)
-epoch := $(or $(SOURCE_DATE_EPOCH),$(shell git log -1 --format=%ct 2>/dev/null),315532800)
+epoch = $(or $(SOURCE_DATE_EPOCH),$(shell git log -1 --format=%ct 2>/dev/null),315532800)
 tree = $(PACKAGES)/tree
 guides = README.md $(addprefix docs/,USE.md MIGRATING.md GRAMMAR.md DIFFERENCES.md PROMISES.md BELIEVE.md) \
     examples/c/names.c examples/cpp/names.cc
