@@ -16,6 +16,7 @@ PACKAGES = out/packages
 MAINTAINER = Nobody <nobody@example.invalid>
 STRIP = strip
 
+comma = ,
 triplet = x86_64-linux-gnu
 distribution = cosvigle-$(VERSION)-$(triplet)
 epoch = $(or $(SOURCE_DATE_EPOCH),$(shell git log -1 --format=%ct 2>/dev/null),315532800)
@@ -28,13 +29,14 @@ needed = realpath:coreutils flock:util-linux $(STRIP):binutils objdump:binutils
 needed_dist = tar:tar gzip:gzip
 needed_deb = dpkg-deb:dpkg gzip:gzip
 needed_wheel = python3:python3
+refuse = { echo "make: $(1)" >&2; exit 1; }
 
 # One kind is made at a time, since all of them use the files below BUILD.
 dist deb wheel:
-	@for it in $(needed) $(needed_$@); do command -v "$${it%:*}" >/dev/null || { \
-	    echo "make: there is no command $${it%:*}, which 'make $@' needs: install the package $${it#*:}" >&2; exit 1; }; done
-	@$(MAKE) -q all >/dev/null 2>&1 || { \
-	    echo "make: the programs and the library aren't built, or are older than their sources: run 'make -j4 all'" >&2; exit 1; }
+	@for it in $(needed) $(needed_$@); do command -v "$${it%:*}" >/dev/null || \
+	    $(call refuse,there is no command $${it%:*}$(comma) which 'make $@' needs: install the package $${it#*:}); done
+	@$(MAKE) -q all >/dev/null 2>&1 || \
+	    $(call refuse,the programs or the library aren't built$(comma) or are older than their sources: run 'make -j4 all')
 	@mkdir -p $(PACKAGES)
 	@flock packaging/packages.mk $(MAKE) --no-print-directory packed-$@
 
