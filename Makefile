@@ -22,9 +22,9 @@ MANDIR = $(PREFIX)/share/man
 DESTDIR =
 BUILD = .
 VERSION := $(file <VERSION)
-# The number of the interface (include/cosvigle.h, "Compatibility").
-ABI = 0
-SONAME = libcosvigle.so.$(ABI)
+# include/cosvigle.h says under "Compatibility" when the number changes.
+SONAME_NUMBER = 0
+SONAME = libcosvigle.so.$(SONAME_NUMBER)
 
 symfilter = crates/symfilter/out/symfilter
 cosvigle = crates/cosvigle/out/cosvigle
@@ -102,11 +102,11 @@ $(BUILD)/libcosvigle.a: $(library)
 	    printf 'create $@\naddlib $(library)\naddlib %s\nsave\nend\n' "$$heap" | ar -M
 
 $(BUILD)/$(SONAME): $(BUILD)/libcosvigle.a packaging/cosvigle.map
-	$(CC) $(CFLAGS) $(LDFLAGS) -shared -o $@ -Wl,-soname,$(SONAME) -Wl,--version-script=packaging/cosvigle.map -Wl,-z,defs -Wl,-z,noexecstack \
-	    -Wl,--whole-archive $(BUILD)/libcosvigle.a -Wl,--no-whole-archive
+	$(CC) $(CFLAGS) $(LDFLAGS) -shared -o $@ -Wl,-soname,$(SONAME) -Wl,--version-script=packaging/cosvigle.map \
+	    -Wl,-z,defs -Wl,-z,noexecstack -Wl,--whole-archive $(BUILD)/libcosvigle.a -Wl,--no-whole-archive
 
-# What depends on the variables is made each time. The files for pkg-config and CMake find the other files from the
-# folder in which they are themselves. So here are the paths to these, seen from LIBDIR.
+# What depends on the variables is made each time. The files for pkg-config and CMake name no folder: they find the
+# others from their own, by paths relative to LIBDIR.
 from_libdir = $(shell realpath -m --relative-to=$(LIBDIR) $(1))
 fill = sed -e 's|@PREFIX@|$(call from_libdir,$(PREFIX))|g' -e 's|@INCLUDEDIR@|$(call from_libdir,$(INCLUDEDIR))|g' \
     -e 's|@VERSION@|$(VERSION)|g' -e 's|@SONAME@|$(SONAME)|g'

@@ -9,8 +9,8 @@
 # They go to PACKAGES, where SHA256SUMS names all packages. The same build gives packages with the same bytes: the time
 # of each file is SOURCE_DATE_EPOCH, which is that of the last commit unless given. Without git it is the first second
 # of 1980, the earliest that a wheel can hold. Debian's format asks for a maintainer: if you hand packages on, put your
-# own name and address into MAINTAINER. No package is kept in the repository, since each holds compiled parts of the
-# toolchain's library, whose terms aren't stated here.
+# own name and address into MAINTAINER. No package is kept in the repository: each holds compiled parts of the
+# toolchain's library, and this repository states no terms for these.
 
 PACKAGES = out/packages
 MAINTAINER = Nobody <nobody@example.invalid>
@@ -52,10 +52,10 @@ define installed
 	$(STRIP) --strip-debug $(tree)$(1)/$(2)/libcosvigle.a
 endef
 
-# Gives the files of a folder their modes and times, which are those of no machine.
+# Gives the files of a folder modes and times that are the same on each machine.
 settled = chmod -R u=rwX,go=rX $(1) && find $(1) -exec touch -hd @$(epoch) {} +
 
-# Ends a kind: its packages are moved to PACKAGES, and the sums made anew.
+# Moves the packages of a kind to PACKAGES, and makes the sums anew.
 define moved
 	mv $(1) $(PACKAGES)
 	rm -rf $(tree)
@@ -71,11 +71,12 @@ packed-dist:
 	    gzip -9n >$(tree)/$(distribution).tar.gz
 	$(call moved,$(tree)/$(distribution).tar.gz)
 
+packed-deb: export MAINTAINER := $(MAINTAINER)
 packed-deb:
 	$(call installed,/usr,lib/$(triplet))
 	install -d $(tree)/usr/share/doc/cosvigle
 	cp --parents $(guides) $(tree)/usr/share/doc/cosvigle
-	SOURCE_DATE_EPOCH=$(epoch) packaging/deb $(tree) $(VERSION) $(ABI) '$(MAINTAINER)'
+	SOURCE_DATE_EPOCH=$(epoch) packaging/deb $(tree) $(VERSION) $(SONAME_NUMBER)
 	$(call moved,$(tree)/*.deb)
 
 packed-wheel: $(BUILD)/$(SONAME)
