@@ -11,9 +11,12 @@
 #                  LIBDIR=/usr/lib64           BINDIR, LIBDIR, INCLUDEDIR, MANDIR: below PREFIX unless given
 #                  FROM=rust                   the extracted build; the proved one unless given
 #     make uninstall                           removes what `make install` with the same variables installed
+#     make dist, make deb, make wheel          packages of what is built; packaging/packages.mk says which
+#     make check                               the quick tests, without proofs; needs the toolchain
 #
 # BUILD is the folder for the files that are made here and installed. Unless it is given it is this one, and with
 # FROM=rust out/rust.
+# The shared library is linked by $(CC) $(CFLAGS) $(LDFLAGS).
 
 PREFIX = /usr/local
 BINDIR = $(PREFIX)/bin
@@ -23,8 +26,10 @@ MANDIR = $(PREFIX)/share/man
 DESTDIR =
 FROM = proved
 BUILD = $(if $(filter rust,$(FROM)),out/rust,.)
-VERSION = 0.1.0
-SONAME = libcosvigle.so.0
+VERSION := $(file <VERSION)
+# include/cosvigle.h says under "Compatibility" when the number changes.
+SONAME_NUMBER = 0
+SONAME = libcosvigle.so.$(SONAME_NUMBER)
 
 symfilter = crates/symfilter/out/symfilter
 cosvigle = crates/cosvigle/out/cosvigle
@@ -119,12 +124,15 @@ endif
 smaller.rust = -Wl,--gc-sections -Wl,--strip-debug
 
 $(BUILD)/$(SONAME): $(BUILD)/libcosvigle.a packaging/cosvigle.map
-	$(CC) -shared -o $@ -Wl,-soname,$(SONAME) -Wl,--version-script=packaging/cosvigle.map -Wl,-z,defs -Wl,-z,noexecstack \
-	    $(smaller.$(FROM)) -Wl,--whole-archive $(BUILD)/libcosvigle.a -Wl,--no-whole-archive
+	$(CC) $(CFLAGS) $(LDFLAGS) -shared -o $@ -Wl,-soname,$(SONAME) -Wl,--version-script=packaging/cosvigle.map \
+	    -Wl,-z,defs -Wl,-z,noexecstack $(smaller.$(FROM)) \
+	    -Wl,--whole-archive $(BUILD)/libcosvigle.a -Wl,--no-whole-archive
 
-# What depends on the variables is made each time.
-fill = sed -e 's|@PREFIX@|$(PREFIX)|g' -e 's|@LIBDIR@|$(LIBDIR)|g' -e 's|@INCLUDEDIR@|$(INCLUDEDIR)|g' \
-    -e 's|@VERSION@|$(VERSION)|g'
+# What depends on the variables is made each time. The files for pkg-config and CMake name no folder: they find the
+# others from their own, by paths relative to LIBDIR.
+from_libdir = $(shell realpath -m --relative-to=$(LIBDIR) $(1))
+fill = sed -e 's|@PREFIX@|$(call from_libdir,$(PREFIX))|g' -e 's|@INCLUDEDIR@|$(call from_libdir,$(INCLUDEDIR))|g' \
+    -e 's|@VERSION@|$(VERSION)|g' -e 's|@SONAME@|$(SONAME)|g'
 
 $(BUILD)/cosvigle.pc: packaging/cosvigle.pc.in FORCE
 	$(fill) -e 's|@NAME@|cosvigle|' -e 's|@LINK@|-lcosvigle|' $< >$@
@@ -155,9 +163,14 @@ uninstall:
 	rm -f $(addprefix $(DESTDIR)$(INCLUDEDIR)/,$(notdir $(headers)))
 	rm -rf $(DESTDIR)$(LIBDIR)/cmake/cosvigle
 
+check:
+	.ci/quick
+
 clean:
 	rm -f $(made)
 
+include packaging/packages.mk
+
 FORCE:
 
-.PHONY: all cosvigle symfilter install uninstall clean FORCE
+.PHONY: all cosvigle symfilter install uninstall check clean FORCE

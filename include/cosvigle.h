@@ -24,8 +24,9 @@
  * Memory: a symbol that was made to be costly can take much of it. The worst one that was found has 9,772 bytes, and
  * takes 835 MB and 0.7 s. So check the length of an untrusted symbol before the call.
  *
- * Compatibility: the shared library has the soname libcosvigle.so.0. The names of the calls stay. Later versions may
- * have more statuses.
+ * Compatibility: a patch version changes no call and no status. A minor version may add some. Before 1.0 a minor
+ * version may also change or remove some, and from 1.0 on only a major version may. A version that does so has the next
+ * number in its soname, which is libcosvigle.so.0 now. This number isn't the major version: 0.2.0 may have number 1.
  *
  * Stack: for the deepest symbols that have a name or a signature, a call needs at most 96 KiB of its thread's stack.
  * This is measured with the proved library, and not proved.
@@ -50,7 +51,7 @@
 extern "C" {
 #endif
 
-/* What a call returns. Later versions may have more: treat a status that you don't know as an error. */
+/* What a call returns. Treat a status that you don't know as an error, since a later version may have more. */
 enum {
     COSVIGLE_WRITTEN = 0,   /* the text is written, and *needed is its length in bytes; cosvigle_new: all is done */
     COSVIGLE_NO_ANSWER = 1, /* the symbol has no demangled name; cosvigle_take: the handle keeps no text */

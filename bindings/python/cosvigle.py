@@ -11,7 +11,8 @@ Rattle toolchain has built it. This module is not proved.
     >>> cosvigle.replace("at _Z3foov+0x1")
     'at foo+0x1'
 
-The library is looked for where the loader looks, or is the file that the variable COSVIGLE_LIBRARY names.
+The library is the file that the variable COSVIGLE_LIBRARY names. If it names none, it is cosvigle.libs/libcosvigle.so.0
+beside this module, where a wheel puts it. If that isn't there, the system's loader looks for libcosvigle.so.0.
 """
 import ctypes
 import os
@@ -35,8 +36,14 @@ class _Handle(ctypes.Structure):
     _fields_ = [("at", ctypes.c_void_p)]
 
 
+def _file():
+    """The file of the library, or its name alone, for which the system's loader looks."""
+    beside = os.path.join(os.path.dirname(os.path.abspath(__file__)), "cosvigle.libs", "libcosvigle.so.0")
+    return os.environ.get("COSVIGLE_LIBRARY") or (beside if os.path.exists(beside) else "libcosvigle.so.0")
+
+
 def _load():
-    library = ctypes.CDLL(os.environ.get("COSVIGLE_LIBRARY") or "libcosvigle.so.0")
+    library = ctypes.CDLL(_file())
     handle, needed = ctypes.POINTER(_Handle), ctypes.POINTER(ctypes.c_size_t)
     text = [ctypes.c_char_p, ctypes.c_size_t]
     room = [ctypes.c_char_p, ctypes.c_size_t, needed]

@@ -1,0 +1,94 @@
+# Packages of what is built, for Linux on x86-64. Makefile includes this file. Nothing is proved here: if the programs
+# or the library aren't built, or are older than their sources, one line says so.
+#
+#     make dist        a tar.gz with one folder, which may lie anywhere
+#     make deb         three packages for Debian: cosvigle, libcosvigle0 and libcosvigle-dev
+#     make wheel       a wheel for Python, with the module and the shared library
+#     make packages    all of these
+#
+# They go to PACKAGES, where SHA256SUMS names all packages. The same build gives packages with the same bytes: the time
+# of each file is SOURCE_DATE_EPOCH, which is that of the last commit unless given. Without git it is the first second
+# of 1980, the earliest that a wheel can hold. Debian's format asks for a maintainer: if you hand packages on, put your
+# own name and address into MAINTAINER. No package is kept in the repository: each holds compiled parts of the
+# toolchain's library, and this repository states no terms for these.
+
+PACKAGES = out/packages
+MAINTAINER = Nobody <nobody@example.invalid>
+STRIP = strip
+
+comma = ,
+triplet = x86_64-linux-gnu
+distribution = cosvigle-$(VERSION)-$(triplet)
+epoch = $(or $(SOURCE_DATE_EPOCH),$(shell git log -1 --format=%ct 2>/dev/null),315532800)
+tree = $(PACKAGES)/tree
+guides = README.md $(addprefix docs/,USE.md MIGRATING.md LIMITS.md GRAMMAR.md DIFFERENCES.md PROOF.md PROMISES.md \
+    BELIEVE.md) \
+    examples/c/names.c examples/cpp/names.cc
+
+# The commands that a kind of package needs, each with the package of Debian that brings it.
+needed = realpath:coreutils flock:util-linux $(STRIP):binutils objdump:binutils
+needed_dist = tar:tar gzip:gzip
+needed_deb = dpkg-deb:dpkg gzip:gzip
+needed_wheel = python3:python3
+refuse = { echo "make: $(1)" >&2; exit 1; }
+
+# One kind is made at a time, since all of them use the files below BUILD.
+dist deb wheel:
+	@for it in $(needed) $(needed_$@); do command -v "$${it%:*}" >/dev/null || \
+	    $(call refuse,there is no command $${it%:*}$(comma) which 'make $@' needs: install the package $${it#*:}); done
+	@$(MAKE) -q all >/dev/null 2>&1 || \
+	    $(call refuse,the programs or the library aren't built$(comma) or are older than their sources: run 'make -j4 all')
+	@mkdir -p $(PACKAGES)
+	@flock packaging/packages.mk $(MAKE) --no-print-directory packed-$@
+
+packages: dist deb wheel
+
+# Installs below `tree`, for a prefix and a folder of libraries below it. The programs and libraries are stripped.
+define installed
+	rm -rf $(tree)
+	$(MAKE) --no-print-directory install FROM=proved DESTDIR=$(abspath $(tree)) PREFIX=$(1) BINDIR=$(1)/bin LIBDIR=$(1)/$(2) \
+	    INCLUDEDIR=$(1)/include MANDIR=$(1)/share/man
+	$(STRIP) $(tree)$(1)/bin/cosvigle $(tree)$(1)/bin/symfilter
+	$(STRIP) --strip-unneeded $(tree)$(1)/$(2)/libcosvigle.so.$(VERSION)
+	$(STRIP) --strip-debug $(tree)$(1)/$(2)/libcosvigle.a
+endef
+
+# Gives the files of a folder modes and times that are the same on each machine.
+settled = chmod -R u=rwX,go=rX $(1) && find $(1) -exec touch -hd @$(epoch) {} +
+
+# Moves the packages of a kind to PACKAGES, and makes the sums anew.
+define moved
+	mv $(1) $(PACKAGES)
+	rm -rf $(tree)
+	cd $(PACKAGES) && find . -maxdepth 1 -name '*cosvigle*' -printf '%P\n' | LC_ALL=C sort | xargs sha256sum >SHA256SUMS
+endef
+
+packed-dist:
+	$(call installed,/opt/$(distribution),lib)
+	install -d $(tree)/opt/$(distribution)/share/doc/cosvigle
+	cp --parents $(guides) LICENSE CHANGELOG.md $(tree)/opt/$(distribution)/share/doc/cosvigle
+	$(call settled,$(tree))
+	tar -C $(tree)/opt --format=ustar --sort=name --owner=0 --group=0 --numeric-owner -cf - $(distribution) | \
+	    gzip -9n >$(tree)/$(distribution).tar.gz
+	$(call moved,$(tree)/$(distribution).tar.gz)
+
+packed-deb: export MAINTAINER := $(MAINTAINER)
+packed-deb:
+	$(call installed,/usr,lib/$(triplet))
+	install -d $(tree)/usr/share/doc/cosvigle
+	cp --parents $(guides) $(tree)/usr/share/doc/cosvigle
+	SOURCE_DATE_EPOCH=$(epoch) packaging/deb $(tree) $(VERSION) $(SONAME_NUMBER)
+	$(call moved,$(tree)/*.deb)
+
+packed-wheel: $(BUILD)/$(SONAME)
+	rm -rf $(tree)
+	install -D $(BUILD)/$(SONAME) $(tree)/$(SONAME)
+	$(STRIP) --strip-unneeded $(tree)/$(SONAME)
+	SOURCE_DATE_EPOCH=$(epoch) packaging/wheel $(tree)/$(SONAME) $(VERSION) "$$(packaging/glibc $(tree)/$(SONAME))" $(tree)
+	$(call moved,$(tree)/*.whl)
+
+clean: clean-packages
+clean-packages:
+	rm -rf $(PACKAGES)
+
+.PHONY: dist deb wheel packages packed-dist packed-deb packed-wheel clean-packages
