@@ -30,6 +30,7 @@ VERSION := $(file <VERSION)
 # include/cosvigle.h says under "Compatibility" when the number changes.
 SONAME_NUMBER = 0
 SONAME = libcosvigle.so.$(SONAME_NUMBER)
+OBJCOPY = objcopy
 
 symfilter = crates/symfilter/out/symfilter
 cosvigle = crates/cosvigle/out/cosvigle
@@ -46,12 +47,11 @@ libraries = $(shell sed -nE 's/^([a-z_]+):.*/\1/p' crates.txt | while read -r it
 place = crates/$(1)/out/made
 built = $(foreach it,$(1),$(call place,$(it))/$(it).rlib/format)
 
-# The toolchain, or a sentence where it isn't there.
-needs_rt = command -v rt >/dev/null || { echo 'make: there is no command rt. Install the Rattle toolchain, which proves \
-    and builds this, and put its folder bin/ on the PATH (README.md, "Build it")' >&2; exit 1; }
+# The toolchain, or a line where it isn't there.
+needs_rt = command -v rt >/dev/null || { echo 'make: there is no command rt, of the Rattle toolchain, for the proved \
+    build: make rust and make install FROM=rust do without it (README.md, "Build it")' >&2; exit 1; }
 
-made = $(BUILD)/libcosvigle.a $(BUILD)/$(SONAME) $(BUILD)/cosvigle.pc $(BUILD)/cosvigle-static.pc \
-    $(BUILD)/cosvigleConfig.cmake $(BUILD)/cosvigleConfigVersion.cmake
+made = $(BUILD)/libcosvigle.a $(BUILD)/$(SONAME)
 headers = include/cosvigle.h include/cosvigle.hpp
 
 all: $(symfilter) $(cosvigle) $(library)
@@ -109,8 +109,15 @@ $(library): $(call sources,cosvigle_c)
 	$(call prove,cosvigle_c,lib,--crate-type staticlib --backend llvm --toolchain "$$kit/toolchain" -o $@)
 
 ifeq ($(FROM),rust)
-$(BUILD)/libcosvigle.a: $(rust_archive)
-	cp $< $@
+# One object of what the calls need, in which no other name is left: the archives of two crates in one program would
+# have names in common.
+calls = $(shell sed -n 's/^ *\(cosvigle_[a-z_]*\);$$/\1/p' packaging/cosvigle.map)
+$(BUILD)/libcosvigle.a: $(rust_archive) packaging/cosvigle.map
+	$(LD) -r --gc-sections --force-group-allocation $(calls:%=-u %) --whole-archive $< -o $(BUILD)/cosvigle.o
+	$(OBJCOPY) --strip-debug -R .llvmbc -R .llvmcmd $(calls:%=--keep-global-symbol=%) $(BUILD)/cosvigle.o
+	rm -f $@
+	$(AR) rcs $@ $(BUILD)/cosvigle.o
+	rm $(BUILD)/cosvigle.o
 else
 # One archive out of the crate's and the toolchain's library where malloc is called, which each library for C needs.
 $(BUILD)/libcosvigle.a: $(library)
@@ -120,28 +127,15 @@ $(BUILD)/libcosvigle.a: $(library)
 	    printf 'create $@\naddlib $(library)\naddlib %s\nsave\nend\n' "$$heap" | ar -M
 endif
 
-# (an archive of Rust has all of Rust's library)
-smaller.rust = -Wl,--gc-sections -Wl,--strip-debug
-
 $(BUILD)/$(SONAME): $(BUILD)/libcosvigle.a packaging/cosvigle.map
 	$(CC) $(CFLAGS) $(LDFLAGS) -shared -o $@ -Wl,-soname,$(SONAME) -Wl,--version-script=packaging/cosvigle.map \
-	    -Wl,-z,defs -Wl,-z,noexecstack $(smaller.$(FROM)) \
-	    -Wl,--whole-archive $(BUILD)/libcosvigle.a -Wl,--no-whole-archive
+	    -Wl,-z,defs -Wl,-z,noexecstack -Wl,--whole-archive $(BUILD)/libcosvigle.a -Wl,--no-whole-archive
 
-# What depends on the variables is made each time. The files for pkg-config and CMake name no folder: they find the
-# others from their own, by paths relative to LIBDIR.
+# The files for pkg-config and CMake depend on the variables, and so are made where they are installed. They name no
+# folder: they find the others from their own, by paths relative to LIBDIR.
 from_libdir = $(shell realpath -m --relative-to=$(LIBDIR) $(1))
 fill = sed -e 's|@PREFIX@|$(call from_libdir,$(PREFIX))|g' -e 's|@INCLUDEDIR@|$(call from_libdir,$(INCLUDEDIR))|g' \
     -e 's|@VERSION@|$(VERSION)|g' -e 's|@SONAME@|$(SONAME)|g'
-
-$(BUILD)/cosvigle.pc: packaging/cosvigle.pc.in FORCE
-	$(fill) -e 's|@NAME@|cosvigle|' -e 's|@LINK@|-lcosvigle|' $< >$@
-
-$(BUILD)/cosvigle-static.pc: packaging/cosvigle.pc.in FORCE
-	$(fill) -e 's|@NAME@|cosvigle-static|' -e 's|@LINK@|-l:libcosvigle.a|' $< >$@
-
-$(BUILD)/%.cmake: packaging/%.cmake.in FORCE
-	$(fill) $< >$@
 
 install: $(programs.$(FROM)) $(made)
 	install -d $(DESTDIR)$(BINDIR) $(DESTDIR)$(LIBDIR)/pkgconfig $(DESTDIR)$(LIBDIR)/cmake/cosvigle $(DESTDIR)$(INCLUDEDIR) \
@@ -152,8 +146,11 @@ install: $(programs.$(FROM)) $(made)
 	install -m 755 $(BUILD)/$(SONAME) $(DESTDIR)$(LIBDIR)/libcosvigle.so.$(VERSION)
 	ln -sf libcosvigle.so.$(VERSION) $(DESTDIR)$(LIBDIR)/$(SONAME)
 	ln -sf $(SONAME) $(DESTDIR)$(LIBDIR)/libcosvigle.so
-	install -m 644 $(BUILD)/cosvigle.pc $(BUILD)/cosvigle-static.pc $(DESTDIR)$(LIBDIR)/pkgconfig
-	install -m 644 $(BUILD)/cosvigleConfig.cmake $(BUILD)/cosvigleConfigVersion.cmake $(DESTDIR)$(LIBDIR)/cmake/cosvigle
+	for kind in 'cosvigle -lcosvigle' 'cosvigle-static -l:libcosvigle.a'; do \
+	    $(fill) -e "s|@NAME@|$${kind% *}|" -e "s|@LINK@|$${kind#* }|" packaging/cosvigle.pc.in | \
+	    install -m 644 /dev/stdin "$(DESTDIR)$(LIBDIR)/pkgconfig/$${kind% *}.pc"; done
+	for file in cosvigleConfig cosvigleConfigVersion; do $(fill) "packaging/$$file.cmake.in" | \
+	    install -m 644 /dev/stdin "$(DESTDIR)$(LIBDIR)/cmake/cosvigle/$$file.cmake"; done
 	install -m 644 $(headers) $(DESTDIR)$(INCLUDEDIR)
 
 uninstall:
@@ -171,6 +168,4 @@ clean:
 
 include packaging/packages.mk
 
-FORCE:
-
-.PHONY: all cosvigle symfilter install uninstall check clean FORCE
+.PHONY: all cosvigle symfilter install uninstall check clean

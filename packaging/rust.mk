@@ -1,7 +1,7 @@
 # The extracted crate, in out/rust: its programs, and the library for C over it. They need Python 3 and Rust 1.88 or
 # later, and no Rattle toolchain.
 #
-#     make rust            writes and builds the crate: half a minute
+#     make rust            writes and builds the crate, and the libraries for C over it: less than a minute
 #     make check-rust      tests it (tests/rust/rust)
 
 CARGO = cargo
@@ -29,6 +29,7 @@ rust:
 	$(call build_rust)
 	$(call build_rust,capi/)
 	@touch out/rust/built
+	+@$(MAKE) --no-print-directory FROM=rust out/rust/libcosvigle.a out/rust/$(SONAME)
 
 # For `make install FROM=rust`, which builds only where a source is newer.
 $(rust_programs) $(rust_archive): out/rust/built ;
