@@ -112,8 +112,8 @@ ifeq ($(FROM),rust)
 # One object of what the calls need, in which no other name is left: the archives of two crates in one program would
 # have names in common.
 calls = $(shell sed -n 's/^ *\(cosvigle_[a-z_]*\);$$/\1/p' packaging/cosvigle.map)
-$(BUILD)/libcosvigle.a: $(rust_archive) packaging/cosvigle.map
-	$(LD) -r --gc-sections --force-group-allocation $(calls:%=-u %) --whole-archive $< -o $(BUILD)/cosvigle.o
+$(BUILD)/libcosvigle.a: out/rust/built packaging/cosvigle.map
+	$(LD) -r --gc-sections --force-group-allocation $(calls:%=-u %) --whole-archive $(rust_archive) -o $(BUILD)/cosvigle.o
 	$(OBJCOPY) --strip-debug -R .llvmbc -R .llvmcmd $(calls:%=--keep-global-symbol=%) $(BUILD)/cosvigle.o
 	rm -f $@
 	$(AR) rcs $@ $(BUILD)/cosvigle.o

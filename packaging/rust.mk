@@ -32,7 +32,7 @@ rust:
 	+@$(MAKE) --no-print-directory FROM=rust out/rust/libcosvigle.a out/rust/$(SONAME)
 
 # For `make install FROM=rust`, which builds only where a source is newer.
-$(rust_programs) $(rust_archive): out/rust/built ;
+$(rust_programs): out/rust/built ;
 
 out/rust/built: tools/extract crates.txt VERSION $(shell find packaging/rust crates/*/src -type f)
 	+$(MAKE) rust
