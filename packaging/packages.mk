@@ -43,14 +43,17 @@ dist deb wheel:
 
 packages: dist deb wheel
 
+# The names of compilers go too, as Debian has it.
+stripped = $(STRIP) --remove-section=.comment
+
 # Installs below `tree`, for a prefix and a folder of libraries below it. The programs and libraries are stripped.
 define installed
 	rm -rf $(tree)
-	$(MAKE) --no-print-directory install FROM=proved DESTDIR=$(abspath $(tree)) PREFIX=$(1) BINDIR=$(1)/bin LIBDIR=$(1)/$(2) \
-	    INCLUDEDIR=$(1)/include MANDIR=$(1)/share/man
-	$(STRIP) $(tree)$(1)/bin/cosvigle $(tree)$(1)/bin/symfilter
-	$(STRIP) --strip-unneeded $(tree)$(1)/$(2)/libcosvigle.so.$(VERSION)
-	$(STRIP) --strip-debug $(tree)$(1)/$(2)/libcosvigle.a
+	+$(MAKE) --no-print-directory install FROM=proved DESTDIR=$(abspath $(tree)) PREFIX=$(1) BINDIR=$(1)/bin \
+	    LIBDIR=$(1)/$(2) INCLUDEDIR=$(1)/include MANDIR=$(1)/share/man
+	$(stripped) $(tree)$(1)/bin/cosvigle $(tree)$(1)/bin/symfilter
+	$(stripped) --strip-unneeded $(tree)$(1)/$(2)/libcosvigle.so.$(VERSION)
+	$(stripped) --strip-debug $(tree)$(1)/$(2)/libcosvigle.a
 endef
 
 # Gives the files of a folder modes and times that are the same on each machine.
@@ -83,7 +86,7 @@ packed-deb:
 packed-wheel: $(BUILD)/$(SONAME)
 	rm -rf $(tree)
 	install -D $(BUILD)/$(SONAME) $(tree)/$(SONAME)
-	$(STRIP) --strip-unneeded $(tree)/$(SONAME)
+	$(stripped) --strip-unneeded $(tree)/$(SONAME)
 	SOURCE_DATE_EPOCH=$(epoch) packaging/wheel $(tree)/$(SONAME) $(VERSION) "$$(packaging/glibc $(tree)/$(SONAME))" $(tree)
 	$(call moved,$(tree)/*.whl)
 

@@ -21,7 +21,8 @@ endef
 
 # Cargo builds what is older than its sources, and nothing else. It takes the compiler and the folders that are named
 # here, whatever its settings are.
-build_rust = RUSTC=$(RUSTC) $(CARGO) build --release --target-dir out/rust/$(1)target --manifest-path out/rust/$(1)Cargo.toml
+build_rust = RUSTC=$(RUSTC) $(CARGO) build --release --target-dir out/rust/$(1)target \
+    --manifest-path out/rust/$(1)Cargo.toml
 
 rust:
 	@$(needs_rust)
