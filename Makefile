@@ -161,6 +161,7 @@ uninstall:
 	rm -rf $(DESTDIR)$(LIBDIR)/cmake/cosvigle
 
 check:
+	@$(needs_rt)
 	.ci/quick
 
 clean:

@@ -7,7 +7,7 @@ fn main() -> io::Result<()> {
     let mut output = io::BufWriter::new(io::stdout().lock());
     for line in io::stdin().lock().split(b'\n') {
         let line = line?;
-        match std::str::from_utf8(&line).ok().and_then(|symbol| demangler.demangle(symbol)) {
+        match demangler.try_demangle(&line).map_err(io::Error::other)? {
             Some(name) => output.write_all(name.as_bytes())?,
             None => output.write_all(&line)?,
         }

@@ -2,13 +2,14 @@
 
 use crate::extracted::itanium_demangle as inner;
 use crate::extracted::symfilter_engine::{
-    Failed, FilterFault, Printing, ReplaceOptions, Sink, Tally, filter_with, replace as replace_words,
+    Failed, FilterFault, Printing, ReplaceOptions, Sink, Tally, filter_with, prepare_for, replace as replace_words,
 };
 use crate::rattle::alloc::{AllocError, Global};
 use crate::rattle::{string, vec};
 use std::fmt;
 
 /// What a call without `try_` does where an allocation failed.
+#[track_caller]
 fn or_panic<T>(made: Result<T, AllocError>) -> T {
     match made {
         Ok(made) => made,
@@ -18,8 +19,15 @@ fn or_panic<T>(made: Result<T, AllocError>) -> T {
 
 /// Demangles symbol after symbol, and keeps its memory from one symbol to the next.
 ///
-/// A returned text is borrowed until the next call. Earlier calls change no result. A value may be moved to another
-/// thread.
+/// A returned text is borrowed until the next call. Earlier calls change no result.
+///
+/// ```
+/// let mut demangler = cosvigle::Demangler::new();
+/// for symbol in ["_ZN3Foo3barEv", "_Z3foov.cold", "malloc"] {
+///     println!("{}", demangler.demangle(symbol).unwrap_or(symbol));
+/// }
+/// assert_eq!(demangler.try_demangle(b"_Z3foov"), Ok(Some("foo"))); // bytes, of an object file
+/// ```
 #[derive(Default)]
 pub struct Demangler {
     inner: inner::Demangler,
@@ -38,14 +46,19 @@ impl Demangler {
     /// # Panics
     ///
     /// If an allocation fails.
+    #[track_caller]
     pub fn demangle(&mut self, symbol: &str) -> Option<&str> {
-        or_panic(self.try_demangle(symbol))
+        or_panic(self.read(Printing::Names, symbol))
     }
 
-    /// Returns what [`demangle`](Self::demangle) does, or an error if an allocation fails.
-    pub fn try_demangle(&mut self, symbol: &str) -> Result<Option<&str>, AllocError> {
-        self.inner.prepare(Global, symbol)?;
-        Ok(self.inner.text())
+    /// Returns what [`demangle`](Self::demangle) does. The symbol may be bytes too. If these aren't UTF-8 as a whole it
+    /// has no name.
+    ///
+    /// # Errors
+    ///
+    /// If an allocation fails.
+    pub fn try_demangle(&mut self, symbol: impl AsRef<[u8]>) -> Result<Option<&str>, AllocError> {
+        self.read_bytes(Printing::Names, symbol.as_ref())
     }
 
     /// Returns the signature of a symbol, which is its demangled name with its parameters: `foo(int)` for `_Z3fooi`.
@@ -54,14 +67,33 @@ impl Demangler {
     /// # Panics
     ///
     /// If an allocation fails.
+    #[track_caller]
     pub fn demangle_signature(&mut self, symbol: &str) -> Option<&str> {
-        or_panic(self.try_demangle_signature(symbol))
+        or_panic(self.read(Printing::Signatures, symbol))
     }
 
-    /// Returns what [`demangle_signature`](Self::demangle_signature) does, or an error if an allocation fails.
-    pub fn try_demangle_signature(&mut self, symbol: &str) -> Result<Option<&str>, AllocError> {
-        self.inner.prepare_signature(Global, symbol)?;
+    /// Returns what [`demangle_signature`](Self::demangle_signature) does. The symbol may be bytes too. If these aren't
+    /// UTF-8 as a whole it has no name.
+    ///
+    /// # Errors
+    ///
+    /// If an allocation fails.
+    pub fn try_demangle_signature(&mut self, symbol: impl AsRef<[u8]>) -> Result<Option<&str>, AllocError> {
+        self.read_bytes(Printing::Signatures, symbol.as_ref())
+    }
+
+    /// Reads a symbol, and returns what is printed for it.
+    fn read(&mut self, printing: Printing, symbol: &str) -> Result<Option<&str>, AllocError> {
+        prepare_for(Global, &mut self.inner, printing, symbol)?;
         Ok(self.inner.text())
+    }
+
+    /// The same for bytes. Nothing is printed for those that aren't UTF-8.
+    fn read_bytes(&mut self, printing: Printing, symbol: &[u8]) -> Result<Option<&str>, AllocError> {
+        match str::from_utf8(symbol) {
+            Ok(symbol) => self.read(printing, symbol),
+            Err(_) => Ok(None),
+        }
     }
 
     /// Returns whether the last text is a signature. It is false for a name without parameters, and where there was no
@@ -77,17 +109,23 @@ impl fmt::Debug for Demangler {
     }
 }
 
-/// Returns the demangled name of one symbol as a text of its own, or `None` if it has none.
+/// Returns the demangled name of one symbol as a text of its own, or `None` if it has none. For many symbols use one
+/// [`Demangler`], which takes half the time.
 ///
 /// # Panics
 ///
 /// If an allocation fails.
+#[track_caller]
 pub fn demangle_owned(symbol: &str) -> Option<String> {
     or_panic(try_demangle_owned(symbol))
 }
 
-/// Returns what [`demangle_owned`] does, or an error if an allocation fails.
-pub fn try_demangle_owned(symbol: &str) -> Result<Option<String>, AllocError> {
+/// Returns what [`demangle_owned`] does. The symbol may be bytes too.
+///
+/// # Errors
+///
+/// If an allocation fails.
+pub fn try_demangle_owned(symbol: impl AsRef<[u8]>) -> Result<Option<String>, AllocError> {
     owned(Demangler::new().try_demangle(symbol)?)
 }
 
@@ -97,12 +135,17 @@ pub fn try_demangle_owned(symbol: &str) -> Result<Option<String>, AllocError> {
 /// # Panics
 ///
 /// If an allocation fails.
+#[track_caller]
 pub fn demangle_signature_owned(symbol: &str) -> Option<String> {
     or_panic(try_demangle_signature_owned(symbol))
 }
 
-/// Returns what [`demangle_signature_owned`] does, or an error if an allocation fails.
-pub fn try_demangle_signature_owned(symbol: &str) -> Result<Option<String>, AllocError> {
+/// Returns what [`demangle_signature_owned`] does. The symbol may be bytes too.
+///
+/// # Errors
+///
+/// If an allocation fails.
+pub fn try_demangle_signature_owned(symbol: impl AsRef<[u8]>) -> Result<Option<String>, AllocError> {
     owned(Demangler::new().try_demangle_signature(symbol)?)
 }
 
@@ -119,14 +162,26 @@ fn owned(text: Option<&str>) -> Result<Option<String>, AllocError> {
 /// one `__imp_` in front of it, and for the dots at its end, which all stay. With `strip` it may also begin with
 /// `___Z`; the first underscore is then dropped.
 ///
+/// ```
+/// use cosvigle::{Printing, ReplaceOptions, replace};
+///
+/// let options = ReplaceOptions { strip: false, printing: Printing::Signatures };
+/// assert_eq!(replace(b"at _Z3fooi+0x1", options), b"at foo(int)+0x1");
+/// ```
+///
 /// # Panics
 ///
 /// If an allocation fails.
+#[track_caller]
 pub fn replace(text: &[u8], options: ReplaceOptions) -> Vec<u8> {
     or_panic(try_replace(text, options))
 }
 
-/// Returns what [`replace()`] does, or an error if an allocation fails.
+/// Returns what [`replace()`] does.
+///
+/// # Errors
+///
+/// If an allocation fails.
 pub fn try_replace(text: &[u8], options: ReplaceOptions) -> Result<Vec<u8>, AllocError> {
     let mut made = Made::default();
     replace_words(Global, options, &mut Tally::new(text), &mut made)?;
@@ -134,16 +189,28 @@ pub fn try_replace(text: &[u8], options: ReplaceOptions) -> Result<Vec<u8>, Allo
 }
 
 /// Returns lines, with each that is a symbol replaced by its demangled name or signature, as the program `symfilter`
-/// does. The lines may be any bytes. A line goes up to the next line feed, which stays, or to the end.
+/// does. The lines may be any bytes. A line goes up to the next line feed, which stays, or to the end. A whole line is
+/// one symbol: of `_Z3foov at main.c` what follows the name is dropped.
+///
+/// ```
+/// use cosvigle::{Printing, filter};
+///
+/// assert_eq!(filter(b"_Z3foov\nmalloc\n", Printing::Names), b"foo\nmalloc\n");
+/// ```
 ///
 /// # Panics
 ///
 /// If an allocation fails.
+#[track_caller]
 pub fn filter(lines: &[u8], printing: Printing) -> Vec<u8> {
     or_panic(try_filter(lines, printing))
 }
 
-/// Returns what [`filter`] does, or an error if an allocation fails.
+/// Returns what [`filter`] does.
+///
+/// # Errors
+///
+/// If an allocation fails.
 pub fn try_filter(lines: &[u8], printing: Printing) -> Result<Vec<u8>, AllocError> {
     let mut made = Made::default();
     filter_with(Global, printing, &mut Tally::new(lines), &mut made)?;

@@ -19,6 +19,9 @@ fn names() {
     assert_eq!(demangler.demangle("_Z1é"), None);
     assert_eq!(demangler.try_demangle("_ZN3Foo3barEv"), Ok(Some("Foo::bar")));
     assert_eq!(demangler.try_demangle("malloc"), Ok(None));
+    assert_eq!(demangler.try_demangle(b"_Z3foov"), Ok(Some("foo")));
+    assert_eq!(demangler.try_demangle(String::from("_Z3foov")), Ok(Some("foo")));
+    assert_eq!(demangler.try_demangle(b"_Z1\xff"), Ok(None));
     assert_eq!(demangle_owned("_ZNSt6vectorIS_IiEE4sizeEv").as_deref(), Some("std::vector<std::vector<int> >::size"));
     assert_eq!(demangle_owned("main"), None);
     assert_eq!(try_demangle_owned("_Z3foov"), Ok(Some("foo".into())));
@@ -42,6 +45,8 @@ fn signatures() {
     assert_eq!(demangler.demangle_signature("_Z2éi"), Some("é(int)"));
     assert_eq!(demangler.try_demangle_signature("_ZNK3Foo3barEv"), Ok(Some("Foo::bar() const")));
     assert_eq!(demangler.try_demangle_signature("malloc"), Ok(None));
+    assert_eq!(demangler.try_demangle_signature(b"_Z3fooi"), Ok(Some("foo(int)")));
+    assert_eq!(demangler.try_demangle_signature(b"_Z1\xff"), Ok(None));
     assert_eq!(demangle_signature_owned("_ZNK3Foo3barEv").as_deref(), Some("Foo::bar() const"));
     assert_eq!(demangle_signature_owned("main"), None);
     assert_eq!(try_demangle_signature_owned("_Z3fooi"), Ok(Some("foo(int)".into())));
@@ -73,6 +78,7 @@ fn words() {
 fn lines() {
     assert_eq!(filter(b"", Printing::Names), b"");
     assert_eq!(filter(b"_Z3foov\nx _Z3foov\n\n_Z3bar", Printing::Names), b"foo\nx _Z3foov\n\nbar");
+    assert_eq!(filter(b"_Z3foov at main.c", Printing::Names), b"foo");
     assert_eq!(filter(b"_Z3fooi\n_Z1\xff\n", Printing::Signatures), b"foo(int)\n_Z1\xff\n");
     assert_eq!(try_filter(b"_Z3foov\n", Printing::Names), Ok(b"foo\n".to_vec()));
 }
@@ -83,6 +89,8 @@ fn errors_and_values() {
         error.to_string()
     }
     assert_eq!(is_error(AllocError), "out of memory");
+    fn is_shared<T: Send + Sync + 'static>(_: T) {}
+    is_shared(Demangler::new());
     assert_eq!(format!("{:?}", Demangler::default()), "Demangler { .. }");
 }
 

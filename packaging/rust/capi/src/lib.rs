@@ -99,9 +99,9 @@ unsafe fn bytes<'a>(at: *const u8, len: usize) -> &'a [u8] {
 
 /// Writes the demangled name or the signature of a symbol.
 fn ask(handle: &mut Handle, printing: Printing, symbol: &[u8], mut room: Room<'_>) -> c_int {
-    let Ok(symbol) = str::from_utf8(symbol) else {
+    if str::from_utf8(symbol).is_err() {
         return NOT_UTF8;
-    };
+    }
     let Some(kept) = handle.kept() else {
         return NO_MEMORY;
     };
