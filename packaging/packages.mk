@@ -42,17 +42,16 @@ dist deb wheel:
 
 packages: dist deb wheel
 
-# The names of compilers go too, as Debian has it.
-stripped = $(STRIP) --remove-section=.comment
+# The variables of `make install` for a prefix below `tree`, and for a folder of libraries below the prefix.
+places = DESTDIR=$(abspath $(tree)) PREFIX=$(1) BINDIR=$(1)/bin LIBDIR=$(1)/$(2) INCLUDEDIR=$(1)/include \
+    MANDIR=$(1)/share/man
 
-# Installs below `tree`, for a prefix and a folder of libraries below it. The programs and libraries are stripped.
-define installed
-	rm -rf $(tree)
-	+$(MAKE) --no-print-directory install DESTDIR=$(abspath $(tree)) PREFIX=$(1) BINDIR=$(1)/bin LIBDIR=$(1)/$(2) \
-	    INCLUDEDIR=$(1)/include MANDIR=$(1)/share/man
-	$(stripped) $(tree)$(1)/bin/cosvigle $(tree)$(1)/bin/symfilter
-	$(stripped) --strip-unneeded $(tree)$(1)/$(2)/libcosvigle.so.$(VERSION)
-	$(stripped) --strip-debug $(tree)$(1)/$(2)/libcosvigle.a
+# Strips what was installed there. The names of compilers go too, as Debian has it.
+strip = $(STRIP) --remove-section=.comment
+define stripped
+	$(strip) $(tree)$(1)/bin/cosvigle $(tree)$(1)/bin/symfilter
+	$(strip) --strip-unneeded $(tree)$(1)/$(2)/libcosvigle.so.$(VERSION)
+	$(strip) --strip-debug $(tree)$(1)/$(2)/libcosvigle.a
 endef
 
 # Gives the files of a folder modes and times that are the same on each machine.
@@ -66,7 +65,9 @@ define moved
 endef
 
 packed-dist:
-	$(call installed,/opt/$(distribution),lib)
+	rm -rf $(tree)
+	$(MAKE) --no-print-directory install $(call places,/opt/$(distribution),lib)
+	$(call stripped,/opt/$(distribution),lib)
 	install -d $(tree)/opt/$(distribution)/share/doc/cosvigle
 	cp --parents $(guides) LICENSE CHANGELOG.md $(tree)/opt/$(distribution)/share/doc/cosvigle
 	$(call settled,$(tree))
@@ -76,7 +77,9 @@ packed-dist:
 
 packed-deb: export MAINTAINER := $(MAINTAINER)
 packed-deb:
-	$(call installed,/usr,lib/$(triplet))
+	rm -rf $(tree)
+	$(MAKE) --no-print-directory install $(call places,/usr,lib/$(triplet))
+	$(call stripped,/usr,lib/$(triplet))
 	install -d $(tree)/usr/share/doc/cosvigle
 	cp --parents $(guides) $(tree)/usr/share/doc/cosvigle
 	SOURCE_DATE_EPOCH=$(epoch) packaging/deb $(tree) $(VERSION) $(SONAME_NUMBER)
@@ -85,7 +88,7 @@ packed-deb:
 packed-wheel: $(BUILD)/$(SONAME)
 	rm -rf $(tree)
 	install -D $(BUILD)/$(SONAME) $(tree)/$(SONAME)
-	$(stripped) --strip-unneeded $(tree)/$(SONAME)
+	$(strip) --strip-unneeded $(tree)/$(SONAME)
 	SOURCE_DATE_EPOCH=$(epoch) packaging/wheel $(tree)/$(SONAME) $(VERSION) "$$(packaging/glibc $(tree)/$(SONAME))" $(tree)
 	$(call moved,$(tree)/*.whl)
 
