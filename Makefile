@@ -1,18 +1,22 @@
-# Builds and installs the programs, the libraries for C, their headers and the manual page. The builds are proved ones,
-# by the Rattle toolchain. Build first, and then install. `make install` alone builds what is missing, or older than
-# its sources, one crate after another. After `make -j4 all libcosvigle.so.0` it needs no toolchain: run it by sudo if
+# Builds and installs the programs, the libraries for C, their headers and the manual page. There are two builds: the
+# proved one, by the Rattle toolchain, and the extracted one, by cargo, which needs no toolchain of Rattle. Build first,
+# and then install. `make install` alone builds what is missing, or older than its sources, one crate after another.
+# After `make -j4 all libcosvigle.so.0`, or after `make rust`, it runs no compiler but that of C: run it by sudo if
 # PREFIX needs that.
 #
-#     make -j4                                 sixteen to fifty minutes where nothing is proved yet
-#     make cosvigle                            the program alone
+#     make rust                                the extracted build, half a minute (packaging/rust.mk)
+#     make -j4                                 the proved build, sixteen to fifty minutes where nothing is proved yet
+#     make cosvigle                            the program alone, proved
 #     make install PREFIX=/usr DESTDIR=/tmp/x  PREFIX: /usr/local unless given; DESTDIR: put in front, for packages;
 #                  LIBDIR=/usr/lib64           BINDIR, LIBDIR, INCLUDEDIR, MANDIR: below PREFIX unless given
+#                  FROM=rust                   the extracted build; the proved one unless given
 #     make uninstall                           removes what `make install` with the same variables installed
 #     make dist, make deb, make wheel          packages of what is built; packaging/packages.mk says which
 #     make check                               the quick tests, without proofs; needs the toolchain
 #
-# BUILD is the folder for the files that are made here and installed; it is this one unless given. The shared library
-# is linked by $(CC) $(CFLAGS) $(LDFLAGS).
+# BUILD is the folder for the files that are made here and installed. Unless it is given it is this one, and with
+# FROM=rust out/rust.
+# The shared library is linked by $(CC) $(CFLAGS) $(LDFLAGS).
 
 PREFIX = /usr/local
 BINDIR = $(PREFIX)/bin
@@ -20,11 +24,13 @@ LIBDIR = $(PREFIX)/lib
 INCLUDEDIR = $(PREFIX)/include
 MANDIR = $(PREFIX)/share/man
 DESTDIR =
-BUILD = .
+FROM = proved
+BUILD = $(if $(filter rust,$(FROM)),out/rust,.)
 VERSION := $(file <VERSION)
 # include/cosvigle.h says under "Compatibility" when the number changes.
 SONAME_NUMBER = 0
 SONAME = libcosvigle.so.$(SONAME_NUMBER)
+OBJCOPY = objcopy
 
 symfilter = crates/symfilter/out/symfilter
 cosvigle = crates/cosvigle/out/cosvigle
@@ -41,15 +47,23 @@ libraries = $(shell sed -nE 's/^([a-z_]+):.*/\1/p' crates.txt | while read -r it
 place = crates/$(1)/out/made
 built = $(foreach it,$(1),$(call place,$(it))/$(it).rlib/format)
 
-# The toolchain, or a sentence where it isn't there.
-needs_rt = command -v rt >/dev/null || { echo 'make: there is no command rt. Install the Rattle toolchain, which proves \
-    and builds this, and put its folder bin/ on the PATH (README.md, "Build it")' >&2; exit 1; }
+# The toolchain, or a line where it isn't there.
+needs_rt = command -v rt >/dev/null || { echo 'make: there is no command rt, of the Rattle toolchain, for the proved \
+    build: make rust and make install FROM=rust do without it (README.md, "Build it")' >&2; exit 1; }
 
-made = $(BUILD)/libcosvigle.a $(BUILD)/$(SONAME) $(BUILD)/cosvigle.pc $(BUILD)/cosvigle-static.pc \
-    $(BUILD)/cosvigleConfig.cmake $(BUILD)/cosvigleConfigVersion.cmake
+made = $(BUILD)/libcosvigle.a $(BUILD)/$(SONAME)
 headers = include/cosvigle.h include/cosvigle.hpp
 
 all: $(symfilter) $(cosvigle) $(library)
+
+include packaging/rust.mk
+
+# What is installed, of either build.
+programs.proved = $(symfilter) $(cosvigle)
+programs.rust = $(rust_programs)
+ifeq ($(programs.$(FROM)),)
+$(error FROM=$(FROM) isn't one of: proved rust)
+endif
 
 cosvigle: $(cosvigle)
 symfilter: $(symfilter)
@@ -94,43 +108,49 @@ $(library): $(call sources,cosvigle_c)
 	+$(call below,cosvigle_c)
 	$(call prove,cosvigle_c,lib,--crate-type staticlib --backend llvm --toolchain "$$kit/toolchain" -o $@)
 
+ifeq ($(FROM),rust)
+# One object of what the calls need, in which no other name is left: the archives of two crates in one program would
+# have names in common.
+calls = $(shell sed -n 's/^ *\(cosvigle_[a-z_]*\);$$/\1/p' packaging/cosvigle.map)
+$(BUILD)/libcosvigle.a: out/rust/built packaging/cosvigle.map
+	$(LD) -r --gc-sections --force-group-allocation $(calls:%=-u %) --whole-archive $(rust_archive) -o $(BUILD)/cosvigle.o
+	$(OBJCOPY) --strip-debug -R .llvmbc -R .llvmcmd $(calls:%=--keep-global-symbol=%) $(BUILD)/cosvigle.o
+	rm -f $@
+	$(AR) rcs $@ $(BUILD)/cosvigle.o
+	rm $(BUILD)/cosvigle.o
+else
 # One archive out of the crate's and the toolchain's library where malloc is called, which each library for C needs.
 $(BUILD)/libcosvigle.a: $(library)
 	@$(needs_rt)
 	rm -f $@
 	heap=$$(dirname "$$(rt doc)")/c/liblibc_c.a && test -f "$$heap" && \
 	    printf 'create $@\naddlib $(library)\naddlib %s\nsave\nend\n' "$$heap" | ar -M
+endif
 
 $(BUILD)/$(SONAME): $(BUILD)/libcosvigle.a packaging/cosvigle.map
 	$(CC) $(CFLAGS) $(LDFLAGS) -shared -o $@ -Wl,-soname,$(SONAME) -Wl,--version-script=packaging/cosvigle.map \
 	    -Wl,-z,defs -Wl,-z,noexecstack -Wl,--whole-archive $(BUILD)/libcosvigle.a -Wl,--no-whole-archive
 
-# What depends on the variables is made each time. The files for pkg-config and CMake name no folder: they find the
-# others from their own, by paths relative to LIBDIR.
+# The files for pkg-config and CMake depend on the variables, and so are made where they are installed. They name no
+# folder: they find the others from their own, by paths relative to LIBDIR.
 from_libdir = $(shell realpath -m --relative-to=$(LIBDIR) $(1))
 fill = sed -e 's|@PREFIX@|$(call from_libdir,$(PREFIX))|g' -e 's|@INCLUDEDIR@|$(call from_libdir,$(INCLUDEDIR))|g' \
     -e 's|@VERSION@|$(VERSION)|g' -e 's|@SONAME@|$(SONAME)|g'
 
-$(BUILD)/cosvigle.pc: packaging/cosvigle.pc.in FORCE
-	$(fill) -e 's|@NAME@|cosvigle|' -e 's|@LINK@|-lcosvigle|' $< >$@
-
-$(BUILD)/cosvigle-static.pc: packaging/cosvigle.pc.in FORCE
-	$(fill) -e 's|@NAME@|cosvigle-static|' -e 's|@LINK@|-l:libcosvigle.a|' $< >$@
-
-$(BUILD)/%.cmake: packaging/%.cmake.in FORCE
-	$(fill) $< >$@
-
-install: all $(made)
+install: $(programs.$(FROM)) $(made)
 	install -d $(DESTDIR)$(BINDIR) $(DESTDIR)$(LIBDIR)/pkgconfig $(DESTDIR)$(LIBDIR)/cmake/cosvigle $(DESTDIR)$(INCLUDEDIR) \
 	    $(DESTDIR)$(MANDIR)/man1
-	install $(symfilter) $(cosvigle) $(DESTDIR)$(BINDIR)
+	install $(programs.$(FROM)) $(DESTDIR)$(BINDIR)
 	install -m 644 docs/cosvigle.1 $(DESTDIR)$(MANDIR)/man1
 	install -m 644 $(BUILD)/libcosvigle.a $(DESTDIR)$(LIBDIR)
 	install -m 755 $(BUILD)/$(SONAME) $(DESTDIR)$(LIBDIR)/libcosvigle.so.$(VERSION)
 	ln -sf libcosvigle.so.$(VERSION) $(DESTDIR)$(LIBDIR)/$(SONAME)
 	ln -sf $(SONAME) $(DESTDIR)$(LIBDIR)/libcosvigle.so
-	install -m 644 $(BUILD)/cosvigle.pc $(BUILD)/cosvigle-static.pc $(DESTDIR)$(LIBDIR)/pkgconfig
-	install -m 644 $(BUILD)/cosvigleConfig.cmake $(BUILD)/cosvigleConfigVersion.cmake $(DESTDIR)$(LIBDIR)/cmake/cosvigle
+	for kind in 'cosvigle -lcosvigle' 'cosvigle-static -l:libcosvigle.a'; do \
+	    $(fill) -e "s|@NAME@|$${kind% *}|" -e "s|@LINK@|$${kind#* }|" packaging/cosvigle.pc.in | \
+	    install -m 644 /dev/stdin "$(DESTDIR)$(LIBDIR)/pkgconfig/$${kind% *}.pc"; done
+	for file in cosvigleConfig cosvigleConfigVersion; do $(fill) "packaging/$$file.cmake.in" | \
+	    install -m 644 /dev/stdin "$(DESTDIR)$(LIBDIR)/cmake/cosvigle/$$file.cmake"; done
 	install -m 644 $(headers) $(DESTDIR)$(INCLUDEDIR)
 
 uninstall:
@@ -148,6 +168,4 @@ clean:
 
 include packaging/packages.mk
 
-FORCE:
-
-.PHONY: all cosvigle symfilter install uninstall check clean FORCE
+.PHONY: all cosvigle symfilter install uninstall check clean

@@ -1,6 +1,7 @@
 /* Cosvigle: a demangler for C++ symbols of the Itanium C++ ABI. This header is C99.
  *
- * What is proved: the calls that the library exports. Their contracts are in crates/cosvigle_c of the sources. Two
+ * What is proved: the calls that the library exports, if the Rattle toolchain has built it. Their contracts are in
+ * crates/cosvigle_c of the sources. A library that was built as plain Rust has the same calls, and is only tested. Two
  * things in this header are C that nothing proves: the functions at its end that take NULL in place of a pointer, and
  * cosvigle_string.
  *
@@ -28,9 +29,9 @@
  * number in its soname, which is libcosvigle.so.0 now. This number isn't the major version: 0.2.0 may have number 1.
  *
  * Stack: for the deepest symbols that have a name or a signature, a call needs at most 96 KiB of its thread's stack.
- * This is measured, and not proved.
+ * This is measured with the proved library, and not proved.
  *
- * The library has no unwind tables: a backtrace that is taken inside a call ends there. */
+ * The proved library has no unwind tables: a backtrace that is taken inside a call ends there. */
 #ifndef COSVIGLE_H
 #define COSVIGLE_H
 

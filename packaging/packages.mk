@@ -1,4 +1,4 @@
-# Packages of what is built, for Linux on x86-64. Makefile includes this file. Nothing is proved here: if the programs
+# Packages of the proved build, for Linux on x86-64. Makefile includes this file. Nothing is proved here: if the programs
 # or the library aren't built, or are older than their sources, one line says so.
 #
 #     make dist        a tar.gz with one folder, which may lie anywhere
@@ -21,8 +21,8 @@ triplet = x86_64-linux-gnu
 distribution = cosvigle-$(VERSION)-$(triplet)
 epoch = $(or $(SOURCE_DATE_EPOCH),$(shell git log -1 --format=%ct 2>/dev/null),315532800)
 tree = $(PACKAGES)/tree
-guides = README.md $(addprefix docs/,USE.md MIGRATING.md GRAMMAR.md DIFFERENCES.md PROMISES.md BELIEVE.md) \
-    examples/c/names.c examples/cpp/names.cc
+guides = README.md examples/c/names.c examples/cpp/names.cc \
+    $(addprefix docs/,USE.md MIGRATING.md LIMITS.md GRAMMAR.md DIFFERENCES.md PROOF.md PROMISES.md BELIEVE.md)
 
 # The commands that a kind of package needs, each with the package of Debian that brings it.
 needed = realpath:coreutils flock:util-linux $(STRIP):binutils objdump:binutils
@@ -38,7 +38,7 @@ dist deb wheel:
 	@$(MAKE) -q all >/dev/null 2>&1 || \
 	    $(call refuse,the programs or the library aren't built$(comma) or are older than their sources: run 'make -j4 all')
 	@mkdir -p $(PACKAGES)
-	@flock packaging/packages.mk $(MAKE) --no-print-directory packed-$@
+	@flock packaging/packages.mk $(MAKE) --no-print-directory FROM=proved packed-$@
 
 packages: dist deb wheel
 

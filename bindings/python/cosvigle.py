@@ -1,5 +1,5 @@
-"""Demangles C++ symbols of the Itanium C++ ABI, by the shared library libcosvigle.so.0, whose calls are proved. This
-module is not proved.
+"""Demangles C++ symbols of the Itanium C++ ABI, by the shared library libcosvigle.so.0. Its calls are proved if the
+Rattle toolchain has built it. This module is not proved.
 
     >>> import cosvigle
     >>> cosvigle.demangle("_ZN3Foo3barEv")

@@ -2,17 +2,16 @@
 
 use std::io::{self, BufRead, Write};
 
-fn main() -> Result<(), Box<dyn std::error::Error>> {
+fn main() -> io::Result<()> {
     let mut demangler = cosvigle::Demangler::new();
     let mut output = io::BufWriter::new(io::stdout().lock());
     for line in io::stdin().lock().split(b'\n') {
         let line = line?;
-        match demangler.demangle_bytes(&line)? {
+        match std::str::from_utf8(&line).ok().and_then(|symbol| demangler.demangle(symbol)) {
             Some(name) => output.write_all(name.as_bytes())?,
             None => output.write_all(&line)?,
         }
         output.write_all(b"\n")?;
     }
-    output.flush()?;
-    Ok(())
+    output.flush()
 }
