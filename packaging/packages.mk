@@ -1,5 +1,5 @@
-# Packages of the proved build, for Linux on x86-64. Makefile includes this file. Nothing is proved here: if the programs
-# or the library aren't built, or are older than their sources, one line says so.
+# Packages of the proved build, whatever FROM is, for Linux on x86-64. Makefile includes this file. Nothing is proved
+# here: if the programs or the library aren't built, or are older than their sources, one line says so.
 #
 #     make dist        a tar.gz with one folder, which may lie anywhere
 #     make deb         three packages for Debian: cosvigle, libcosvigle0 and libcosvigle-dev
