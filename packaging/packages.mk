@@ -1,5 +1,5 @@
-# Packages of what is built, for Linux on x86-64. Makefile includes this file. Nothing is proved here: if the programs
-# or the library aren't built, or are older than their sources, one line says so.
+# Packages of the proved build, whatever FROM is, for Linux on x86-64. Makefile includes this file. Nothing is proved
+# here: if the programs or the library aren't built, or are older than their sources, one line says so.
 #
 #     make dist        a tar.gz with one folder, which may lie anywhere
 #     make deb         three packages for Debian: cosvigle, libcosvigle0 and libcosvigle-dev
@@ -21,9 +21,8 @@ triplet = x86_64-linux-gnu
 distribution = cosvigle-$(VERSION)-$(triplet)
 epoch = $(or $(SOURCE_DATE_EPOCH),$(shell git log -1 --format=%ct 2>/dev/null),315532800)
 tree = $(PACKAGES)/tree
-guides = README.md $(addprefix docs/,USE.md MIGRATING.md LIMITS.md GRAMMAR.md DIFFERENCES.md PROOF.md PROMISES.md \
-    BELIEVE.md) \
-    examples/c/names.c examples/cpp/names.cc
+guides = README.md examples/c/names.c examples/cpp/names.cc \
+    $(addprefix docs/,USE.md MIGRATING.md LIMITS.md GRAMMAR.md DIFFERENCES.md PROOF.md PROMISES.md BELIEVE.md)
 
 # The commands that a kind of package needs, each with the package of Debian that brings it.
 needed = realpath:coreutils flock:util-linux $(STRIP):binutils objdump:binutils
@@ -39,21 +38,20 @@ dist deb wheel:
 	@$(MAKE) -q all >/dev/null 2>&1 || \
 	    $(call refuse,the programs or the library aren't built$(comma) or are older than their sources: run 'make -j4 all')
 	@mkdir -p $(PACKAGES)
-	@flock packaging/packages.mk $(MAKE) --no-print-directory packed-$@
+	@flock packaging/packages.mk $(MAKE) --no-print-directory FROM=proved packed-$@
 
 packages: dist deb wheel
 
-# The names of compilers go too, as Debian has it.
-stripped = $(STRIP) --remove-section=.comment
+# The variables of `make install` for a prefix below `tree`, and for a folder of libraries below the prefix.
+places = DESTDIR=$(abspath $(tree)) PREFIX=$(1) BINDIR=$(1)/bin LIBDIR=$(1)/$(2) INCLUDEDIR=$(1)/include \
+    MANDIR=$(1)/share/man
 
-# Installs below `tree`, for a prefix and a folder of libraries below it. The programs and libraries are stripped.
-define installed
-	rm -rf $(tree)
-	+$(MAKE) --no-print-directory install FROM=proved DESTDIR=$(abspath $(tree)) PREFIX=$(1) BINDIR=$(1)/bin \
-	    LIBDIR=$(1)/$(2) INCLUDEDIR=$(1)/include MANDIR=$(1)/share/man
-	$(stripped) $(tree)$(1)/bin/cosvigle $(tree)$(1)/bin/symfilter
-	$(stripped) --strip-unneeded $(tree)$(1)/$(2)/libcosvigle.so.$(VERSION)
-	$(stripped) --strip-debug $(tree)$(1)/$(2)/libcosvigle.a
+# Strips what was installed there. The names of compilers go too, as Debian has it.
+strip = $(STRIP) --remove-section=.comment
+define stripped
+	$(strip) $(tree)$(1)/bin/cosvigle $(tree)$(1)/bin/symfilter
+	$(strip) --strip-unneeded $(tree)$(1)/$(2)/libcosvigle.so.$(VERSION)
+	$(strip) --strip-debug $(tree)$(1)/$(2)/libcosvigle.a
 endef
 
 # Gives the files of a folder modes and times that are the same on each machine.
@@ -67,7 +65,9 @@ define moved
 endef
 
 packed-dist:
-	$(call installed,/opt/$(distribution),lib)
+	rm -rf $(tree)
+	$(MAKE) --no-print-directory install $(call places,/opt/$(distribution),lib)
+	$(call stripped,/opt/$(distribution),lib)
 	install -d $(tree)/opt/$(distribution)/share/doc/cosvigle
 	cp --parents $(guides) LICENSE CHANGELOG.md $(tree)/opt/$(distribution)/share/doc/cosvigle
 	$(call settled,$(tree))
@@ -77,7 +77,9 @@ packed-dist:
 
 packed-deb: export MAINTAINER := $(MAINTAINER)
 packed-deb:
-	$(call installed,/usr,lib/$(triplet))
+	rm -rf $(tree)
+	$(MAKE) --no-print-directory install $(call places,/usr,lib/$(triplet))
+	$(call stripped,/usr,lib/$(triplet))
 	install -d $(tree)/usr/share/doc/cosvigle
 	cp --parents $(guides) $(tree)/usr/share/doc/cosvigle
 	SOURCE_DATE_EPOCH=$(epoch) packaging/deb $(tree) $(VERSION) $(SONAME_NUMBER)
@@ -86,7 +88,7 @@ packed-deb:
 packed-wheel: $(BUILD)/$(SONAME)
 	rm -rf $(tree)
 	install -D $(BUILD)/$(SONAME) $(tree)/$(SONAME)
-	$(stripped) --strip-unneeded $(tree)/$(SONAME)
+	$(strip) --strip-unneeded $(tree)/$(SONAME)
 	SOURCE_DATE_EPOCH=$(epoch) packaging/wheel $(tree)/$(SONAME) $(VERSION) "$$(packaging/glibc $(tree)/$(SONAME))" $(tree)
 	$(call moved,$(tree)/*.whl)
 
