@@ -4,7 +4,7 @@
 # After `make -j4 all libcosvigle.so.0`, or after `make rust`, it runs no compiler but that of C: run it by sudo if
 # PREFIX needs that.
 #
-#     make rust                                the extracted build, half a minute (packaging/rust.mk)
+#     make rust                                the extracted build, a minute (packaging/rust.mk)
 #     make -j4                                 the proved build, sixteen to fifty minutes where nothing is proved yet
 #     make cosvigle                            the program alone, proved
 #     make install PREFIX=/usr DESTDIR=/tmp/x  PREFIX: /usr/local unless given; DESTDIR: put in front, for packages;

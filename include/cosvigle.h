@@ -29,7 +29,7 @@
  * number in its soname, which is libcosvigle.so.0 now. This number isn't the major version: 0.2.0 may have number 1.
  *
  * Stack: for the deepest symbols that have a name or a signature, a call needs at most 96 KiB of its thread's stack.
- * This is measured with the proved library, and not proved.
+ * This is measured, and not proved.
  *
  * The proved library has no unwind tables: a backtrace that is taken inside a call ends there. */
 #ifndef COSVIGLE_H
