@@ -53,14 +53,14 @@ extern "C" {
 
 /* What a call returns. Treat a status that you don't know as an error, since a later version may have more. */
 enum {
-    COSVIGLE_WRITTEN = 0,   /* the text is written, and *needed is its length in bytes; cosvigle_new: all is done */
+    COSVIGLE_OK = 0,   /* the text is written, and *needed is its length in bytes; cosvigle_new: all is done */
     COSVIGLE_NO_ANSWER = 1, /* the symbol has no demangled name; cosvigle_take: the handle keeps no text */
     COSVIGLE_NO_MEMORY = 2, /* an allocation failed */
     COSVIGLE_NO_ROOM = 3,   /* the text is longer than capacity: *needed is its length in bytes */
     COSVIGLE_NOT_UTF8 = 4,  /* the symbol as a whole isn't UTF-8, and isn't read */
     COSVIGLE_BAD_CALL = 5   /* a pointer is NULL that must not be */
 };
-/* out points to capacity bytes of memory of the caller. If a call with these parameters returns COSVIGLE_WRITTEN, the
+/* out points to capacity bytes of memory of the caller. If a call with these parameters returns COSVIGLE_OK, the
  * text is at out, without a NUL. The bytes after the text are unchanged. With any other status nothing is written to
  * that memory, and *needed is 0 unless the status is COSVIGLE_NO_ROOM. */
 
@@ -104,7 +104,7 @@ int cosvigle_demangle(const char *symbol, size_t len, char *out, size_t capacity
  * bytes of the word that follow what was read are dropped, as in cosvigle_ask: foo for _Z3foov_Z3barv. A word without
  * a symbol, or whose symbol has no name, is kept. Bytes that are in no word are kept too.
  *
- * The status is COSVIGLE_WRITTEN, COSVIGLE_NO_MEMORY or COSVIGLE_NO_ROOM, and COSVIGLE_BAD_CALL for a NULL. A call
+ * The status is COSVIGLE_OK, COSVIGLE_NO_MEMORY or COSVIGLE_NO_ROOM, and COSVIGLE_BAD_CALL for a NULL. A call
  * takes more than 128 KiB of memory while it runs. So give it whole texts rather than single lines.
  *
  * After COSVIGLE_NO_ROOM the handle keeps the text that was made. To get it, call cosvigle_take with *needed bytes of
@@ -120,14 +120,14 @@ int cosvigle_replace(cosvigle_handle *handle, bool strip, const char *text, size
 int cosvigle_filter_with(cosvigle_handle *handle, const char *lines, size_t len, char *out, size_t capacity,
                          size_t *needed);
 
-/* Writes the text that the handle keeps. The status is COSVIGLE_WRITTEN, and then the handle no longer keeps the text;
+/* Writes the text that the handle keeps. The status is COSVIGLE_OK, and then the handle no longer keeps the text;
  * COSVIGLE_NO_ANSWER if the handle keeps none; or COSVIGLE_NO_ROOM, and then the handle still keeps it. */
 int cosvigle_take(cosvigle_handle *handle, char *out, size_t capacity, size_t *needed);
 
 /* The same as cosvigle_filter_with, without a handle. After COSVIGLE_NO_ROOM the text has to be made again. */
 int cosvigle_filter(const char *lines, size_t len, char *out, size_t capacity, size_t *needed);
 
-/* Gives the handle a new demangler, and frees what it had. The status is COSVIGLE_WRITTEN, or COSVIGLE_NO_MEMORY, and
+/* Gives the handle a new demangler, and frees what it had. The status is COSVIGLE_OK, or COSVIGLE_NO_MEMORY, and
  * then the handle has none. No text is written. No program has to call this first: the calls that demangle make a
  * demangler if the handle has none. */
 int cosvigle_new(cosvigle_handle *handle);
@@ -262,7 +262,7 @@ COSVIGLE_INLINE char *cosvigle_string(const char *symbol) {
         status = larger == NULL ? COSVIGLE_NO_MEMORY : cosvigle_ask(&handle, symbol, len, text, capacity - 1, &needed);
     }
     cosvigle_free(&handle);
-    if (status == COSVIGLE_WRITTEN) {
+    if (status == COSVIGLE_OK) {
         text[needed] = 0;
         return text;
     }

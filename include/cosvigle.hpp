@@ -164,14 +164,14 @@ class demangler {
         return finish(made, needed);
     }
 
-    // The status of the last call, as cosvigle.h has them. COSVIGLE_WRITTEN before the first.
+    // The status of the last call, as cosvigle.h has them. COSVIGLE_OK before the first.
     int status() const noexcept { return last; }
 
   private:
     cosvigle_handle handle = COSVIGLE_NONE;
     char *text = nullptr;
     std::size_t room = 0;
-    int last = COSVIGLE_WRITTEN;
+    int last = COSVIGLE_OK;
 
     void swap(demangler &other) noexcept {
         std::swap(handle, other.handle);
@@ -185,7 +185,7 @@ class demangler {
         std::size_t needed = 0;
         if (text != nullptr || grow(256)) ask(call, symbol, needed);
         if (last == COSVIGLE_NO_ROOM && needed > room && grow(needed)) ask(call, symbol, needed);
-        if (last == COSVIGLE_WRITTEN) return string_view(text, needed);
+        if (last == COSVIGLE_OK) return string_view(text, needed);
         if (last != COSVIGLE_NO_ANSWER && last != COSVIGLE_NOT_UTF8) fault();
         return nullopt;
     }
@@ -211,7 +211,7 @@ class demangler {
             made.resize(needed);
             last = cosvigle_take(&handle, &made[0], made.size(), &needed);
         }
-        if (last == COSVIGLE_WRITTEN) {
+        if (last == COSVIGLE_OK) {
             made.resize(needed);
             return optional<std::string>(std::move(made));
         }

@@ -35,7 +35,7 @@ int main(void) {
             status = cosvigle_ask(&handle, line, len, answer, room, &needed);
         }
         if (status == COSVIGLE_NO_MEMORY) return 2;
-        if (status == COSVIGLE_WRITTEN) fwrite(answer, 1, needed, stdout);
+        if (status == COSVIGLE_OK) fwrite(answer, 1, needed, stdout);
         else fwrite(line, 1, len, stdout);
         putchar('\n');
     }

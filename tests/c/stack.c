@@ -24,7 +24,7 @@ static void *ask(void *unused) {
     const int as_signature = cosvigle_ask_signature(&handle, symbol, length, answer, sizeof answer, &needed);
     cosvigle_free(&handle);
     (void)unused;
-    return status == COSVIGLE_WRITTEN && as_signature == COSVIGLE_WRITTEN ? symbol : NULL;
+    return status == COSVIGLE_OK && as_signature == COSVIGLE_OK ? symbol : NULL;
 }
 
 /* How many bytes of its stack the thread used that asked the symbol, or 0 where it has no answer. */

@@ -42,7 +42,7 @@ static void answered(const cosvigle::demangler &value, cosvigle::optional<cosvig
                      const char *answer) {
     holds(found.has_value() == (answer != nullptr), "whether there is an answer");
     holds(static_cast<bool>(found) == found.has_value(), "the same as a condition");
-    if (answer != nullptr) holds(found.value_or("") == answer && value.status() == COSVIGLE_WRITTEN, answer);
+    if (answer != nullptr) holds(found.value_or("") == answer && value.status() == COSVIGLE_OK, answer);
     else holds(value.status() == COSVIGLE_NO_ANSWER || value.status() == COSVIGLE_NOT_UTF8, "the status without one");
 }
 

@@ -6,7 +6,7 @@ ghost use Rattle.cosvigle.specs.Arguments.{IsArgumentAnswer};
 use itanium_demangle::{Demangler, is_utf8};
 use std::alloc::{AllocError, Global};
 use std::str;
-use symfilter_engine::{ReplaceOptions, prepare_for};
+use symfilter_engine::{ReplaceOptions, read_as};
 
 /// Returns how many bytes are in front of the symbol in an argument: 6 for `__imp_`, and otherwise 0. They are printed
 /// unchanged.
@@ -61,7 +61,7 @@ pub fn answer_of<'a>(
         });
     }
     let symbol = unsafe { str::from_utf8_unchecked(symbol) };
-    prepare_for(alloc, demangler, options.printing, symbol)?;
+    read_as(alloc, demangler, options.printing, symbol)?;
     match demangler.text() {
         Some(answer) => Ok(Printed {
             front: &argument[..len],

@@ -26,7 +26,7 @@ mod texts;
 use handle::Handle;
 use itanium_demangle::is_utf8;
 use kept::Kept;
-use status::{NO_ANSWER, NO_MEMORY, NOT_UTF8, WRITTEN, hand_out};
+use status::{NO_ANSWER, NO_MEMORY, NOT_UTF8, WRITTEN, write_if_fits};
 use std::alloc::Global;
 use std::mem::replace;
 use std::str::from_utf8_unchecked;
@@ -76,7 +76,7 @@ fn ask(
     };
     let status = match kept.read(alloc, printing, text) {
         Ok(()) => match kept.demangler.text() {
-            Some(found) => hand_out(found.as_bytes(), answer, needed),
+            Some(found) => write_if_fits(found.as_bytes(), answer, needed),
             None => NO_ANSWER,
         },
         Err(_) => NO_MEMORY,

@@ -17,7 +17,7 @@ pub(crate) const NOT_UTF8: i32 = 4;
 
 /// Writes the text at the front of the caller's memory if it fits, and its length in bytes to `needed` in any case.
 /// Returns `WRITTEN` or `NO_ROOM`.
-pub(crate) fn hand_out(text: &[u8], into: &mut [u8], needed: &mut usize) -> i32
+pub(crate) fn write_if_fits(text: &[u8], into: &mut [u8], needed: &mut usize) -> i32
     ensures status { result ≢ pos 0 → result ≡ pos 3 }
     ensures fills { result ≡ pos 0 → Fills text.now into.old into.new needed.new }
     ensures short { result ≡ pos 3 → IsShort text.now into.old into.new needed.new }

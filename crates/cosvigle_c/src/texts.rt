@@ -10,7 +10,7 @@ ghost use Rattle.cosvigle_c.specs.Calls.{by_names, WritesLines, LacksLines, Keep
 
 use crate::handle::Handle;
 use crate::kept::Kept;
-use crate::status::{NO_ANSWER, NO_MEMORY, NO_ROOM, WRITTEN, hand_out};
+use crate::status::{NO_ANSWER, NO_MEMORY, NO_ROOM, WRITTEN, write_if_fits};
 use std::alloc::{AllocError, Global};
 use std::mem;
 use symfilter_engine::{
@@ -96,7 +96,7 @@ pub extern "C" fn cosvigle_filter(
 {
     *needed = 0;
     match filtered(alloc, lines) {
-        Ok(made) => hand_out(&made, into, needed),
+        Ok(made) => write_if_fits(&made, into, needed),
         Err(_) => NO_MEMORY,
     }
 }
@@ -124,7 +124,7 @@ fn take_kept(alloc: Global, handle: &mut Handle) -> Result<Box<Kept>, AllocError
 
 /// Writes a text at the front of the caller's memory, and its length in bytes to `needed`. If the memory is too small,
 /// keeps the text instead. Returns `WRITTEN` or `NO_ROOM`.
-fn hand_out_or_keep(kept: &mut Kept, made: Vec<u8>, into: &mut [u8], needed: &mut usize) -> i32
+fn write_if_fits_or_keep(kept: &mut Kept, made: Vec<u8>, into: &mut [u8], needed: &mut usize) -> i32
     requires no_text { kept.old.text.items ≡ [] }
     ensures status { result ≢ pos 0 → result ≡ pos 3 }
     ensures fills { result ≡ pos 0 → Fills made.items into.old into.new needed.new }
@@ -133,7 +133,7 @@ fn hand_out_or_keep(kept: &mut Kept, made: Vec<u8>, into: &mut [u8], needed: &mu
     ensures no_text { result ≡ pos 0 → kept.new.text.items ≡ [] }
     ensures demangler { kept.new.demangler ≡ kept.old.demangler }
 {
-    let status = hand_out(&made, into, needed);
+    let status = write_if_fits(&made, into, needed);
     if status == NO_ROOM {
         kept.text = made;
     }
@@ -165,7 +165,7 @@ pub extern "C" fn cosvigle_filter_with(
         return NO_MEMORY;
     };
     let status = match filtered(alloc, lines) {
-        Ok(made) => hand_out_or_keep(&mut kept, made, into, needed),
+        Ok(made) => write_if_fits_or_keep(&mut kept, made, into, needed),
         Err(_) => NO_MEMORY,
     };
     *handle = Handle::of(kept);
@@ -204,7 +204,7 @@ pub extern "C" fn cosvigle_replace(
         return NO_MEMORY;
     };
     let status = match replaced(alloc, strip, text) {
-        Ok(made) => hand_out_or_keep(&mut kept, made, into, needed),
+        Ok(made) => write_if_fits_or_keep(&mut kept, made, into, needed),
         Err(_) => NO_MEMORY,
     };
     *handle = Handle::of(kept);
@@ -240,7 +240,7 @@ pub extern "C" fn cosvigle_take(
     };
     let mut status = NO_ANSWER;
     if !kept.text.is_empty() {
-        status = hand_out(&kept.text, into, needed);
+        status = write_if_fits(&kept.text, into, needed);
     }
     if status == WRITTEN {
         kept.text = Vec::new(alloc);

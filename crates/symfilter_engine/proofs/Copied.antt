@@ -15,7 +15,7 @@ use Rattle.std.proofs.KnownBytes.{Consumes-nil, Consumes-trans, Consumes-kept, K
 use Rattle.std.specs.Prelude.{All, IsErrAnd}
 use Rattle.symfilter_engine.specs.Replaced.{IsWordByte, IsKept, may_hold_symbol}
 use Rattle.std.specs.Io.KnownBytes.{Appends, Consumes, IsAtEnd, Keeps}
-use Rattle.symfilter_engine.specs.Filtered.{line_feed, HasNoLineFeed, WritesFiltered, WritesBeginning, FiltersBeginning, FiltersWhole}
+use Rattle.symfilter_engine.specs.Filtered.{line_feed, HasNoLineFeed, WritesFiltered, WritesBeginning, FiltersAll, FiltersBeginning, FiltersWhole}
 use Rattle.symfilter_engine.specs.Progress.{AreKept, CopiesUpTo, FiltersUpTo, ReplacesUpTo, WritesChunkUpTo, ContinuesTo, ReadsMore, ReplacesBeginning, ReplacesBeginningOfAny, WritesAllButKept, WritesChunkBeginning, WritesSomeOfChunk, FiltersSome, WritesBeginningOfAny}
 use Rattle.symfilter_engine.proofs.ChunkBytes.{nothing_read}
 use Rattle.symfilter_engine.proofs.WordTurns.{no_word_kept, none_replaced, replaced_on, given_more, front_after, front_passed, front_replaced, words_replaced, words_front, whole_words, all_but_kept, replaced_begun, last_on, last_begun, replaced_kept}
@@ -221,6 +221,12 @@ pub last_copied : (placement : Placement) (mid_word : Bool) (left : List ℕ) (s
     → WritesFiltered placement left t' t'' → IfSome s (λ given. WritesFiltered placement given t t'')
 last_copied placement mid_word left s s' t t' t'' so_far ends writes =
     all_read placement s s' t t'' so_far.read so_far.consumed ends (last_written placement mid_word so_far.read left t t' t'' so_far.written so_far.mid_word_keeps_none writes)
+
+-- so all that was read was filtered
+pub last_filtered : (placement : Placement) (mid_word : Bool) (left : List ℕ) (s s' t t' t'' : Option (List ℕ)) → CopiesUpTo placement mid_word left s s' t t'
+    → WritesFiltered placement left t' t'' → FiltersAll placement s s' t t''
+last_filtered placement mid_word left s s' t t' t'' so_far writes =
+    record { read = so_far.read; consumed = so_far.consumed; writes = last_written placement mid_word so_far.read left t t' t'' so_far.written so_far.mid_word_keeps_none writes }
 
 -- a fault came while it was written
 pub last_fault : (placement : Placement) (mid_word : Bool) (left : List ℕ) (s s' t t' t'' : Option (List ℕ)) → CopiesUpTo placement mid_word left s s' t t' → WritesBeginning placement left t' t''

@@ -80,6 +80,14 @@ abbrev pub WritesBeginning : Placement → List ℕ → Option (List ℕ) → Op
 WritesBeginning placement given before after =
     (written : List ℕ) × IsBeginning placement given written × Appends before after written
 
+-- the source gave these bytes, where its bytes are known, and the sink got their filtered text and nothing else, where
+-- its bytes are known
+pub record FiltersAll (placement : Placement)
+    (before after written_before written_after : Option (List ℕ)) : Type 0 where
+  pub read : List ℕ
+  pub consumed : Consumes before after read
+  pub writes : WritesFiltered placement read written_before written_after
+
 -- the source gave a front of its bytes, where they are known, and the sink got a beginning of their filtered text
 pub record FiltersBeginning (placement : Placement)
     (before after written_before written_after : Option (List ℕ)) : Type 0 where

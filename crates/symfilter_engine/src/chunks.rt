@@ -3,7 +3,7 @@ ghost use Rattle.std.specs.Prelude.{◌≡◌, ◌<◌, ◌≤◌, true, false, 
 ghost use Rattle.std.specs.Io.KnownBytes.{Keeps};
 ghost use Rattle.symfilter_engine.specs.declared.symbols.ReplaceOptions.{ReplaceOptions};
 ghost use Rattle.symfilter_engine.specs.Fault.{IsRunOutcome, IsReadOutcome, IsWriteOutcome};
-ghost use Rattle.symfilter_engine.specs.Filtered.{FiltersBeginning, FiltersWhole, WritesFiltered};
+ghost use Rattle.symfilter_engine.specs.Filtered.{FiltersAll, FiltersBeginning, FiltersWhole, WritesFiltered};
 ghost use Rattle.symfilter_engine.specs.Progress.{AreKept, WritesChunkUpTo, ContinuesTo, ReadsMore, WritesAllButKept, WritesChunkBeginning, WritesSomeOfChunk};
 
 use super::fault::FilterFault;
@@ -36,6 +36,8 @@ pub(crate) fn filter_chunks<R: Source, W: Sink>(
     ensures used_up { OnOk result (IfSome (R.remaining source.old) (λ _. R.remaining source.new ≡ Some [])) }
     ensures ok { OnOk result (IfSome (R.remaining source.old) (λ given.
         WritesFiltered placement given (W.taken sink.old) (W.taken sink.new))) }
+    ensures all { OnOk result (FiltersAll placement
+        (R.remaining source.old) (R.remaining source.new) (W.taken sink.old) (W.taken sink.new)) }
     ensures err { OnErr result (FiltersBeginning placement
         (R.remaining source.old) (R.remaining source.new) (W.taken sink.old) (W.taken sink.new)) }
     ensures put { IsErrOf result FilterFault.Read → WritesAllButKept placement

@@ -2,7 +2,7 @@
 ghost use Rattle.std.specs.Prelude.{◌≡◌, ◌↔◌, false, [], IsTrue, IsErrOf, IfSome, Some, OnOk, OnErr};
 ghost use Rattle.symfilter_engine.specs.declared.symbols.Printing.TheVariants.{Names};
 ghost use Rattle.symfilter_engine.specs.declared.symbols.Placement.TheVariants.{Lines};
-ghost use Rattle.symfilter_engine.specs.Filtered.{FiltersBeginning, FiltersAllButKept, FiltersWhole, WritesFiltered};
+ghost use Rattle.symfilter_engine.specs.Filtered.{FiltersAll, FiltersBeginning, FiltersAllButKept, FiltersWhole, WritesFiltered};
 
 use super::chunks::filter_chunks;
 use super::fault::FilterFault;
@@ -36,6 +36,9 @@ pub fn filter<R: Source, W: Sink>(
     ensures used_up { OnOk result (IfSome (R.remaining source.old) (λ _. R.remaining source.new ≡ Some [])) }
     ensures ok { OnOk result (IfSome (R.remaining source.old) (λ given.
         WritesFiltered (Lines Names) given (W.taken sink.old) (W.taken sink.new))) }
+    // Whether or not its bytes are known, the source gave some, and their filtered text was written.
+    ensures all { OnOk result (FiltersAll (Lines Names)
+        (R.remaining source.old) (R.remaining source.new) (W.taken sink.old) (W.taken sink.new)) }
     ensures err { OnErr result (FiltersBeginning (Lines Names)
         (R.remaining source.old) (R.remaining source.new) (W.taken sink.old) (W.taken sink.new)) }
     // Any call of the source may fail. All whole lines that the source gave are written before each call.
@@ -76,6 +79,9 @@ pub fn filter_with<R: Source, W: Sink>(
     ensures used_up { OnOk result (IfSome (R.remaining source.old) (λ _. R.remaining source.new ≡ Some [])) }
     ensures ok { OnOk result (IfSome (R.remaining source.old) (λ given.
         WritesFiltered (Lines printing) given (W.taken sink.old) (W.taken sink.new))) }
+    // Whether or not its bytes are known, the source gave some, and their filtered text was written.
+    ensures all { OnOk result (FiltersAll (Lines printing)
+        (R.remaining source.old) (R.remaining source.new) (W.taken sink.old) (W.taken sink.new)) }
     ensures err { OnErr result (FiltersBeginning (Lines printing)
         (R.remaining source.old) (R.remaining source.new) (W.taken sink.old) (W.taken sink.new)) }
     // Any call of the source may fail. All whole lines that the source gave are written before each call.

@@ -30,5 +30,5 @@ pub use fault::FilterFault;
 pub use filtering::{filter, filter_with};
 pub use replacing::replace;
 pub use streams::{Failed, Sink, Source};
-pub use symbols::{Printing, ReplaceOptions, prepare_for};
+pub use symbols::{Printing, ReplaceOptions, read_as};
 pub use tally::Tally;

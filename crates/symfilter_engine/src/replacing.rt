@@ -1,7 +1,7 @@
 //! The replacement of symbols in words.
 ghost use Rattle.std.specs.Prelude.{◌≡◌, ◌↔◌, false, [], IsTrue, IsErrOf, IfSome, Some, OnOk, OnErr};
 ghost use Rattle.symfilter_engine.specs.declared.symbols.Placement.TheVariants.{Words};
-ghost use Rattle.symfilter_engine.specs.Filtered.{FiltersBeginning, FiltersWhole, ReplacesAllButKept, WritesFiltered};
+ghost use Rattle.symfilter_engine.specs.Filtered.{FiltersAll, FiltersBeginning, FiltersWhole, ReplacesAllButKept, WritesFiltered};
 
 use super::chunks::filter_chunks;
 use super::fault::FilterFault;
@@ -37,6 +37,9 @@ pub fn replace<R: Source, W: Sink>(
     ensures used_up { OnOk result (IfSome (R.remaining source.old) (λ _. R.remaining source.new ≡ Some [])) }
     ensures ok { OnOk result (IfSome (R.remaining source.old) (λ given.
         WritesFiltered (Words options) given (W.taken sink.old) (W.taken sink.new))) }
+    // Whether or not its bytes are known, the source gave some, and their replaced text was written.
+    ensures all { OnOk result (FiltersAll (Words options)
+        (R.remaining source.old) (R.remaining source.new) (W.taken sink.old) (W.taken sink.new)) }
     ensures err { OnErr result (FiltersBeginning (Words options)
         (R.remaining source.old) (R.remaining source.new) (W.taken sink.old) (W.taken sink.new)) }
     // Any call of the source may fail. All that the source gave is written before each call, except a word that may

@@ -37,7 +37,7 @@ pub(crate) enum Placement {
 /// Reads a symbol. Afterwards the demangler has the text that is printed for the symbol, or no text if the symbol is
 /// printed as it is. Returns an error if an allocation fails; then the demangler has no text.
 #[inline(always)]
-pub fn prepare_for(
+pub fn read_as(
     alloc: Global,
     demangler: &mut Demangler,
     printing: Printing,

@@ -5,7 +5,7 @@ ghost use Rattle.symfilter_engine.specs.Replaced.{IsWordByte, IsDot, ends_in_dot
 ghost use Rattle.symfilter_engine.specs.Progress.{AppendsReplaced, Extends};
 
 use super::prefixes::first_prefix;
-use super::symbols::{ReplaceOptions, prepare_for};
+use super::symbols::{ReplaceOptions, read_as};
 use super::word_bounds::{word_end, word_start};
 use growing_text::Text;
 use itanium_demangle::Demangler;
@@ -97,7 +97,7 @@ fn word_answer<'a>(
         return Ok(None);
     };
     let symbol = unsafe { str::from_utf8_unchecked(symbol) };
-    prepare_for(alloc, demangler, options.printing, symbol)?;
+    read_as(alloc, demangler, options.printing, symbol)?;
     match demangler.text() {
         Some(answer) => Ok(Some((chars_len, answer))),
         None => Ok(None),

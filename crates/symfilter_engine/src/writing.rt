@@ -1,6 +1,6 @@
 //! Writes whole lines or words, and a last line or word.
 //!
-//! A parameter `whole` ends at a boundary: after a line feed for `Placement::Lines`, and after a byte that is in no
+//! A parameter `complete_text` ends at a boundary: after a line feed for `Placement::Lines`, and after a byte that is in no
 //! word for `Placement::Words`. Ordinary text is written as it is: a line that doesn't begin with an underscore, or
 //! text that has no `_Z`.
 ghost use Rattle.std.specs.Prelude.{◌≡◌, ◌<◌, ◌≤◌, [], false, length, take, drop, IsTrue, IsErrOf, IsUtf8, IfOk, OnOk, OnErr};
@@ -17,7 +17,7 @@ use super::fault::FilterFault;
 use super::output::write_all;
 use super::prefixes::ordinary_words_len;
 use super::streams::Sink;
-use super::symbols::{Placement, Printing, ReplaceOptions, prepare_for};
+use super::symbols::{Placement, Printing, ReplaceOptions, read_as};
 use super::word_bounds::{whole_words_len, word_end};
 use super::words::append_words;
 use growing_text::Text;
@@ -61,13 +61,13 @@ pub(crate) fn whole_lines_len(bytes: &[u8], kept: usize) -> usize
 
 /// Returns the length in bytes of the first whole lines or words, up to one that isn't ordinary.
 #[inline(always)]
-fn ordinary_len(placement: Placement, whole: &[u8]) -> usize
-    ensures bound { result ≤ length whole.now }
-    ensures ordinary { AreWholeFiltered placement (take result whole.now) (take result whole.now) }
+fn ordinary_len(placement: Placement, complete_text: &[u8]) -> usize
+    ensures bound { result ≤ length complete_text.now }
+    ensures ordinary { AreWholeFiltered placement (take result complete_text.now) (take result complete_text.now) }
 {
     match placement {
-        Placement::Lines(_) => ordinary_lines_len(whole),
-        Placement::Words(_) => ordinary_words_len(whole),
+        Placement::Lines(_) => ordinary_lines_len(complete_text),
+        Placement::Words(_) => ordinary_words_len(complete_text),
     }
 }
 
@@ -105,7 +105,7 @@ fn line_answer<'a>(
         return Ok(line);
     }
     let symbol = unsafe { str::from_utf8_unchecked(line) };
-    prepare_for(alloc, demangler, printing, symbol)?;
+    read_as(alloc, demangler, printing, symbol)?;
     match demangler.text() {
         Some(answer) => Ok(answer.as_bytes()),
         None => Ok(line),
@@ -189,28 +189,33 @@ fn append_next(
     alloc: Global,
     demangler: &mut Demangler,
     placement: Placement,
-    whole: &[u8],
+    complete_text: &[u8],
     known_utf8: bool,
     output: &mut Text,
 ) -> Result<usize, AllocError>
-    requires some { 0 < length whole.now }
-    requires whole { AreWhole placement whole.now }
-    requires known { (printing : Printing) → placement ≡ Lines printing → IsTrue known_utf8 → IsUtf8 whole.now }
+    requires some { 0 < length complete_text.now }
+    requires whole { AreWhole placement complete_text.now }
+    requires known { (printing : Printing) → placement ≡ Lines printing → IsTrue known_utf8 → IsUtf8 complete_text.now }
     ensures some { IfOk result (λ len. 0 < len) }
-    ensures bound { IfOk result (λ len. len ≤ length whole.now) }
-    ensures ok { IfOk result (λ len. AppendsFiltered placement (take len whole.now) output.old output.new) }
+    ensures bound { IfOk result (λ len. len ≤ length complete_text.now) }
+    ensures ok { IfOk result (λ len. AppendsFiltered placement (take len complete_text.now) output.old output.new) }
     ensures err { OnErr result (output.new ≡ output.old) }
 {
-    let ordinary = ordinary_len(placement, whole);
+    let ordinary = ordinary_len(placement, complete_text);
     if ordinary > 0 {
-        output.add(&whole[..ordinary])?;
+        output.add(&complete_text[..ordinary])?;
         return Ok(ordinary);
     }
     match placement {
         Placement::Lines(printing) => append_line(
-            alloc, demangler, printing, whole, known_utf8, output,
+            alloc,
+            demangler,
+            printing,
+            complete_text,
+            known_utf8,
+            output,
         ),
-        Placement::Words(options) => append_block(alloc, demangler, options, whole, output),
+        Placement::Words(options) => append_block(alloc, demangler, options, complete_text, output),
     }
 }
 
@@ -221,27 +226,27 @@ fn gather_whole(
     alloc: Global,
     demangler: &mut Demangler,
     placement: Placement,
-    whole: &[u8],
+    complete_text: &[u8],
     known_utf8: bool,
     output: &mut Text,
 ) -> Result<usize, AllocError>
-    requires some { 0 < length whole.now }
-    requires whole { AreWhole placement whole.now }
-    requires known { (printing : Printing) → placement ≡ Lines printing → IsTrue known_utf8 → IsUtf8 whole.now }
+    requires some { 0 < length complete_text.now }
+    requires whole { AreWhole placement complete_text.now }
+    requires known { (printing : Printing) → placement ≡ Lines printing → IsTrue known_utf8 → IsUtf8 complete_text.now }
     requires empty { output.old ≡ [] }
     ensures some { IfOk result (λ len. 0 < len) }
-    ensures bound { IfOk result (λ len. len ≤ length whole.now) }
-    ensures filtered { IfOk result (λ len. AreWholeFiltered placement (take len whole.now) output.new) }
+    ensures bound { IfOk result (λ len. len ≤ length complete_text.now) }
+    ensures filtered { IfOk result (λ len. AreWholeFiltered placement (take len complete_text.now) output.new) }
 {
-    let mut rest = whole;
+    let mut rest = complete_text;
     while !rest.is_empty() && output.len() < OUTPUT_LEN {
         match append_next(alloc, demangler, placement, rest, known_utf8, output) {
             Ok(more) => rest = &rest[more..],
-            Err(error) if rest.len() == whole.len() => return Err(error),
+            Err(error) if rest.len() == complete_text.len() => return Err(error),
             Err(_) => break,
         }
     }
-    Ok(whole.len() - rest.len())
+    Ok(complete_text.len() - rest.len())
 }
 
 /// Writes one portion, and returns the length in bytes of the lines or words that it is for. That is the ordinary ones
@@ -250,33 +255,40 @@ fn write_next<W: Sink>(
     alloc: Global,
     demangler: &mut Demangler,
     placement: Placement,
-    whole: &[u8],
+    complete_text: &[u8],
     known_utf8: bool,
     output: &mut Text,
     sink: &mut W,
 ) -> Result<usize, FilterFault>
     requires not_failed { W.failed sink.old ≡ false }
-    requires some { 0 < length whole.now }
-    requires whole { AreWhole placement whole.now }
-    requires known { (printing : Printing) → placement ≡ Lines printing → IsTrue known_utf8 → IsUtf8 whole.now }
+    requires some { 0 < length complete_text.now }
+    requires whole { AreWhole placement complete_text.now }
+    requires known { (printing : Printing) → placement ≡ Lines printing → IsTrue known_utf8 → IsUtf8 complete_text.now }
     ensures outcome { IsWriteOutcome result (W.failed sink.new) }
     ensures in_time { W.called_late sink.new ≡ W.called_late sink.old }
     ensures some { IfOk result (λ len. 0 < len) }
-    ensures bound { IfOk result (λ len. len ≤ length whole.now) }
-    ensures ok { IfOk result (λ len. WritesWholeFiltered placement (take len whole.now)
+    ensures bound { IfOk result (λ len. len ≤ length complete_text.now) }
+    ensures ok { IfOk result (λ len. WritesWholeFiltered placement (take len complete_text.now)
         (W.taken sink.old) (W.taken sink.new)) }
-    ensures err { OnErr result (WritesBeginningOfAny placement whole.now (W.taken sink.old) (W.taken sink.new)) }
+    ensures err { OnErr result (WritesBeginningOfAny placement complete_text.now (W.taken sink.old) (W.taken sink.new)) }
     ensures memory { IsErrOf result FilterFault.Memory → Keeps (W.taken sink.old) (W.taken sink.new) }
 {
     // A shorter run of ordinary lines or words goes into the output, like the others that `append_next` finds.
-    let ordinary = ordinary_len(placement, whole);
+    let ordinary = ordinary_len(placement, complete_text);
     if ordinary >= LONG_LEN {
-        write_all(sink, &whole[..ordinary])?;
+        write_all(sink, &complete_text[..ordinary])?;
         return Ok(ordinary);
     }
     output.clear();
     output.reserve(OUTPUT_CAPACITY)?;
-    let len = gather_whole(alloc, demangler, placement, whole, known_utf8, output)?;
+    let len = gather_whole(
+        alloc,
+        demangler,
+        placement,
+        complete_text,
+        known_utf8,
+        output,
+    )?;
     write_all(sink, output.as_slice())?;
     Ok(len)
 }
@@ -286,21 +298,21 @@ pub(crate) fn write_whole<W: Sink>(
     alloc: Global,
     demangler: &mut Demangler,
     placement: Placement,
-    whole: &[u8],
+    complete_text: &[u8],
     output: &mut Text,
     sink: &mut W,
 ) -> Result<(), FilterFault>
     requires not_failed { W.failed sink.old ≡ false }
-    requires whole { AreWhole placement whole.now }
+    requires whole { AreWhole placement complete_text.now }
     ensures outcome { IsWriteOutcome result (W.failed sink.new) }
     ensures in_time { W.called_late sink.new ≡ W.called_late sink.old }
-    ensures ok { OnOk result (FiltersUpTo placement whole.now [] (W.taken sink.old) (W.taken sink.new)) }
-    ensures err { OnErr result (WritesBeginningOfAny placement whole.now (W.taken sink.old) (W.taken sink.new)) }
+    ensures ok { OnOk result (FiltersUpTo placement complete_text.now [] (W.taken sink.old) (W.taken sink.new)) }
+    ensures err { OnErr result (WritesBeginningOfAny placement complete_text.now (W.taken sink.old) (W.taken sink.new)) }
     ensures memory { IsErrOf result FilterFault.Memory →
-        FiltersSome placement whole.now (W.taken sink.old) (W.taken sink.new) }
+        FiltersSome placement complete_text.now (W.taken sink.old) (W.taken sink.new) }
 {
-    let known_utf8 = matches!(placement, Placement::Lines(_)) && is_utf8(whole);
-    let mut rest = whole;
+    let known_utf8 = matches!(placement, Placement::Lines(_)) && is_utf8(complete_text);
+    let mut rest = complete_text;
     while !rest.is_empty() {
         let len = write_next(alloc, demangler, placement, rest, known_utf8, output, sink)?;
         rest = &rest[len..];

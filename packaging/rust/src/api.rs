@@ -2,7 +2,7 @@
 
 use crate::extracted::itanium_demangle as inner;
 use crate::extracted::symfilter_engine::{
-    Failed, FilterFault, Printing, ReplaceOptions, Sink, Tally, filter_with, prepare_for, replace as replace_words,
+    Failed, FilterFault, Printing, ReplaceOptions, Sink, Tally, filter_with, read_as, replace as replace_words,
 };
 use crate::rattle::alloc::{AllocError, Global};
 use crate::rattle::{string, vec};
@@ -84,7 +84,7 @@ impl Demangler {
 
     /// Reads a symbol, and returns what is printed for it.
     fn read(&mut self, printing: Printing, symbol: &str) -> Result<Option<&str>, AllocError> {
-        prepare_for(Global, &mut self.inner, printing, symbol)?;
+        read_as(Global, &mut self.inner, printing, symbol)?;
         Ok(self.inner.text())
     }
 

@@ -63,7 +63,7 @@ struct Room<'a> {
 
 impl Room<'_> {
     /// Writes the text if it fits, and its length.
-    fn hand_out(&mut self, text: &[u8]) -> c_int {
+    fn write_if_fits(&mut self, text: &[u8]) -> c_int {
         *self.needed = text.len();
         match self.out.get_mut(..text.len()) {
             None => NO_ROOM,
@@ -110,7 +110,7 @@ fn ask(handle: &mut Handle, printing: Printing, symbol: &[u8], mut room: Room<'_
         Printing::Signatures => kept.demangler.try_demangle_signature(symbol),
     };
     match found {
-        Ok(Some(text)) => room.hand_out(text.as_bytes()),
+        Ok(Some(text)) => room.write_if_fits(text.as_bytes()),
         Ok(None) => NO_ANSWER,
         Err(AllocError) => NO_MEMORY,
     }
@@ -125,7 +125,7 @@ fn make(handle: &mut Handle, call: impl FnOnce() -> Result<Vec<u8>, AllocError>,
     let Ok(made) = call() else {
         return NO_MEMORY;
     };
-    let status = room.hand_out(&made);
+    let status = room.write_if_fits(&made);
     if status == NO_ROOM {
         kept.text = made;
     }
@@ -217,7 +217,7 @@ pub unsafe extern "C" fn cosvigle_filter(
     // SAFETY: the caller keeps to the header.
     let (lines, mut room) = unsafe { (bytes(lines, len), room(out, capacity, needed)) };
     match try_filter(lines, Printing::Names) {
-        Ok(made) => room.hand_out(&made),
+        Ok(made) => room.write_if_fits(&made),
         Err(AllocError) => NO_MEMORY,
     }
 }
@@ -238,7 +238,7 @@ pub unsafe extern "C" fn cosvigle_take(
     if kept.text.is_empty() {
         return NO_ANSWER;
     }
-    let status = room.hand_out(&kept.text);
+    let status = room.write_if_fits(&kept.text);
     if status == WRITTEN {
         kept.text = Vec::new();
     }

@@ -6,7 +6,7 @@ use Rattle.symfilter_engine.specs.Filtered.{WritesFiltered, WritesBeginning}
 use Rattle.symfilter_engine.specs.Progress.{AreKept, WritesChunkUpTo, WritesChunkBeginning, WritesSomeOfChunk}
 use Rattle.symfilter_engine.proofs.ChunkBytes.{front_moved, none_moved}
 use Rattle.symfilter_engine.proofs.FilteredText.{at_fault}
-use Rattle.symfilter_engine.proofs.Copied.{run_read, run_written, run_last, none_read, at_end, none_whole, none_copied, none_kept, still_kept, kept_none, turn_copied, turn_fault, turn_refused, end_copied, read_fault, read_put, read_refused, last_copied, last_fault, last_refused}
+use Rattle.symfilter_engine.proofs.Copied.{run_read, run_written, run_last, none_read, at_end, none_whole, none_copied, none_kept, still_kept, kept_none, turn_copied, turn_fault, turn_refused, end_copied, read_fault, read_put, read_refused, last_copied, last_filtered, last_fault, last_refused}
 use Rattle.symfilter_engine.proofs.chunks.filter_chunks.Goals as goal
 use Rattle.symfilter_engine.proofs.chunks.filter_chunks.Goals.{then-done-gt0, else-done-gt0}
 
@@ -114,6 +114,15 @@ returns-then-end-kept-clause-ok g c =
     let t'' = g.W.Sink.taken c.write_last.new.sink in
     let ended = end_copied c.args.placement c.chunks.mid_word kept _ _ _ _ _ _ _ _ c.chunks.invariant.so_far c.in_ok-end.ensures.ok c.chunks.invariant.within c.if-end-kept.true in
     on_ok_weaker _ (λ writes. last_copied c.args.placement c.chunks.mid_word (take kept c.read_more.new.chunk.items) _ _ _ t' t'' ended (c.in_ok-end.ensures.ok.ended c.if-end-kept.true)
+    (subst (λ l. WritesFiltered c.args.placement (take kept l) t' t'') c.deref.ensures.value writes)) c.write_last.ensures.ok
+
+pub returns-then-end-kept-clause-all : goal.returns-then-end-kept-clause-all
+returns-then-end-kept-clause-all g c =
+    let kept = c.chunks.kept in
+    let t' = g.W.Sink.taken c.chunks.sink in
+    let t'' = g.W.Sink.taken c.write_last.new.sink in
+    let ended = end_copied c.args.placement c.chunks.mid_word kept _ _ _ _ _ _ _ _ c.chunks.invariant.so_far c.in_ok-end.ensures.ok c.chunks.invariant.within c.if-end-kept.true in
+    on_ok_weaker _ (λ writes. last_filtered c.args.placement c.chunks.mid_word (take kept c.read_more.new.chunk.items) _ _ _ t' t'' ended
     (subst (λ l. WritesFiltered c.args.placement (take kept l) t' t'') c.deref.ensures.value writes)) c.write_last.ensures.ok
 
 pub returns-then-end-kept-clause-err : goal.returns-then-end-kept-clause-err

@@ -17,11 +17,11 @@ returns-in-Some-text-clause-some c =
     let answer = c.in-Some-text.answer.now in
     let symbol = c.from_utf8_unchecked-symbol.result.now in
     let has : IsPrintedAs c.args.options.printing c.in-Some.symbol.now (Some answer) =
-    subst (λ s. IsPrintedAs c.args.options.printing s (Some answer)) c.from_utf8_unchecked-symbol.ensures (subst (IsPrintedAs c.args.options.printing symbol) (sym c.in-Some-text.ensures.value) c.in_ok-prepare_for.ensures.printed) in
+    subst (λ s. IsPrintedAs c.args.options.printing s (Some answer)) c.from_utf8_unchecked-symbol.ensures (subst (IsPrintedAs c.args.options.printing symbol) (sym c.in-Some-text.ensures.value) c.in_ok-read_as.ensures.printed) in
     subst (λ l. IsWordAnswer c.args.options word (l ++ answer)) (sym (ap (λ n. take n word) c.in-Some.ensures.chars_len)) (answered (sym c.in-Some.ensures.value) has)
 
 pub returns-in-None-clause-none : goal.returns-in-None-clause-none
 returns-in-None-clause-none c =
     let symbol = c.from_utf8_unchecked-symbol.result.now in
     unanswered (sym c.in-Some.ensures.value)
-    (subst (λ s. IsPrintedAs c.args.options.printing s None) c.from_utf8_unchecked-symbol.ensures (subst (IsPrintedAs c.args.options.printing symbol) (sym c.in-None.ensures.value) c.in_ok-prepare_for.ensures.printed))
+    (subst (λ s. IsPrintedAs c.args.options.printing s None) c.from_utf8_unchecked-symbol.ensures (subst (IsPrintedAs c.args.options.printing symbol) (sym c.in-None.ensures.value) c.in_ok-read_as.ensures.printed))

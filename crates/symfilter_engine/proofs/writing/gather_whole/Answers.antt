@@ -8,7 +8,7 @@ use Rattle.symfilter_engine.proofs.writing.gather_whole.Goals as goal
 
 pub loop-output-init : goal.loop-output-init
 loop-output-init c =
-    let lines = c.args.whole.now in
+    let lines = c.args.complete_text.now in
     let none : 0 ≡ length lines - length lines = omega arith in
     record {
       inside = omega arith;
@@ -20,7 +20,7 @@ loop-output-init c =
 
 pub append_next-requires-clause-known : goal.append_next-requires-clause-known
 append_next-requires-clause-known c =
-    let lines = c.args.whole.now in
+    let lines = c.args.complete_text.now in
     let taken = length lines - length c.loop-output.rest.now in
     λ printing is known. subst IsUtf8 (sym c.loop-output.invariant.left)
     (utf8_after c.args.placement lines _ taken printing is c.loop-output.invariant.so_far (c.requires.known printing is known))
@@ -30,13 +30,13 @@ loop-output-preserved c =
     let rest = c.loop-output.rest.now in
     let more = c.in-Ok.more in
     let left = take (length rest - more) (drop more rest) in
-    let step = rest_appended c.args.placement c.args.whole.now rest left _ _ more
+    let step = rest_appended c.args.placement c.args.complete_text.now rest left _ _ more
     c.loop-output.invariant.inside c.loop-output.invariant.left c.loop-output.invariant.so_far
     c.in-Ok.ensures.bound c.in-Ok.ensures.ok (take_rest rest more) in
     record { inside = step.0; left = step.1; so_far = step.2; empty = search rules }
 
 pub append_next-requires-clause-whole : goal.append_next-requires-clause-whole
 append_next-requires-clause-whole c =
-    let lines = c.args.whole.now in
+    let lines = c.args.complete_text.now in
     let taken = length lines - length c.loop-output.rest.now in
     subst (AreWhole c.args.placement) (sym c.loop-output.invariant.left) (whole_after c.args.placement lines taken c.requires.whole)

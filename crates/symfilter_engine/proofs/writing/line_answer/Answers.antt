@@ -18,9 +18,9 @@ from_utf8_unchecked-symbol-requires c =
 pub returns-in-Some : goal.returns-in-Some
 returns-in-Some c =
     line_with c.args.printing (λ s. s.now) _ _ _ c.text.result c.in-Some.answer c.from_utf8_unchecked-symbol.ensures (subst IsUtf8 c.from_utf8_unchecked-symbol.ensures c.from_utf8_unchecked-symbol.utf8)
-    (subst (IsPrintedAs c.args.printing c.from_utf8_unchecked-symbol.result.now) (sym c.text.ensures.value) c.in_ok-prepare_for.ensures.printed) c.in-Some.is c.as_bytes.ensures.value
+    (subst (IsPrintedAs c.args.printing c.from_utf8_unchecked-symbol.result.now) (sym c.text.ensures.value) c.in_ok-read_as.ensures.printed) c.in-Some.is c.as_bytes.ensures.value
 
 pub returns-in-None : goal.returns-in-None
 returns-in-None c =
     line_without c.args.printing (λ s. s.now) _ _ c.text.result c.from_utf8_unchecked-symbol.ensures (subst IsUtf8 c.from_utf8_unchecked-symbol.ensures c.from_utf8_unchecked-symbol.utf8)
-    (subst (IsPrintedAs c.args.printing c.from_utf8_unchecked-symbol.result.now) (sym c.text.ensures.value) c.in_ok-prepare_for.ensures.printed) c.in-None.is
+    (subst (IsPrintedAs c.args.printing c.from_utf8_unchecked-symbol.result.now) (sym c.text.ensures.value) c.in_ok-read_as.ensures.printed) c.in-None.is

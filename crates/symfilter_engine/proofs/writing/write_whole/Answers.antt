@@ -36,7 +36,7 @@ loop-rest-preserved g c =
       in_time = c.in_ok-len.ensures.in_time ∙ c.loop-rest.invariant.in_time;
       whole = subst (AreWhole c.args.placement) left (whole_after c.args.placement rest len c.loop-rest.invariant.whole);
       known = λ printing is known. subst IsUtf8 left (utf8_after c.args.placement rest c.in_ok-len.ensures.ok.0 len printing is c.in_ok-len.ensures.ok.1 (c.loop-rest.invariant.known printing is known));
-      so_far = subst (λ l. FiltersUpTo c.args.placement c.args.whole.now l (g.W.Sink.taken c.args.sink.now) (g.W.Sink.taken c.write_next.new.sink)) left
+      so_far = subst (λ l. FiltersUpTo c.args.placement c.args.complete_text.now l (g.W.Sink.taken c.args.sink.now) (g.W.Sink.taken c.write_next.new.sink)) left
           (lines_filtered c.args.placement _ rest len _ _ _ c.loop-rest.invariant.so_far c.in_ok-len.ensures.ok);
     }
 

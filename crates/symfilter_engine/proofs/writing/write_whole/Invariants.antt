@@ -13,7 +13,7 @@ invariant-loop-rest g l =
       in_time : g.W.Sink.called_late l.sink ≡ g.W.Sink.called_late l.fn.sink;
       whole : AreWhole l.placement l.rest;
       known : (printing : Printing) → l.placement ≡ Lines printing → IsTrue l.known_utf8 → IsUtf8 l.rest;
-      so_far : FiltersUpTo l.placement l.whole l.rest (g.W.Sink.taken l.fn.sink) (g.W.Sink.taken l.sink);
+      so_far : FiltersUpTo l.placement l.complete_text l.rest (g.W.Sink.taken l.fn.sink) (g.W.Sink.taken l.sink);
     }
 
 abbrev pub decreases-loop-rest : goal.decreases-loop-rest

@@ -1,6 +1,6 @@
 use Rattle.std.proofs.Common.{sym, subst}
 use Rattle.symfilter_engine.specs.Printed.{IsPrintedAs, name_printed, signature_printed}
-use Rattle.symfilter_engine.proofs.symbols.prepare_for.Goals as goal
+use Rattle.symfilter_engine.proofs.symbols.read_as.Goals as goal
 
 pub returns-in_ok-prepare-in-Names-clause-printed : goal.returns-in_ok-prepare-in-Names-clause-printed
 returns-in_ok-prepare-in-Names-clause-printed c =
