@@ -88,12 +88,9 @@ impl Demangler {
         Ok(self.inner.text())
     }
 
-    /// The same for bytes. Nothing is printed for those that aren't UTF-8.
+    /// The same for bytes. Those that aren't UTF-8 are read as the empty symbol, which has no name.
     fn read_bytes(&mut self, printing: Printing, symbol: &[u8]) -> Result<Option<&str>, AllocError> {
-        match str::from_utf8(symbol) {
-            Ok(symbol) => self.read(printing, symbol),
-            Err(_) => Ok(None),
-        }
+        self.read(printing, str::from_utf8(symbol).unwrap_or(""))
     }
 
     /// Returns whether the last text is a signature. It is false for a name without parameters, and where there was no

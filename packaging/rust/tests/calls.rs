@@ -46,7 +46,9 @@ fn signatures() {
     assert_eq!(demangler.try_demangle_signature("_ZNK3Foo3barEv"), Ok(Some("Foo::bar() const")));
     assert_eq!(demangler.try_demangle_signature("malloc"), Ok(None));
     assert_eq!(demangler.try_demangle_signature(b"_Z3fooi"), Ok(Some("foo(int)")));
+    assert!(demangler.is_signature());
     assert_eq!(demangler.try_demangle_signature(b"_Z1\xff"), Ok(None));
+    assert!(!demangler.is_signature());
     assert_eq!(demangle_signature_owned("_ZNK3Foo3barEv").as_deref(), Some("Foo::bar() const"));
     assert_eq!(demangle_signature_owned("main"), None);
     assert_eq!(try_demangle_signature_owned("_Z3fooi"), Ok(Some("foo(int)".into())));
