@@ -1,7 +1,7 @@
 //! Writes whole lines or words, and a last line or word.
 //!
-//! A parameter `complete_text` ends at a boundary: after a line feed for `Placement::Lines`, and after a byte that is in no
-//! word for `Placement::Words`. Ordinary text is written as it is: a line that doesn't begin with an underscore, or
+//! A parameter `complete_text` ends at a boundary: after a line feed for `Placement::Lines`, and after a byte that is in
+//! no word for `Placement::Words`. Ordinary text is written as it is: a line that doesn't begin with an underscore, or
 //! text that has no `_Z`.
 ghost use Rattle.std.specs.Prelude.{◌≡◌, ◌<◌, ◌≤◌, [], false, length, take, drop, IsTrue, IsErrOf, IsUtf8, IfOk, OnOk, OnErr};
 ghost use Rattle.std.specs.Io.KnownBytes.{Keeps};
@@ -270,7 +270,8 @@ fn write_next<W: Sink>(
     ensures bound { IfOk result (λ len. len ≤ length complete_text.now) }
     ensures ok { IfOk result (λ len. WritesWholeFiltered placement (take len complete_text.now)
         (W.taken sink.old) (W.taken sink.new)) }
-    ensures err { OnErr result (WritesBeginningOfAny placement complete_text.now (W.taken sink.old) (W.taken sink.new)) }
+    ensures err { OnErr result (WritesBeginningOfAny placement complete_text.now
+        (W.taken sink.old) (W.taken sink.new)) }
     ensures memory { IsErrOf result FilterFault.Memory → Keeps (W.taken sink.old) (W.taken sink.new) }
 {
     // A shorter run of ordinary lines or words goes into the output, like the others that `append_next` finds.
@@ -307,7 +308,8 @@ pub(crate) fn write_whole<W: Sink>(
     ensures outcome { IsWriteOutcome result (W.failed sink.new) }
     ensures in_time { W.called_late sink.new ≡ W.called_late sink.old }
     ensures ok { OnOk result (FiltersUpTo placement complete_text.now [] (W.taken sink.old) (W.taken sink.new)) }
-    ensures err { OnErr result (WritesBeginningOfAny placement complete_text.now (W.taken sink.old) (W.taken sink.new)) }
+    ensures err { OnErr result (WritesBeginningOfAny placement complete_text.now
+        (W.taken sink.old) (W.taken sink.new)) }
     ensures memory { IsErrOf result FilterFault.Memory →
         FiltersSome placement complete_text.now (W.taken sink.old) (W.taken sink.new) }
 {
