@@ -1,8 +1,8 @@
 //! Writes whole lines or words, and a last line or word.
 //!
-//! A parameter `complete_text` ends at a boundary: after a line feed for `Placement::Lines`, and after a byte that is in
-//! no word for `Placement::Words`. Ordinary text is written as it is: a line that doesn't begin with an underscore, or
-//! text that has no `_Z`.
+//! A parameter `complete_text` ends at a boundary: after a line feed for `Placement::Lines`, and after a byte that is
+//! in no word for `Placement::Words`. Ordinary text is written as it is: a line that doesn't begin with an underscore,
+//! or text that has no `_Z`.
 ghost use Rattle.std.specs.Prelude.{◌≡◌, ◌<◌, ◌≤◌, [], false, length, take, drop, IsTrue, IsErrOf, IsUtf8, IfOk, OnOk, OnErr};
 ghost use Rattle.std.specs.Io.KnownBytes.{Keeps};
 ghost use Rattle.symfilter_engine.specs.Fault.{IsWriteOutcome};
