@@ -13,7 +13,7 @@
 //! in the order in which the symbol is read. The text is opened first (`open_default_arg`, `open_parent`,
 //! `open_arguments`, `open_params`, `open_function`). Then the parts follow. The caller writes the `, ` between them.
 //! It appends each parameter by `append_piece`, and writes template arguments right after the list. At last the text
-//! is closed (`close_opened`, `close_arguments`, `close_params`, `close_function`).
+//! is closed (`append_leaf`, `close_arguments`, `close_params`, `close_function`).
 //!
 //! The pieces are those of `demangle_text`. Begin with `names.rt`, and then read `types.rt` and `lists.rt`. The
 //! definitions of their shapes are in the files of the same names in `specs/`.
@@ -45,7 +45,7 @@ pub use crate::lists::{
     append_number, close_arguments, close_lambda, close_params, glue, open_arguments, open_params,
 };
 pub use crate::names::{
-    apply_name_qualifiers, attach_template_args, close_opened, default_arg, format_params,
+    append_leaf, apply_name_qualifiers, attach_template_args, default_arg, format_params,
     open_default_arg, open_parent, qualify, qualify_ctor, qualify_text, tag,
 };
 pub use crate::types::{

@@ -62,7 +62,7 @@ pub fn open_default_arg(buf: &mut Buffer, parent: Piece, number: u64) -> Result<
 
 /// Appends a name to what `open_parent` or `open_default_arg` opened for it. The result is a plain piece with the base
 /// name and the flags of the name.
-pub fn close_opened(buf: &mut Buffer, opened: Piece, name: Piece) -> Result<Piece, AllocError>
+pub fn append_leaf(buf: &mut Buffer, opened: Piece, name: Piece) -> Result<Piece, AllocError>
     requires opened { IsLiving buf.old opened }
     requires name { IsLiving buf.old name }
     ensures shape { IfOk result (λ p. Lives buf.new p (enclosed (shape buf.old opened) (shape buf.old name))) }
@@ -79,7 +79,7 @@ pub fn close_opened(buf: &mut Buffer, opened: Piece, name: Piece) -> Result<Piec
     Ok(buf.with_flags(named, templ, ctor))
 }
 
-/// Makes a parent with `::` after it, as a plain piece with the base name and the flags of the parent. `close_opened`
+/// Makes a parent with `::` after it, as a plain piece with the base name and the flags of the parent. `append_leaf`
 /// appends the leaf. The two calls give what `qualify` gives.
 pub fn open_parent(buf: &mut Buffer, parent: Piece) -> Result<Piece, AllocError>
     requires parent { IsLiving buf.old parent }
@@ -109,7 +109,7 @@ pub fn default_arg(
 {
     let mark = buf.open();
     let opened = tri!(open_default_arg(buf, parent, number));
-    let named = tri!(close_opened(buf, opened, entity));
+    let named = tri!(append_leaf(buf, opened, entity));
     buf.close(mark, named)
 }
 

@@ -180,6 +180,7 @@ fn grow(entries: &mut Vec<Entry>) -> Result<(), AllocError>
     ensures capacity { OnOk result (length entries.old.items < length entries.new.items) }
 {
     let Some(want) = entries.len().checked_mul(2) else {
+        // This isn't reached: an entry has more than one byte, so a vector in memory has fewer than 2^63 entries.
         return Err(AllocError);
     };
     let none = Entry {

@@ -179,6 +179,7 @@ impl Buffer {
         ensures main_err { OnErr result (self.new.output_text ≡ self.old.output_text) }
     {
         let Some(n) = first.text_len().checked_add(bytes.len()) else {
+            // This isn't reached: both texts are in memory, and have fewer than 2^63 bytes together.
             return Err(AllocError);
         };
         tri!(self.open_gap(at, n));

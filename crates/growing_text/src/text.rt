@@ -216,6 +216,7 @@ fn grow(bytes: &mut Vec<u8>, len: usize, n: usize) -> Result<(), AllocError>
     ensures capacity { OnOk result (len + n ≤ length bytes.new.items) }
 {
     let Some(want) = len.checked_add(n) else {
+        // This isn't reached: both are lengths of texts in memory, and these have fewer than 2^63 bytes together.
         return Err(AllocError);
     };
     let twice = bytes.len().saturating_mul(2);

@@ -1,10 +1,10 @@
 -- What a symbol's answer is.
-use Rattle.std.specs.Prelude.{◌≡◌, ◌≤◌, ℕ, ◌+◌, ◌*◌, ◌++◌, List, [], map, length, Option, Some, None, is_some, drop, codes, Bool, true, false, if◌then◌else◌}
+use Rattle.std.specs.Prelude.{◌≡◌, ◌≤◌, ℕ, ◌+◌, ◌*◌, ◌++◌, List, [], map, length, Option, Some, None, is_some, Bool, true, false}
 use Rattle.std.specs.Str.{IsUtf8}
 use Rattle.demangle_text.specs.Shape.{Shape}
 use Rattle.itanium_syntax.specs.declared.context.Context.{Context}
 use Rattle.itanium_grammar.specs.Tree.{Tree, shape_of, printing}
-use Rattle.itanium_syntax.specs.Bytes.{begins}
+use Rattle.itanium_syntax.specs.Symbol.{after_prefix, suffix}
 use Rattle.itanium_syntax.specs.Context.{showing_words}
 use Rattle.itanium_grammar.specs.Grammar.{Position, Cost, SymbolName, Signature}
 
@@ -29,19 +29,9 @@ IsWithin cost = Fits max_depth cost
 abbrev pub initial : Context
 initial = record { words_shown = false; dots_hidden = false; lambda = false; in_type = false }
 
--- <mangled-name> ::= _Z <encoding>, and the same after a further underscore: what follows the prefix
-abbrev pub after_prefix : List ℕ → Option (List ℕ)
-after_prefix symbol =
-    if begins (codes "_Z") symbol then Some (drop 2 symbol) else
-    if begins (codes "__Z") symbol then Some (drop 3 symbol) else None
-
 -- all bytes are left, and nothing is saved
 abbrev pub start : List ℕ → Position
 start bytes = record { rest = bytes; saved = []; scopes = [] }
-
--- the end of the answer: if a dot follows what was read, the dot and all bytes after it
-abbrev pub suffix : List ℕ → List ℕ
-suffix rest = if begins (codes ".") rest then rest else []
 
 -- what follows the prefix of a symbol: read as a signature if the first argument is true, and else as a name. In a
 -- signature the words of qualifiers are shown, as `showing_words` has it of a local name.

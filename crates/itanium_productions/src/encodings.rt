@@ -15,7 +15,7 @@ use crate::names::read_name;
 use crate::specials::read_special_name;
 use crate::types::{read_params, read_type};
 use demangle_edit::{
-    Quals, apply_name_qualifiers, close_opened, close_params, open_default_arg, open_params,
+    Quals, append_leaf, apply_name_qualifiers, close_params, open_default_arg, open_params,
     open_parent,
 };
 use demangle_text::Piece;
@@ -166,7 +166,7 @@ pub(crate) fn read_entity(
     let mark = reader.buffer.open();
     tri!(read_name(reader, depth, context, true));
     tri!(reader.close_found(mark));
-    reader.found = or_memory!(close_opened(&mut reader.buffer, opened, reader.found));
+    reader.found = or_memory!(append_leaf(&mut reader.buffer, opened, reader.found));
     Ok(())
 }
 

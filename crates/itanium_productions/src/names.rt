@@ -14,7 +14,7 @@ ghost use Rattle.itanium_reader.specs.Outcome.{SavedBounds};
 use crate::args::read_template_args;
 use crate::encodings::read_local_name;
 use crate::types::{read_params, read_type};
-use demangle_edit::{close_opened, open_parent};
+use demangle_edit::{append_leaf, open_parent};
 use itanium_reader::{ReadResult, Reader, Stop};
 use itanium_syntax::args::{AttachedCase, attached_case};
 use itanium_syntax::context::Context;
@@ -161,7 +161,7 @@ pub(crate) fn read_ordinary_segment(
     let mark = reader.buffer.open();
     tri!(read_ordinary_name(reader, depth, context));
     tri!(reader.close_found(mark));
-    reader.found = or_memory!(close_opened(&mut reader.buffer, opened, reader.found));
+    reader.found = or_memory!(append_leaf(&mut reader.buffer, opened, reader.found));
     Ok(())
 }
 

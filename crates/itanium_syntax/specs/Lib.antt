@@ -1,4 +1,5 @@
 pub mod Bytes
+pub mod Symbol
 pub mod Cases
 pub mod Types
 pub mod Names

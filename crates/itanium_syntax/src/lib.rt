@@ -2,7 +2,7 @@
 //!
 //! Most productions with several alternatives have a function `.._case`, which returns the alternative that the next
 //! bytes select. If several fit, the first one counts. Other functions read single items: numbers, source names, the
-//! abbreviations of std, operators, qualifiers and call offsets. Some functions return a constant text that is
+//! abbreviations of std, operators, qualifiers, call offsets, and what stands around an encoding. Some functions return a constant text that is
 //! printed, such as that of an operator. No function here composes a text, or calls a reader of `itanium_reader` or
 //! `itanium_productions`. The contracts are equations with definitions of `specs/`, and bounds.
 //!
@@ -21,4 +21,5 @@ pub mod offsets;
 pub mod operators;
 pub mod scalar;
 pub mod specials;
+pub mod symbol;
 pub mod types;

@@ -615,7 +615,7 @@ names::read_segment-returns-clause-reads t c = grind (arith, unqualified_names)
 pub names::read_ordinary_segment-returns-clause-run : goal.names::read_ordinary_segment-returns-clause-run
 names::read_ordinary_segment-returns-clause-run t c =
     let parent = c.open_parent.new.buf in
-    let last = c.close_opened.new.buf in
+    let last = c.append_leaf.new.buf in
     let opens : Opens parent c.open-mark.new.self c.open-mark.result =
     subst (λ (b : Buffer). Opens b c.open-mark.new.self c.open-mark.result) c.deref_mut-2.ensures.value c.open-mark.ensures.opens in
     let since = IsSince-run _ _ _ _ (IsSince-opens _ _ _ opens) (c.in-Ok-read_ordinary_name.ensures {u = tt}).run in
@@ -623,7 +623,7 @@ names::read_ordinary_segment-returns-clause-run t c =
     let before : IsEdit c.args.reader.now.buffer.value parent =
     subst (λ (b : Buffer). IsEdit b parent) c.deref_mut.ensures.value (c.in-Ok.ensures {u = tt}).edit in
     let after : IsEdit c.close_found.new.self.buffer.value last =
-    subst (λ (b : Buffer). IsEdit b last) c.deref_mut-3.ensures.value (c.in-Ok-close_opened.ensures {u = tt}).edit in
+    subst (λ (b : Buffer). IsEdit b last) c.deref_mut-3.ensures.value (c.in-Ok-append_leaf.ensures {u = tt}).edit in
     IsRun-trans _ _ _ (IsRun-edit _ _ before) (IsRun-trans _ _ _ (IsRun-same _ _ kept) (IsRun-edit _ _ after))
 
 pub names::read_segment-returns-in-Err-clause-reads : goal.names::read_segment-returns-in-Err-clause-reads
@@ -834,8 +834,8 @@ encodings::read_entity-returns-clause-run t c =
     subst (λ (b : Buffer). Opens b c.open-mark.new.self c.open-mark.result) c.deref_mut-2.ensures.value c.open-mark.ensures.opens in
     let since = IsSince-run _ _ _ _ (IsSince-opens _ _ _ opens) (c.in-Ok-read_name.ensures {u = tt}).run in
     let kept : SameFrame m.buffer.value closed.buffer.value = SameFrame-closed _ _ _ _ since (c.in-Ok-close_found.ensures {u = tt}).closed in
-    let last : IsEdit closed.buffer.value c.close_opened.new.buf =
-    subst (λ (b : Buffer). IsEdit b c.close_opened.new.buf) c.deref_mut-3.ensures.value (c.in-Ok-close_opened.ensures {u = tt}).edit in
+    let last : IsEdit closed.buffer.value c.append_leaf.new.buf =
+    subst (λ (b : Buffer). IsEdit b c.append_leaf.new.buf) c.deref_mut-3.ensures.value (c.in-Ok-append_leaf.ensures {u = tt}).edit in
     IsRun-trans _ _ _ (IsRun-edit _ _ edit) (IsRun-trans _ _ _ (IsRun-same _ _ kept) (IsRun-edit _ _ last))
 
 pub encodings::read_entity-returns-clause-reads : goal.encodings::read_entity-returns-clause-reads
@@ -879,7 +879,7 @@ encodings::read_entity-returns-clause-reads t c =
     let since = IsSince-run _ _ _ _ (IsSince-opens _ _ _ opens) (c.in-Ok-read_name.ensures {u = tt}).run in
     let kept : SameFrame m.buffer.value closed.buffer.value = SameFrame-closed _ _ _ _ since (c.in-Ok-close_found.ensures {u = tt}).closed in
     let front = kept.pieces c.in-Ok-begun.value opened.lives.living in
-    let built = rw c.deref_mut-3.ensures.value at (c.in-Ok-close_opened.ensures {u = tt}).shape.shape_is in (
+    let built = rw c.deref_mut-3.ensures.value at (c.in-Ok-append_leaf.ensures {u = tt}).shape.shape_is in (
       search rules,
       opened.gives (shape closed.buffer.value closed.found) _ _ (state closed) _ (search rules)
           (built ∙ ap (λ (f : Shape). enclosed f (shape closed.buffer.value closed.found)) (front.shape_is ∙ opened.lives.shape_is))

@@ -223,7 +223,7 @@ impl Two {
             "join" => Two::Join,
             "append_piece" => Two::AppendPiece,
             "qualify" => Two::Qualify,
-            "close_opened" => Two::CloseOpened,
+            "append_leaf" => Two::CloseOpened,
             "attach_template_args" => Two::AttachTemplateArgs,
             "default_arg" => Two::DefaultArg,
             _ => return None,

@@ -5,9 +5,9 @@ ghost use Rattle.demangle_text.specs.State.{IsLiving, IsEdit};
 use crate::scripts::calls::{One, Several, Text, Two, Words};
 use crate::scripts::line::Line;
 use demangle_edit::{
-    Glue, Quals, Reference, address, append_number, append_piece, apply_name_qualifiers,
-    attach_template_args, close_function, close_lambda, close_opened, close_params, default_arg,
-    expand, format_params, glue, open_default_arg, open_params, qualify, qualify_ctor,
+    Glue, Quals, Reference, address, append_leaf, append_number, append_piece,
+    apply_name_qualifiers, attach_template_args, close_function, close_lambda, close_params,
+    default_arg, expand, format_params, glue, open_default_arg, open_params, qualify, qualify_ctor,
     qualify_text, subexpr, tag, wrap_cv, wrap_pointer,
 };
 use demangle_text::{Buffer, Piece, Place};
@@ -128,7 +128,7 @@ pub fn of_two(
         Two::Join => buf.join(first, bytes, second),
         Two::AppendPiece => append_piece(buf, first, bytes, second),
         Two::Qualify => qualify(buf, first, second),
-        Two::CloseOpened => close_opened(buf, first, second),
+        Two::CloseOpened => append_leaf(buf, first, second),
         Two::AttachTemplateArgs => attach_template_args(buf, first, second),
         Two::DefaultArg => default_arg(buf, first, number as u64, second),
     }

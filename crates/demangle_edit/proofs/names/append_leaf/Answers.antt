@@ -1,7 +1,7 @@
 use Rattle.std.proofs.Common.{arith}
 use Rattle.std.proofs.lemmas.Grind.{common_steps}
 use Rattle.demangle_text.proofs.Laws.{JoinsInPlace-join, JoinsInPlace-named}
-use Rattle.demangle_edit.proofs.names.close_opened.Goals as goal
+use Rattle.demangle_edit.proofs.names.append_leaf.Goals as goal
 
 -- two pieces that stand one after the other stay there
 pub returns-clause-in_place : goal.returns-clause-in_place
