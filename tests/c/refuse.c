@@ -1,7 +1,7 @@
 /* Stands in front of malloc, calloc and realloc of the C library, where LD_PRELOAD names it. One allocation fails: the
-   one whose number is REFUSE, counted from 1 at the start of main. Then one line is written to descriptor 3. All
-   others go on to the C library. `refuse_live` counts the blocks that aren't freed, `refuse_made` the allocations.
-   Nothing of the product links this. */
+   one whose number is REFUSE, counted from 1 at the start of main, or where REFUSE_LATER is set at the program's call of
+   `refuse_begin`. Then one line is written to descriptor 3. All others go on to the C library. `refuse_live` counts the
+   blocks that aren't freed, `refuse_made` the allocations. Nothing of the product links this. */
 #include <errno.h>
 #include <stdlib.h>
 #include <unistd.h>
@@ -14,9 +14,13 @@ extern void __libc_free(void *old);
 /* How many allocations are left up to the one that fails; 0 before main, and after that one. */
 static long left;
 
-__attribute__((constructor)) static void begin(void) {
+void refuse_begin(void) {
     const char *number = getenv("REFUSE");
     left = number ? atol(number) : 0;
+}
+
+__attribute__((constructor)) static void begin(void) {
+    if (!getenv("REFUSE_LATER")) refuse_begin();
 }
 
 /* From now on the allocation with this number, counted from 1, fails, or none where it is 0. Returns how many were
