@@ -2,9 +2,10 @@
 //!
 //! Most productions with several alternatives have a function `.._case`, which returns the alternative that the next
 //! bytes select. If several fit, the first one counts. Other functions read single items: numbers, source names, the
-//! abbreviations of std, operators, qualifiers, call offsets, and what stands around an encoding. Some functions return a constant text that is
-//! printed, such as that of an operator. No function here composes a text, or calls a reader of `itanium_reader` or
-//! `itanium_productions`. The contracts are equations with definitions of `specs/`, and bounds.
+//! abbreviations of std, operators, qualifiers, call offsets, and what stands around an encoding. Some functions
+//! return a constant text that is printed, such as that of an operator. No function here composes a text, or calls a
+//! reader of `itanium_reader` or `itanium_productions`. The contracts are equations with definitions of `specs/`, and
+//! bounds.
 //!
 //! The qualifiers are those of `demangle_quals`. Begin with `names.rt`. `scalar.rt` is the public module of readers
 //! for single items.
