@@ -8,8 +8,7 @@ ghost use Rattle.demangle_text.specs.Shape.{text};
 ghost use Rattle.itanium_grammar.specs.Answer.{IsAnswer, HasAtMostOneReading, HasCounts, HasComponents, HasSaved, HasBounds, HasLength};
 ghost use Rattle.itanium_grammar.specs.Answer.{IsAnswerOf, IsSignatureOrName, HasAtMostOneReadingOf, HasCountsOf, HasComponentsOf};
 ghost use Rattle.itanium_grammar.specs.Answer.{HasSavedOf, HasLengthOf};
-ghost use Rattle.itanium_grammar.specs.Answer as spec;
-ghost use Rattle.itanium_syntax.specs.Symbol as symbols;
+ghost use Rattle.itanium_syntax.specs.Symbol as spec;
 ghost use Rattle.itanium_reader.specs.Outcome.{state};
 ghost use Rattle.itanium_demangle.specs.Demangler.{IsPrinted, IsPrepared, IsPreparedSignature, IsText, IsEnded, answer_text, component_texts, component_shapes};
 ghost use Rattle.itanium_demangle.specs.LastResult.{no_result};
@@ -74,7 +73,7 @@ fn end_answer(reader: &mut Reader, mark: Mark) -> Result<bool, AllocError>
     requires next { outside mark ≡ outermost }
     requires living { IsLiving reader.old.buffer.value reader.old.found }
     ensures answer { IfOk result (λ answered. IsPrinted (text (shape reader.old.buffer.value reader.old.found))
-        (symbols.suffix reader.old.rest.now) (answer_text answered (Some reader.new.buffer))) }
+        (spec.suffix reader.old.rest.now) (answer_text answered (Some reader.new.buffer))) }
     ensures saved { OnOk result (saved reader.new.buffer.value ≡ saved reader.old.buffer.value) }
     ensures ended { IfOk result (λ answered. IsEnded answered (Some reader.new.buffer)) }
     ensures entered { reader.new.entered ≡ reader.old.entered }
@@ -146,7 +145,7 @@ impl Demangler {
         ensures bounds { IfOk result (λ _. HasBounds symbol.now self.new.entered self.new.most_saved) }
         ensures longest { IfOk result (λ _. HasLengthOf as_signature symbol.now self.new.text) }
         ensures one { HasAtMostOneReadingOf as_signature symbol.now }
-        ensures no_prefix { symbols.after_prefix symbol.now ≡ None → (result ≡ Ok false) × (self.new ≡ no_result) }
+        ensures no_prefix { spec.after_prefix symbol.now ≡ None → (result ≡ Ok false) × (self.new ≡ no_result) }
         ensures err { OnErr result (self.new ≡ no_result) }
     {
         self.answered = false;
@@ -210,7 +209,7 @@ impl Demangler {
         ensures bounds { IfOk result (λ _. HasBounds symbol.now self.new.entered self.new.most_saved) }
         ensures longest { IfOk result (λ _. HasLength symbol.now self.new.text) }
         ensures one { HasAtMostOneReading symbol.now }
-        ensures no_prefix { symbols.after_prefix symbol.now ≡ None → (result ≡ Ok false) × (self.new ≡ no_result) }
+        ensures no_prefix { spec.after_prefix symbol.now ≡ None → (result ≡ Ok false) × (self.new ≡ no_result) }
         ensures err { OnErr result (self.new ≡ no_result) }
         ensures not_signature { self.new.signature ≡ false }
     {
@@ -245,7 +244,7 @@ impl Demangler {
         ensures bounds { IfOk result (λ _. HasBounds symbol.now self.new.entered self.new.most_saved) }
         ensures longest { IfOk result (λ _. HasLengthOf self.new.signature symbol.now self.new.text) }
         ensures one { HasAtMostOneReadingOf true symbol.now }
-        ensures no_prefix { symbols.after_prefix symbol.now ≡ None → (result ≡ Ok false) × (self.new ≡ no_result) }
+        ensures no_prefix { spec.after_prefix symbol.now ≡ None → (result ≡ Ok false) × (self.new ≡ no_result) }
         ensures err { OnErr result (self.new ≡ no_result) }
     {
         let found = self.read(alloc, symbol, true)?;
@@ -346,7 +345,7 @@ impl Demangler {
         symbol: &'a str,
     ) -> Result<Option<&'a str>, AllocError>
         ensures answer { IfOk result (λ found. IsAnswer symbol.now (option_map (λ text. text.now) found)) }
-        ensures no_prefix { symbols.after_prefix symbol.now ≡ None → result ≡ Ok None }
+        ensures no_prefix { spec.after_prefix symbol.now ≡ None → result ≡ Ok None }
         // `last` is the value after the borrow. It keeps the text that was returned, with the counts, components and
         // shapes of `prepare`. After an error it keeps nothing.
         ensures* kept { sem 𝓛 (follows_so the_row the_row self.entry.ghost_name none (λ _ _. ⊤)
@@ -368,7 +367,7 @@ impl Demangler {
     ) -> Result<Option<&'a str>, AllocError>
         ensures answer { IfOk result (λ found. (signature : Bool) × IsSignatureOrName signature symbol.now
             (option_map (λ text. text.now) found)) }
-        ensures no_prefix { symbols.after_prefix symbol.now ≡ None → result ≡ Ok None }
+        ensures no_prefix { spec.after_prefix symbol.now ≡ None → result ≡ Ok None }
         // `last` is the value after the borrow, as for `demangle`. It also keeps which of the two was returned.
         ensures* kept { sem 𝓛 (follows_so the_row the_row self.entry.ghost_name none (λ _ _. ⊤)
             (λ last. MatchResult result
@@ -384,7 +383,7 @@ impl Demangler {
 /// `Demangler::demangle` returns. Returns an error if an allocation fails.
 pub fn demangle_owned(alloc: Global, symbol: &str) -> Result<Option<String>, AllocError>
     ensures answer { IfOk result (λ found. IsAnswer symbol.now (option_map string_bytes found)) }
-    ensures no_prefix { symbols.after_prefix symbol.now ≡ None → result ≡ Ok None }
+    ensures no_prefix { spec.after_prefix symbol.now ≡ None → result ≡ Ok None }
 {
     let mut demangler = Demangler::new();
     demangler.prepare(alloc, symbol)?;
