@@ -8,9 +8,9 @@
 //! ```
 //!
 //! The code is that of a program in Rattle, which is Rust with contracts, without these. A machine has proved the
-//! contracts: a text that a call returns is the printing of the one tree that a formal grammar reads in the symbol, and
-//! `None` says that the grammar reads none. This crate itself isn't proved. What made it of the sources, the modules
-//! that are written by hand, and the compiler are only tested.
+//! contracts: a text that a call returns is the printing of the one tree that a formal grammar reads in the symbol
+//! within its limits, and `None` says that it reads none there whose printing is UTF-8. This crate itself isn't proved.
+//! What made it of the sources, the modules that are written by hand, and the compiler are only tested.
 //!
 //! # What goes wrong
 //!
