@@ -1,0 +1,93 @@
+//! A node of an arena, and what it holds.
+
+use crate::kinds::{Cv, Leaf, Listing, Manner, Phrase, RefQual, Std};
+
+/// A part of a vector of an arena: the first index, and the one after the last.
+#[derive(Clone, Copy)]
+pub struct Range {
+    pub from: u32,
+    pub to: u32,
+}
+
+/// A text of a node.
+#[derive(Clone, Copy)]
+pub enum Text {
+    Fixed(&'static [u8]),
+    /// Bytes of the arena.
+    Stored(Range),
+}
+
+/// A list of nodes of an arena.
+#[derive(Clone, Copy)]
+pub struct List {
+    pub range: Range,
+}
+
+/// Parts of a phrase, in an arena.
+#[derive(Clone, Copy)]
+pub struct Parts {
+    pub range: Range,
+}
+
+/// A part of a phrase. A `u32` is the index of a node.
+#[derive(Clone, Copy)]
+pub enum Part {
+    /// A text, in LLVM's style and in GNU's.
+    Text(Text, Text),
+    Tree(Manner, u32),
+    Trees(Listing, List),
+}
+
+/// A node whose text has one side: a name can't stand inside of it. A `u32` is the index of a node.
+#[derive(Clone, Copy)]
+pub enum Plain {
+    /// A text, in LLVM's style and in GNU's.
+    Leaf(Leaf, Text, Text),
+    StdName(Std, bool),
+    Phrase(Phrase, Parts),
+    /// A scope and a name. The flag says that the name is a friend's.
+    Scoped(bool, u32, u32),
+    WithArgs(u32, List),
+    AbiTag(u32, Text),
+    /// A name, and the module that it is in.
+    InModule(u32, u32),
+    /// A name that isn't a function's.
+    Data(u32),
+    ObjcProtocol(u32, Text),
+    List(List),
+    Expansion(u32),
+    /// A template parameter whose argument isn't known yet: level and index.
+    Param(u64, u64),
+}
+
+/// The declaration of a template parameter. A `u32` is the index of a node.
+#[derive(Clone, Copy)]
+pub enum Declaration {
+    /// The constraint or `typename`, and the name.
+    TypeParam(u32, u32),
+    /// The name, and the type.
+    NonTypeParam(u32, u32),
+    /// The name, the declarations, and a constraint.
+    TemplateParam(u32, List, Parts),
+    PackParam(u32),
+}
+
+/// A node of an arena: what stands for a tree. A `u32` is the index of a node.
+#[derive(Clone, Copy)]
+pub enum Node {
+    Plain(Plain),
+    Declaration(Declaration),
+    Qualified(u32, Cv),
+    Pointer(u32),
+    /// The type, and whether it is an lvalue reference.
+    Reference(u32, bool),
+    /// The class, and the member's type.
+    MemberPointer(u32, u32),
+    /// The element, and the dimension.
+    Array(u32, Parts),
+    /// The return type, the parameters, the qualifiers and the exception specification.
+    Function(u32, List, Cv, RefQual, Parts),
+    /// The return type, the name, the parameters, the qualifiers, and what follows them.
+    Encoding(Option<u32>, u32, List, Cv, RefQual, Parts),
+    Pack(List),
+}
