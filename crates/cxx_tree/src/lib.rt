@@ -1,8 +1,14 @@
 //! Trees of demangled symbols, as nodes of an arena (Itanium C++ ABI 5.1).
 #![tactic(auto)]
 
+mod arena;
+mod counts;
 mod kinds;
+mod measuring;
 mod node;
 
+
+pub use crate::arena::{Arena, PushError};
+pub use crate::counts::Measure;
 pub use crate::kinds::{Context, Cv, Guard, Leaf, Listing, Manner, Phrase, Prec, RefQual, Role, Std};
 pub use crate::node::{Declaration, List, Node, Part, Parts, Plain, Range, Text};

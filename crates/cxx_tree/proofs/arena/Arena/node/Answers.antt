@@ -1,0 +1,21 @@
+use Rattle.std.proofs.Common.{ℕ, ◌≡◌, ◌<◌, List, [], ◌∙◌, sym, subst, length, ap, arith}
+use Rattle.cxx_tree.specs.declared.node.Node.{Node}
+use Rattle.cxx_tree.specs.Stored.{Store, Held, forest, trees_from, tree_of, tree_at, IsBelow}
+use Rattle.cxx_tree.specs.View.{store_of}
+use Rattle.cxx_tree.proofs.Forest.{forest-at, stored-at}
+use Rattle.cxx_tree.proofs.arena.Arena.node.Goals as goal
+
+pub returns-clause-tree : goal.returns-clause-tree
+unfolding forest
+returns-clause-tree c =
+    let small : c.args.i < length c.self.inside.nodes.items = omega (arith, c.requires.within, ap (λ (s : Store). length s.nodes) c.self.view_is) in
+    let at = forest-at (store_of c.self.inside).held c.self.inside.nodes.items c.args.i c.index.result.now c.self.invariant.0 small in
+    let same = ap (tree_of (store_of c.self.inside).held (trees_from (store_of c.self.inside).held [] c.self.inside.nodes.items)) (sym c.index.ensures) in
+    subst (λ (s : Store). tree_at (forest s) c.args.i ≡ tree_of s.held (forest s) c.index.result.now) c.self.view_is (at ∙ same)
+
+pub returns-clause-below : goal.returns-clause-below
+returns-clause-below c =
+    let small : c.args.i < length c.self.inside.nodes.items = omega (arith, c.requires.within, ap (λ (s : Store). length s.nodes) c.self.view_is) in
+    subst (λ (s : Store). IsBelow s.held c.args.i c.index.result.now) c.self.view_is
+    (subst (λ (n : Node). IsBelow (store_of c.self.inside).held c.args.i n) (sym c.index.ensures)
+      (stored-at (store_of c.self.inside).held c.self.inside.nodes.items c.args.i c.index.result.now c.self.invariant.0 small))

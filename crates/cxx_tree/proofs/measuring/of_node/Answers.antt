@@ -1,0 +1,27 @@
+use Rattle.std.proofs.Common.{ℕ, ◌≡◌, sym, subst}
+use Rattle.cxx_tree.specs.Measure.{measure}
+use Rattle.cxx_tree.specs.Counts.{Tallied}
+use Rattle.cxx_tree.specs.declared.node.Node.{Node}
+use Rattle.cxx_tree.specs.Stored.{forest, tree_of}
+use Rattle.cxx_tree.proofs.measuring.of_node.Goals as goal
+
+pub returns-in-Function : goal.returns-in-Function
+unfolding measure tree_of
+returns-in-Function c =
+    let behind = c.join-behind.ensures.counts _ _ c.of_list.ensures.counts c.of_parts-in-Function.ensures.counts in
+    let all = c.join-in-Function.ensures.counts _ _ c.measure-in-Function.ensures.counts behind in
+    record {
+      counts = subst (λ (x : Node). Tallied c.around-in-Function.result (measure (tree_of c.args.arena.now.held (forest c.args.arena.now) x))) (sym c.in-Function.is)
+          (c.around-in-Function.ensures.counts _ all);
+    }
+
+pub returns-in-Encoding : goal.returns-in-Encoding
+unfolding measure tree_of
+returns-in-Encoding c =
+    let behind = c.join-behind-in-Encoding.ensures.counts _ _ c.of_list-in-Encoding.ensures.counts c.of_parts-in-Encoding.ensures.counts in
+    let named = c.join-named.ensures.counts _ _ c.measure-in-Encoding.ensures.counts behind in
+    let all = c.join-in-Encoding.ensures.counts _ _ c.of_option.ensures.counts named in
+    record {
+      counts = subst (λ (x : Node). Tallied c.around-in-Encoding.result (measure (tree_of c.args.arena.now.held (forest c.args.arena.now) x))) (sym c.in-Encoding.is)
+          (c.around-in-Encoding.ensures.counts _ all);
+    }

@@ -1,0 +1,5 @@
+pub mod Tree
+pub mod Measure
+pub mod Stored
+pub mod Counts
+pub mod View

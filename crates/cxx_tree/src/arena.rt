@@ -1,0 +1,231 @@
+//! An arena of nodes, and what they refer to.
+#![tactic(auto, using(crate::proofs::Forest::laws), unfolding(crate::specs::Stored::forest, crate::specs::Counts::AreCounted))]
+
+ghost use Rattle.std.specs.Prelude.{◌≡◌, ℕ, ◌+◌, ◌<◌, ◌≤◌, [], ◌∷◌, ◌++◌, length, true, false, OnOk, OnErr, IfOk, IsErrOf};
+ghost use Rattle.cxx_tree.specs.Measure as spec;
+ghost use Rattle.cxx_tree.specs.Counts.{Row, AreExact};
+ghost use Rattle.cxx_tree.specs.declared.arena.PushError.TheVariants as PushError;
+ghost use Rattle.std.specs.List.{AllByRecursion};
+ghost use Rattle.cxx_tree.specs.Stored.{forest, size, tree_of, tree_at, Extends, IsBelow, IsText, IsRange, text_at, list_at, parts_at};
+
+use crate::counts::{Measure, fits};
+use crate::measuring::of_node;
+use crate::node::{List, Node, Part, Parts, Range, Text};
+use std::alloc::{AllocError, Global};
+use std::marker::Model;
+
+// The greatest index of a node, and of what nodes refer to.
+const MAX_INDEX: usize = 0xffff_fffe;
+
+/// Why a node wasn't pushed.
+#[derive(Clone, Copy, Drop)]
+pub enum PushError {
+    Memory,
+    /// The tree exceeds a limit.
+    Limit,
+}
+
+impl From<AllocError> for PushError {
+    ghost use Rattle.cxx_tree.specs.declared.arena.PushError.TheVariants.{Memory};
+
+    ghost from_gives = { λ _ e. e ≡ Memory };
+
+    fn from(_error: AllocError) -> Self {
+        PushError::Memory
+    }
+}
+
+/// Nodes, each after its children. Each stands for a tree within the limits.
+#[derive(Drop)]
+pub struct Arena {
+    nodes: Vec<Node>,
+    // The counts of each node.
+    counts: Vec<Measure>,
+    lists: Vec<u32>,
+    parts: Vec<Part>,
+    texts: Vec<u8>,
+}
+
+impl Model for Arena {
+    ghost use Rattle.cxx_tree.specs.Stored.{Store};
+
+    ghost Value = { Store };
+
+    ghost use Rattle.cxx_tree.specs.View.{store_of, IsConsistent};
+
+    ghost view = { store_of };
+
+    ghost invariant = { IsConsistent };
+}
+
+impl Arena {
+    /// Returns no nodes. Allocates nothing.
+    pub fn new(alloc: Global) -> Self
+        ensures empty { forest result ≡ [] }
+        ensures size { size result ≡ 0 }
+    {
+        Arena {
+            nodes: Vec::new(alloc),
+            counts: Vec::new(alloc),
+            lists: Vec::new(alloc),
+            parts: Vec::new(alloc),
+            texts: Vec::new(alloc),
+        }
+    }
+
+    /// Returns how many nodes there are.
+    pub fn len(&self) -> usize
+        ensures value { result ≡ size self.now }
+    {
+        self.nodes.len()
+    }
+
+    /// Returns a node.
+    pub fn node(&self, i: u32) -> Node
+        requires within { i < size self.now }
+        ensures tree { tree_at (forest self.now) i ≡ tree_of self.now.held (forest self.now) result }
+        ensures below { IsBelow self.now.held i result }
+    {
+        self.nodes[i as usize]
+    }
+
+    /// Returns the bytes of a text.
+    pub fn bytes(&self, text: Text) -> &[u8]
+        requires within { IsText self.now.held text }
+        ensures value { result.now ≡ text_at self.now.held text }
+    {
+        match text {
+            Text::Fixed(bytes) => bytes,
+            Text::Stored(r) => &self.texts[r.from as usize..r.to as usize],
+        }
+    }
+
+    /// Returns the nodes of a list.
+    pub fn items(&self, list: List) -> &[u32]
+        requires within { IsRange (length self.now.held.lists) list.range }
+        ensures value { result.now ≡ list_at self.now.held list }
+    {
+        &self.lists[list.range.from as usize..list.range.to as usize]
+    }
+
+    /// Returns the parts of a phrase.
+    pub fn parts_of(&self, parts: Parts) -> &[Part]
+        requires within { IsRange (length self.now.held.parts) parts.range }
+        ensures value { result.now ≡ parts_at self.now.held parts }
+    {
+        &self.parts[parts.range.from as usize..parts.range.to as usize]
+    }
+
+    /// Returns the counts of a node.
+    pub fn measure(&self, i: u32) -> Measure
+        requires within { i < size self.now }
+        ensures counts { Row result (spec.measure (tree_at (forest self.now) i)) }
+        ensures exact { AreExact (spec.measure (tree_at (forest self.now) i)) }
+    {
+        self.counts[i as usize]
+    }
+
+    /// Appends a node, whose children stand here, and returns its index.
+    pub fn push(&mut self, node: Node) -> Result<u32, PushError>
+        requires below { IsBelow self.old.held (size self.old) node }
+        ensures index { IfOk result (λ i. i ≡ size self.old) }
+        ensures size { OnOk result (size self.new ≡ size self.old + 1) }
+        ensures forest { OnOk result (forest self.new ≡ forest self.old ++ tree_of self.old.held (forest self.old) node ∷ []) }
+        ensures fits { OnOk result ((spec.measure (tree_of self.old.held (forest self.old) node)).fits ≡ true) }
+        ensures limit { IsErrOf result PushError.Limit →
+            (spec.measure (tree_of self.old.held (forest self.old) node)).fits ≡ false }
+        ensures held { self.new.held ≡ self.old.held }
+        ensures err { OnErr result (self.new ≡ self.old) }
+    {
+        let measure = of_node(self, node);
+        if !fits(measure) {
+            return Err(PushError::Limit);
+        }
+        let index = self.nodes.len();
+        if index > MAX_INDEX {
+            return Err(PushError::Memory);
+        }
+        // Memory first, so that nothing fails after the node is pushed.
+        match self.counts.reserve(1) {
+            Ok(()) => {}
+            Err(_) => return Err(PushError::Memory),
+        }
+        match self.nodes.push(node) {
+            Ok(()) => {}
+            Err(_) => return Err(PushError::Memory),
+        }
+        match self.counts.push(measure) {
+            Ok(()) => {}
+            Err(_) => return Err(PushError::Memory),
+        }
+        Ok(index as u32)
+    }
+
+    /// Copies a text.
+    pub fn text(&mut self, bytes: &[u8]) -> Result<Text, AllocError>
+        ensures text { IfOk result (λ t. text_at self.new.held t ≡ bytes.now) }
+        ensures within { IfOk result (λ t. IsText self.new.held t) }
+        ensures nodes { self.new.nodes ≡ self.old.nodes }
+        ensures forest { forest self.new ≡ forest self.old }
+        ensures extends { Extends self.old.held self.new.held }
+        ensures memory { length self.new.held.texts ≤ length self.old.held.texts + length bytes.now }
+        ensures lists { self.new.held.lists ≡ self.old.held.lists }
+        ensures parts { self.new.held.parts ≡ self.old.held.parts }
+        ensures err { OnErr result (self.new ≡ self.old) }
+    {
+        let range = range_behind(self.texts.len(), bytes.len())?;
+        self.texts.extend_from_slice(bytes)?;
+        Ok(Text::Stored(range))
+    }
+
+    /// Copies a list of nodes.
+    pub fn list(&mut self, items: &[u32]) -> Result<List, AllocError>
+        ensures list { IfOk result (λ l. list_at self.new.held l ≡ items.now) }
+        ensures within { IfOk result (λ l. IsRange (length self.new.held.lists) l.range) }
+        ensures nodes { self.new.nodes ≡ self.old.nodes }
+        ensures forest { forest self.new ≡ forest self.old }
+        ensures extends { Extends self.old.held self.new.held }
+        ensures memory { length self.new.held.lists ≤ length self.old.held.lists + length items.now }
+        ensures texts { self.new.held.texts ≡ self.old.held.texts }
+        ensures parts { self.new.held.parts ≡ self.old.held.parts }
+        ensures err { OnErr result (self.new ≡ self.old) }
+    {
+        let range = range_behind(self.lists.len(), items.len())?;
+        self.lists.extend_from_slice(items)?;
+        Ok(List { range })
+    }
+
+    /// Copies parts of a phrase.
+    pub fn parts(&mut self, parts: &[Part]) -> Result<Parts, AllocError>
+        ensures list { IfOk result (λ ps. parts_at self.new.held ps ≡ parts.now) }
+        ensures within { IfOk result (λ ps. IsRange (length self.new.held.parts) ps.range) }
+        ensures nodes { self.new.nodes ≡ self.old.nodes }
+        ensures forest { forest self.new ≡ forest self.old }
+        ensures extends { Extends self.old.held self.new.held }
+        ensures memory { length self.new.held.parts ≤ length self.old.held.parts + length parts.now }
+        ensures texts { self.new.held.texts ≡ self.old.held.texts }
+        ensures lists { self.new.held.lists ≡ self.old.held.lists }
+        ensures err { OnErr result (self.new ≡ self.old) }
+    {
+        let range = range_behind(self.parts.len(), parts.len())?;
+        self.parts.extend_from_slice(parts)?;
+        Ok(Parts { range })
+    }
+}
+
+// The range of `more` items behind `len` others.
+fn range_behind(len: usize, more: usize) -> Result<Range, AllocError>
+    ensures from { IfOk result (λ r. r.from ≡ len) }
+    ensures to { IfOk result (λ r. r.to ≡ len + more) }
+{
+    if len > MAX_INDEX {
+        return Err(AllocError);
+    }
+    if more > MAX_INDEX - len {
+        return Err(AllocError);
+    }
+    Ok(Range {
+        from: len as u32,
+        to: (len + more) as u32,
+    })
+}

@@ -1,0 +1,180 @@
+//! The counts of nodes.
+#![tactic(auto, using(crate::proofs::Measured::measured), unfolding(crate::specs::Stored::tree_of, crate::specs::Stored::plain_tree, crate::specs::Stored::declaration_tree, crate::specs::Stored::IsBelow, crate::specs::Stored::IsPlainBelow, crate::specs::Stored::IsDeclarationBelow, crate::specs::Measure::measure, crate::specs::Counts::part_and))]
+
+ghost use Rattle.std.specs.Prelude.{◌≡◌, ℕ, ◌+◌, ◌<◌, ◌≤◌, length, false, max, Bool};
+ghost use Rattle.std.specs.List.{AllByRecursion};
+ghost use Rattle.cxx_tree.specs.Measure as spec;
+ghost use Rattle.cxx_tree.specs.Counts.{Row, Tallied, part_and};
+ghost use Rattle.cxx_tree.specs.Stored.{forest, size, tree_of, plain_tree, declaration_tree, tree_at, option_at, trees_in, parts_in, text_at, IsBelow, IsPlainBelow, IsDeclarationBelow, IsListBelow, IsPartsBelow, IsPartBelow, IsOptionBelow, IsText};
+
+use crate::arena::Arena;
+use crate::counts::{Measure, around, join, nothing, packed, param, repeated};
+use crate::kinds::Manner;
+use crate::node::{Declaration, List, Node, Part, Parts, Plain, Text};
+
+// The counts of the nodes of a list.
+fn of_list(arena: &Arena, list: List) -> Measure
+    requires below { IsListBelow arena.now.held (size arena.now) list }
+    ensures counts { Row result (spec.measure_each (trees_in arena.now.held (forest arena.now) list)) }
+{
+    let items = arena.items(list);
+    let mut sum = nothing();
+    let mut k = items.len();
+    while k > 0 {
+        k -= 1;
+        sum = join(arena.measure(items[k]), sum);
+    }
+    sum
+}
+
+// The counts of no node, or of one.
+fn of_option(arena: &Arena, node: Option<u32>) -> Measure
+    requires below { IsOptionBelow (size arena.now) node }
+    ensures counts { Row result (spec.measure_each (option_at (forest arena.now) node)) }
+{
+    match node {
+        None => nothing(),
+        Some(i) => join(arena.measure(i), nothing()),
+    }
+}
+
+// The counts of a tree that is a part of a phrase.
+fn of_tree(arena: &Arena, manner: Manner, i: u32) -> Measure
+    requires below { i < size arena.now }
+    ensures counts { Row result (spec.part_measure manner (spec.measure (tree_at (forest arena.now) i))) }
+{
+    let measure = arena.measure(i);
+    match manner {
+        Manner::Folded => repeated(measure),
+        _ => measure,
+    }
+}
+
+// The counts of two rows, of which the second comes first if the flag says so.
+fn join_as(reversed: bool, a: Measure, b: Measure) -> Measure
+    ensures counts { (m n : spec.Measure) → Row a m → Row b n → Row result (spec.join_as reversed m n) }
+{
+    if reversed { join(b, a) } else { join(a, b) }
+}
+
+// The counts of a part and of those behind it.
+fn with_part(arena: &Arena, reversed: bool, part: Part, rest: Measure) -> Measure
+    requires below { IsPartBelow arena.now.held (size arena.now) part }
+    ensures counts { (m : spec.Measure) → Row rest m → Row result
+        (part_and arena.now.held (forest arena.now) reversed part m) }
+{
+    match part {
+        Part::Text(_, _) => rest,
+        Part::Tree(manner, i) => join_as(reversed, of_tree(arena, manner, i), rest),
+        Part::Trees(_, list) => join_as(reversed, of_list(arena, list), rest),
+    }
+}
+
+// The counts of the parts of a phrase.
+fn of_parts(arena: &Arena, reversed: bool, parts: Parts) -> Measure
+    requires below { IsPartsBelow arena.now.held (size arena.now) parts }
+    ensures counts { Row result (spec.measure_parts reversed (parts_in arena.now.held (forest arena.now) parts)) }
+{
+    let list = arena.parts_of(parts);
+    let mut sum = nothing();
+    let mut k = list.len();
+    while k > 0 {
+        k -= 1;
+        sum = with_part(arena, reversed, list[k], sum);
+    }
+    sum
+}
+
+// The number of bytes of a text.
+fn text_len(arena: &Arena, text: Text) -> usize
+    requires within { IsText arena.now.held text }
+    ensures value { result ≡ length (text_at arena.now.held text) }
+    ensures small { result < 9223372036854775808 }
+{
+    arena.bytes(text).len()
+}
+
+// The counts of a node whose text has one side.
+fn of_plain(arena: &Arena, plain: Plain) -> Measure
+    requires below { IsPlainBelow arena.now.held (size arena.now) plain }
+    ensures counts { Tallied result (spec.measure (plain_tree arena.now.held (forest arena.now) plain)) }
+{
+    match plain {
+        Plain::Leaf(_, a, b) => {
+            let long = text_len(arena, a).max(text_len(arena, b));
+            around(1 + long, nothing())
+        }
+        Plain::StdName(_, _) => around(1, nothing()),
+        Plain::Phrase(phrase, parts) => around(phrase.own, of_parts(arena, phrase.is_reversed, parts)),
+        Plain::Scoped(_, scope, name) => around(1, join(arena.measure(scope), arena.measure(name))),
+        Plain::WithArgs(name, args) => around(1, join(arena.measure(name), of_list(arena, args))),
+        Plain::AbiTag(name, tag) => around(1 + text_len(arena, tag), arena.measure(name)),
+        Plain::InModule(name, owner) => around(1, join(arena.measure(name), arena.measure(owner))),
+        Plain::Data(name) => around(1, arena.measure(name)),
+        Plain::ObjcProtocol(t, protocol) => around(1 + text_len(arena, protocol), arena.measure(t)),
+        Plain::List(items) => around(1, of_list(arena, items)),
+        Plain::Expansion(t) => around(1, repeated(arena.measure(t))),
+        Plain::Param(_, _) => param(),
+    }
+}
+
+// The counts of a declaration.
+fn of_declaration(arena: &Arena, declaration: Declaration) -> Measure
+    requires below { IsDeclarationBelow arena.now.held (size arena.now) declaration }
+    ensures counts { Tallied result (spec.measure (declaration_tree arena.now.held (forest arena.now) declaration)) }
+{
+    match declaration {
+        Declaration::TypeParam(constraint, name) => around(
+            1,
+            join(arena.measure(constraint), arena.measure(name)),
+        ),
+        Declaration::NonTypeParam(name, t) => around(1, join(arena.measure(name), arena.measure(t))),
+        Declaration::TemplateParam(name, declarations, rest) => {
+            let behind = join(of_list(arena, declarations), of_parts(arena, false, rest));
+            around(1, join(arena.measure(name), behind))
+        }
+        Declaration::PackParam(d) => around(1, arena.measure(d)),
+    }
+}
+
+/// Returns the counts of a node, whose children stand in the arena.
+pub fn of_node(arena: &Arena, node: Node) -> Measure
+    requires below { IsBelow arena.now.held (size arena.now) node }
+    ensures counts { Tallied result (spec.measure (tree_of arena.now.held (forest arena.now) node)) }
+{
+    match node {
+        Node::Plain(plain) => of_plain(arena, plain),
+        Node::Declaration(declaration) => of_declaration(arena, declaration),
+        Node::Qualified(t, _) | Node::Pointer(t) | Node::Reference(t, _) => around(
+            1,
+            arena.measure(t),
+        ),
+        Node::MemberPointer(class, member) => around(
+            1,
+            join(arena.measure(member), arena.measure(class)),
+        ),
+        Node::Array(element, dimension) => around(
+            1,
+            join(arena.measure(element), of_parts(arena, false, dimension)),
+        ),
+        Node::Function(ret, params, _, _, exception) => {
+            let behind = join(of_list(arena, params), of_parts(arena, false, exception));
+            around(1, join(arena.measure(ret), behind))
+        }
+        Node::Encoding(ret, name, params, _, _, rest) => {
+            let behind = join(of_list(arena, params), of_parts(arena, false, rest));
+            let named = join(arena.measure(name), behind);
+            around(1, join(of_option(arena, ret), named))
+        }
+        Node::Pack(items) => pack_of(arena, items),
+    }
+}
+
+// The counts of a pack.
+fn pack_of(arena: &Arena, items: List) -> Measure
+    requires below { IsListBelow arena.now.held (size arena.now) items }
+    ensures counts { Tallied result (spec.packed (spec.count (trees_in arena.now.held (forest arena.now) items))
+        (spec.measure_each (trees_in arena.now.held (forest arena.now) items))) }
+{
+    packed(items.range.to - items.range.from, of_list(arena, items))
+}
