@@ -1,7 +1,10 @@
 -- The counts of nodes.
-use Rattle.std.proofs.Common.{ℕ, ◌≡◌, ◌+◌, ◌<◌, ◌≤◌, Bool, true, false, List, [], ◌∷◌, ◌++◌, length, drop, slice_range, ◌-◌, refl, sym, ap, ◌∙◌, arith, subst, zero, suc}
+use Rattle.std.proofs.Common.{ℕ, ◌≡◌, ◌+◌, ◌<◌, ◌≤◌, Bool, true, false, ◌&&◌, List, [], ◌∷◌, ◌++◌, length, drop, slice_range, ◌-◌, refl, sym, ap, ◌∙◌, arith, subst, zero, suc}
 use Rattle.std.proofs.Math.ListN.{get_or}
 use Rattle.std.proofs.lemmas.Grind.{common_steps}
+use Rattle.std.proofs.lemmas.Bool.{leb-true}
+use Rattle.std.specs.Prelude.{nat_le}
+use mathlib.Core.Bool.{true≢false}
 use Rattle.std.specs.List.{AllByRecursion}
 use Rattle.cxx_tree.specs.declared.counts.Measure as stored
 use Rattle.cxx_tree.specs.declared.node.Range.{Range}
@@ -13,8 +16,14 @@ use Rattle.cxx_tree.specs.Measure.{Measure, measure, measure_each, measure_parts
 use Rattle.cxx_tree.specs.Counts.{Row, Tallied, AreExact, AreCounted, part_and}
 use Rattle.cxx_tree.specs.Stored.{Held, tree_at, trees_at, trees_in, list_at, parts_of, IsRange, IsListBelow, IsPartBelow}
 
+both : (a b : Bool) → (a && b) ≡ true → (a ≡ true) × (b ≡ true)
+both true true e = (refl, refl)
+both true false e = (refl, e)
+both false b e = absurd (true≢false (sym e))
+
 within-low : (height each packs : ℕ) → within height each packs ≡ true → (height ≤ 1024) × (each + packs ≤ 1048576)
-within-low height each packs e = (search, search)
+within-low height each packs e =
+    let two = both (nat_le height 1024) (nat_le (each + packs) 1048576) e in (leb-true height 1024 two.0, leb-true (each + packs) 1048576 two.1)
 
 pub counted-at : (cs : List stored.Measure) (ts : List Tree) → AreCounted cs ts → (i : ℕ) (d : stored.Measure) → i < length ts → Row (get_or cs i d) (measure (tree_at ts i)) × AreExact (measure (tree_at ts i))
 unfolding AreCounted

@@ -7,7 +7,6 @@ mod kinds;
 mod measuring;
 mod node;
 
-
 pub use crate::arena::{Arena, PushError};
 pub use crate::counts::Measure;
 pub use crate::kinds::{Context, Cv, Guard, Leaf, Listing, Manner, Phrase, Prec, RefQual, Role, Std};
