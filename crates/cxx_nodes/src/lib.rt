@@ -4,9 +4,10 @@
 //! A text that both styles have is given once. Where GNU's style has another, it is given after LLVM's. Of a text that
 //! isn't fixed, the length counts as work of the node.
 
-use crate::arena::{Arena, PushError};
-use crate::kinds::{Context, Cv, Guard, Leaf, Listing, Manner, Phrase, Prec, RefQual, Role};
-use crate::node::{Declaration, Node, Part, Parts, Plain, Text};
+use cxx_tree::{
+    Arena, Context, Cv, Declaration, Guard, Leaf, Listing, Manner, Node, Part, Parts, Phrase, Plain, Prec, PushError, RefQual,
+    Role, Text,
+};
 use std::alloc::AllocError;
 
 // The attributes of a primary expression, a name or a type whose last part isn't at its end. It holds texts of `held`

@@ -73,6 +73,18 @@ impl Arena {
         }
     }
 
+    /// Drops all nodes, and keeps the memory.
+    pub fn clear(&mut self)
+        ensures empty { forest self.new ≡ [] }
+        ensures size { size self.new ≡ 0 }
+    {
+        self.nodes.clear();
+        self.counts.clear();
+        self.lists.clear();
+        self.parts.clear();
+        self.texts.clear();
+    }
+
     /// Returns how many nodes there are.
     pub fn len(&self) -> usize
         ensures value { result ≡ size self.now }

@@ -29,7 +29,7 @@ mod rattle;
 #[path = "../../../out/printing-rust/src/extracted/mod.rs"]
 mod extracted;
 
-use crate::extracted::cxx_printer::{Mode, Output, Style, Symbol, print_symbol};
+use crate::extracted::cxx_printer::{Mode, Style, Symbol, print_symbol};
 use crate::extracted::cxx_tree::Arena;
 use crate::rattle::alloc::Global;
 use crate::tree::made;
@@ -77,12 +77,12 @@ impl Line {
 /// An arena, and what was printed of it last.
 struct Printer {
     arena: Arena,
-    output: Output,
+    output: rattle::vec::Vec<u8>,
 }
 
 impl Printer {
     fn new() -> Printer {
-        Printer { arena: Arena::new(Global), output: Output::new(Global) }
+        Printer { arena: Arena::new(Global), output: rattle::vec::Vec::new(Global) }
     }
 
     /// Makes the nodes of a tree, and drops all others. A tree may be beyond the limits.
@@ -95,7 +95,7 @@ impl Printer {
     fn text(&mut self, symbol: Symbol, mode: Mode, style: Style) -> &[u8] {
         self.output.clear();
         print_symbol(&self.arena, symbol, mode, style, &mut self.output).expect("memory");
-        self.output.as_slice()
+        &self.output
     }
 
     /// Prints a declaration, and returns its length.

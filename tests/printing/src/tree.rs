@@ -2,7 +2,7 @@
 //! fields in the same order. A `Lambda` has a `Closure` as its only field, whose number isn't used.
 
 use crate::extracted::cxx_printer::Symbol;
-use crate::extracted::cxx_tree::rows::{self, Rest, Signature};
+use crate::extracted::cxx_nodes::{self as rows, Rest, Signature};
 use crate::extracted::cxx_tree::{Arena, Cv, Declaration, List, Node, Plain, Prec, PushError, RefQual, Std, Text};
 use crate::value::Value;
 

@@ -48,6 +48,12 @@ impl<T> Vec<T> {
         self.0.clear();
     }
 
+    #[inline(always)]
+    pub fn reserve(&mut self, more: usize) -> Result<(), AllocError> {
+        self.0.try_reserve(more)?;
+        Ok(())
+    }
+
     pub fn append(&mut self, other: &mut Vec<T>) -> Result<(), AllocError> {
         self.0.try_reserve(other.0.len())?;
         self.0.append(&mut other.0);

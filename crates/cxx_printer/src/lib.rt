@@ -1,0 +1,22 @@
+//! Prints trees of demangled symbols as LLVM does, or as GNU's c++filt does.
+#![tactic(auto)]
+
+/// The value of a result. An error is returned from the function around it, as it is.
+macro_rules! tri {
+    ($result:expr) => {
+        match $result {
+            Ok(value) => value,
+            Err(error) => return Err(error),
+        }
+    };
+}
+
+mod env;
+mod operands;
+mod print;
+mod shapes;
+mod symbol;
+mod words;
+
+pub use crate::env::Style;
+pub use crate::symbol::{Mode, Symbol, print_symbol};
