@@ -5,8 +5,8 @@
 //! isn't fixed, the length counts as work of the node.
 
 use cxx_tree::{
-    Arena, Context, Cv, Declaration, Guard, Leaf, Listing, Manner, Node, Part, Parts, Phrase, Plain, Prec, PushError, RefQual,
-    Role, Text,
+    Arena, Context, Cv, Declaration, Guard, Listing, Manner, Node, Part, Parts, Phrase, Plain,
+    Prec, PushError, RefQual, Role, Text,
 };
 use std::alloc::AllocError;
 
@@ -99,22 +99,22 @@ fn phrase(arena: &mut Arena, attributes: Phrase, parts: &[Part]) -> Result<u32, 
 
 /// Makes the name `TEXT`.
 pub fn name(arena: &mut Arena, text: Text) -> Result<u32, PushError> {
-    arena.push(Node::Plain(Plain::Leaf(Leaf::Name, text, text)))
+    arena.push(Node::Plain(Plain::Name(text)))
 }
 
 /// Makes a word: `LLVM`, and in GNU's style `GNU`.
 pub fn word(arena: &mut Arena, llvm: Text, gnu: Text) -> Result<u32, PushError> {
-    arena.push(Node::Plain(Plain::Leaf(Leaf::Word, llvm, gnu)))
+    arena.push(Node::Plain(Plain::Leaf(true, llvm, gnu)))
 }
 
 /// Makes a literal: `LLVM`, and in GNU's style `GNU`.
 pub fn literal(arena: &mut Arena, llvm: Text, gnu: Text) -> Result<u32, PushError> {
-    arena.push(Node::Plain(Plain::Leaf(Leaf::Value, llvm, gnu)))
+    arena.push(Node::Plain(Plain::Leaf(false, llvm, gnu)))
 }
 
 /// Makes a parameter of a lambda: `LLVM`, and in GNU's style `GNU`.
 pub fn lambda_param(arena: &mut Arena, llvm: Text, gnu: Text) -> Result<u32, PushError> {
-    arena.push(Node::Plain(Plain::Leaf(Leaf::Value, llvm, gnu)))
+    arena.push(Node::Plain(Plain::Leaf(false, llvm, gnu)))
 }
 
 /// Makes a default argument: the scope `E`, and in GNU's style `::{default arg#ORDINAL}` behind it.

@@ -89,7 +89,11 @@ impl Env {
         match guard {
             Guard::Open => self,
             Guard::Enclosed => self.enclosed(),
-            Guard::Greater | Guard::Shift => if self.is_guarded(guard) { self.enclosed() } else { self },
+            Guard::Greater | Guard::Shift => if self.is_guarded(guard) {
+                self.enclosed()
+            } else {
+                self
+            },
         }
     }
 

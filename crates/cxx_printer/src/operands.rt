@@ -1,6 +1,6 @@
 //! What is asked of the head of a tree, whatever it is printed in.
 
-use cxx_tree::{Arena, Cv, Leaf, List, Listing, Node, Plain, Prec, RefQual, Role};
+use cxx_tree::{Arena, Cv, List, Node, Plain, Prec, RefQual, Role};
 
 /// Returns the precedence of a tree.
 pub fn prec_of(arena: &Arena, i: u32) -> Prec {
@@ -43,10 +43,8 @@ fn rank(prec: Prec) -> u8 {
 pub fn is_simple(arena: &Arena, i: u32) -> bool {
     match arena.node(i) {
         Node::Plain(plain) => match plain {
-            Plain::Leaf(leaf, _, _) => match leaf {
-                Leaf::Name | Leaf::Word => true,
-                Leaf::Value => false,
-            },
+            Plain::Name(_) => true,
+            Plain::Leaf(is_simple, _, _) => is_simple,
             Plain::Phrase(phrase, _) => phrase.role == Role::Simple,
             Plain::Scoped(is_friend, _, name) => !is_friend && !has_args(arena, name),
             Plain::Data(name) => is_simple(arena, name),
@@ -75,7 +73,10 @@ pub fn is_designator(arena: &Arena, i: u32) -> bool {
 /// Returns the name of a function whose address is written without parameters in GNU's style.
 pub fn named_address(arena: &Arena, i: u32) -> Option<u32> {
     match arena.node(i) {
-        Node::Encoding(_, name, _, cv, ref_qual, _) => if is_unqualified(cv, ref_qual) && is_scoped(arena, name) && is_simple(arena, name) {
+        Node::Encoding(_, name, _, cv, ref_qual, _) => if is_unqualified(cv, ref_qual)
+            && is_scoped(arena, name)
+            && is_simple(arena, name)
+        {
             Some(name)
         } else {
             None

@@ -5,7 +5,7 @@
 use crate::env::Env;
 use crate::operands::{is_simple, named_address};
 use crate::words::{Form, std_text};
-use cxx_tree::{Arena, Leaf, Listing, Manner, Node, Part, Parts, Phrase, Plain};
+use cxx_tree::{Arena, Listing, Manner, Node, Part, Parts, Phrase, Plain};
 
 /// The element of a pack that is printed.
 pub fn element(env: Env, items: &[u32]) -> Option<u32> {
@@ -13,7 +13,11 @@ pub fn element(env: Env, items: &[u32]) -> Option<u32> {
         None => 0,
         Some(k) => k as usize,
     };
-    if k < items.len() { Some(items[k]) } else { None }
+    if k < items.len() {
+        Some(items[k])
+    } else {
+        None
+    }
 }
 
 /// Returns the form of a type.
@@ -30,13 +34,25 @@ pub fn form_of(arena: &Arena, env: Env, i: u32) -> Form {
     }
 }
 
+/// Returns whether a tree has one side alone, whatever it is printed in. Where it says no there may be one alone too.
+pub fn is_one_sided(arena: &Arena, i: u32) -> bool {
+    match arena.node(i) {
+        Node::Plain(_) => true,
+        Node::Qualified(t, _) | Node::Pointer(t) | Node::Reference(t, _) => is_one_sided(arena, t),
+        _ => false,
+    }
+}
+
 /// Returns whether a tree has a right side.
 pub fn has_right(arena: &Arena, env: Env, i: u32) -> bool {
     match arena.node(i) {
         Node::Plain(_) => false,
         Node::Declaration(_) => true,
-        Node::Array(_, _) | Node::Function(_, _, _, _, _) | Node::Encoding(_, _, _, _, _, _) => true,
-        Node::Qualified(t, _) | Node::Pointer(t) | Node::Reference(t, _) => has_right(arena, env, t),
+        Node::Array(_, _) | Node::Function(_, _, _, _, _) | Node::Encoding(_, _, _, _, _, _) =>
+            true,
+        Node::Qualified(t, _) | Node::Pointer(t) | Node::Reference(t, _) => has_right(
+            arena, env, t,
+        ),
         Node::MemberPointer(_, member) => has_right(arena, env, member),
         Node::Pack(items) => match element(env, arena.items(items)) {
             None => false,
@@ -127,7 +143,11 @@ pub fn ending_of(arena: &Arena, env: Env, i: u32) -> Ending {
     match arena.node(i) {
         Node::Plain(plain) => ending_of_plain(arena, env, plain),
         Node::Pointer(t) => match arena.node(t) {
-            Node::Plain(Plain::ObjcProtocol(name, _)) => if is_objc_object(arena, name) { Ending::Greater } else { Ending::Other },
+            Node::Plain(Plain::ObjcProtocol(name, _)) => if is_objc_object(arena, name) {
+                Ending::Greater
+            } else {
+                Ending::Other
+            },
             _ => Ending::Other,
         },
         Node::Pack(items) => match element(env, arena.items(items)) {
@@ -140,10 +160,8 @@ pub fn ending_of(arena: &Arena, env: Env, i: u32) -> Ending {
 
 fn ending_of_plain(arena: &Arena, env: Env, plain: Plain) -> Ending {
     match plain {
-        Plain::Leaf(leaf, _, gnu) => match leaf {
-            Leaf::Name => ending_of_text(arena.bytes(gnu)),
-            Leaf::Word | Leaf::Value => Ending::Other,
-        },
+        Plain::Name(text) => ending_of_text(arena.bytes(text)),
+        Plain::Leaf(_, _, _) => Ending::Other,
         Plain::StdName(std, is_expanded) => ending_of_text(std_text(env.style, std, is_expanded)),
         Plain::Phrase(phrase, parts) => ending_of_phrase(arena, env, phrase, parts),
         Plain::Scoped(_, _, name) => ending_of(arena, env, name),
@@ -188,7 +206,11 @@ fn ending_of_part(arena: &Arena, env: Env, part: Part) -> Ending {
 }
 
 fn ending_of_operand(arena: &Arena, env: Env, t: u32) -> Ending {
-    if is_simple(arena, t) { ending_of(arena, env, t) } else { Ending::Other }
+    if is_simple(arena, t) {
+        ending_of(arena, env, t)
+    } else {
+        Ending::Other
+    }
 }
 
 /// Returns how a list ends in GNU's style.
@@ -209,7 +231,7 @@ fn ending_of_expansion(arena: &Arena, env: Env, t: u32) -> Ending {
 /// Returns whether a node is the name `objc_object`.
 pub fn is_objc_object(arena: &Arena, i: u32) -> bool {
     match arena.node(i) {
-        Node::Plain(Plain::Leaf(Leaf::Name, name, _)) => arena.bytes(name) == b"objc_object",
+        Node::Plain(Plain::Name(name)) => arena.bytes(name) == b"objc_object",
         _ => false,
     }
 }

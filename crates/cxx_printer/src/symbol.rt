@@ -3,6 +3,7 @@
 use crate::env::{Env, Style};
 use crate::print::{print, print_signature};
 use cxx_tree::{Arena, Node, Text};
+use growing_text::Text as Output;
 use std::alloc::AllocError;
 
 /// What of a function is printed. Whatever else a symbol stands for is printed whole.
@@ -32,11 +33,11 @@ pub fn print_symbol(
     symbol: Symbol,
     mode: Mode,
     style: Style,
-    out: &mut Vec<u8>,
+    out: &mut Output,
 ) -> Result<(), AllocError> {
     let env = Env::top(style);
     if symbol.is_block {
-        tri!(out.extend_from_slice(b"invocation function for block in "));
+        tri!(out.add(b"invocation function for block in "));
     }
     tri!(print_mode(arena, env, symbol.tree, mode, out));
     match symbol.suffix {
@@ -45,7 +46,13 @@ pub fn print_symbol(
     }
 }
 
-fn print_mode(arena: &Arena, env: Env, i: u32, mode: Mode, out: &mut Vec<u8>) -> Result<(), AllocError> {
+fn print_mode(
+    arena: &Arena,
+    env: Env,
+    i: u32,
+    mode: Mode,
+    out: &mut Output,
+) -> Result<(), AllocError> {
     match arena.node(i) {
         Node::Encoding(_, name, params, cv, ref_qual, rest) => match mode {
             Mode::Name => print(arena, env, name, out),
@@ -57,23 +64,23 @@ fn print_mode(arena: &Arena, env: Env, i: u32, mode: Mode, out: &mut Vec<u8>) ->
 }
 
 // Appends what follows from a dot.
-fn print_suffix(env: Env, suffix: &[u8], out: &mut Vec<u8>) -> Result<(), AllocError> {
+fn print_suffix(env: Env, suffix: &[u8], out: &mut Output) -> Result<(), AllocError> {
     if !env.is_llvm() {
         return print_pieces(suffix, out);
     }
-    tri!(out.extend_from_slice(b" ("));
-    tri!(out.extend_from_slice(suffix));
-    out.extend_from_slice(b")")
+    tri!(out.add(b" ("));
+    tri!(out.add(suffix));
+    out.add(b")")
 }
 
 // Appends each piece of a suffix. A piece begins at each dot that no digit follows.
-fn print_pieces(suffix: &[u8], out: &mut Vec<u8>) -> Result<(), AllocError> {
+fn print_pieces(suffix: &[u8], out: &mut Output) -> Result<(), AllocError> {
     let mut rest = suffix;
     while !rest.is_empty() {
         let len = piece_len(rest);
-        tri!(out.extend_from_slice(b" [clone "));
-        tri!(out.extend_from_slice(&rest[..len]));
-        tri!(out.extend_from_slice(b"]"));
+        tri!(out.add(b" [clone "));
+        tri!(out.add(&rest[..len]));
+        tri!(out.add(b"]"));
         rest = &rest[len..];
     }
     Ok(())

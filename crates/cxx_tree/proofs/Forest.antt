@@ -5,7 +5,6 @@ use Rattle.std.proofs.Math.Seq.{get_or-append_seam}
 use Rattle.std.proofs.lemmas.Grind.{common_steps}
 use Rattle.std.proofs.lemmas.List.{append-nil}
 use Rattle.std.specs.List.{AllByRecursion}
-use Rattle.cxx_tree.specs.declared.kinds.Leaf.TheVariants.{Name}
 use Rattle.cxx_tree.specs.declared.node.Range.{Range}
 use Rattle.cxx_tree.specs.declared.node.Text.{Text}
 use Rattle.cxx_tree.specs.declared.node.Text.TheVariants.{Fixed, Stored}
@@ -19,7 +18,7 @@ use Rattle.cxx_tree.specs.declared.node.Declaration.{Declaration}
 use Rattle.cxx_tree.specs.declared.node.Declaration.TheVariants as declaration
 use Rattle.cxx_tree.specs.declared.node.Node.{Node}
 use Rattle.cxx_tree.specs.declared.node.Node.TheVariants as node
-use Rattle.cxx_tree.specs.Tree.{Tree, Trees, Parts, leaf, std_name, phrase, scoped, with_args, abi_tag, in_module, data_name, objc_protocol, listed, expansion, param, type_param, non_type_param, template_param, pack_param, qualified, pointer, reference, member_pointer, array, function, encoding, pack, no_trees, more_trees, no_parts, text, tree, trees}
+use Rattle.cxx_tree.specs.Tree.{Tree, Trees, Parts, named, leaf, std_name, phrase, scoped, with_args, abi_tag, in_module, data_name, objc_protocol, listed, expansion, param, type_param, non_type_param, template_param, pack_param, qualified, pointer, reference, member_pointer, array, function, encoding, pack, no_trees, more_trees, no_parts, text, tree, trees}
 use Rattle.cxx_tree.specs.Stored.{Held, Store, text_at, list_at, parts_at, tree_at, trees_at, trees_in, option_at, parts_of, parts_in, plain_tree, declaration_tree, tree_of, IsRange, IsText, IsListBelow, IsPartBelow, IsPartsBelow, IsOptionBelow, IsPlainBelow, IsDeclarationBelow, IsBelow, trees_from, AreStored, IsStore, forest, size, Begins, Extends}
 
 -- a node at the end
@@ -35,7 +34,7 @@ length-trees_from h ts (n ∷ ns) = grind (arith, common_steps, length-trees_fro
 pub trees_from-old : (h : Held) (ts : List Tree) (ns : List Node) (i : ℕ) → i < length ts → tree_at (trees_from h ts ns) i ≡ tree_at ts i
 trees_from-old h ts [] i b = refl
 trees_from-old h ts (n ∷ ns) i b =
-    trees_from-old h (ts ++ tree_of h ts n ∷ []) ns i (grind (arith, common_steps)) ∙ get_or-append ts (tree_of h ts n ∷ []) (leaf Name [] []) i b
+    trees_from-old h (ts ++ tree_of h ts n ∷ []) ns i (grind (arith, common_steps)) ∙ get_or-append ts (tree_of h ts n ∷ []) (named []) i b
 
 -- two lists of trees that agree below n
 abbrev Agree : ℕ → List Tree → List Tree → Type 0
@@ -60,7 +59,8 @@ parts_of-same h n ts us agree (part.Trees listing l ∷ ps) b =
 
 plain_tree-same : (h : Held) (n : ℕ) (ts us : List Tree) → Agree n ts us → (p : Plain) → IsPlainBelow h n p → plain_tree h ts p ≡ plain_tree h us p
 unfolding plain_tree IsPlainBelow
-plain_tree-same h n ts us agree (plain.Leaf kind x y) b = refl
+plain_tree-same h n ts us agree (plain.Name bytes) b = refl
+plain_tree-same h n ts us agree (plain.Leaf simple x y) b = refl
 plain_tree-same h n ts us agree (plain.StdName std expanded) b = refl
 plain_tree-same h n ts us agree (plain.Phrase attributes ps) b =
     ap (phrase attributes) (parts_of-same h n ts us agree (parts_at h ps) b.1)
@@ -120,7 +120,7 @@ trees_from-at h ts (n ∷ ns) s zero d below =
     let here : tree_at all (length ts) ≡ tree_at (ts ++ tree_of h ts n ∷ []) (length ts) =
     trees_from-old h (ts ++ tree_of h ts n ∷ []) ns (length ts) (grind (arith, common_steps)) in
     let at : tree_at (ts ++ tree_of h ts n ∷ []) (length ts) ≡ tree_of h ts n =
-    get_or-append_seam ts (tree_of h ts n) [] (leaf Name [] []) in
+    get_or-append_seam ts (tree_of h ts n) [] (named []) in
     let e : length ts + 0 ≡ length ts = omega arith in
     ap (tree_at all) e ∙ here ∙ at
     ∙ tree_of-same h (length ts) ts all (λ i hi. sym (trees_from-old h ts (n ∷ ns) i hi)) n s.0
@@ -180,7 +180,8 @@ parts_in-more h g e n ts ps b = ap (parts_of g ts) (parts_at-more h g e ps b.0) 
 
 plain_tree-more : (h g : Held) → Extends h g → (n : ℕ) (ts : List Tree) (p : Plain) → IsPlainBelow h n p → plain_tree g ts p ≡ plain_tree h ts p
 unfolding plain_tree IsPlainBelow
-plain_tree-more h g e n ts (plain.Leaf kind x y) b = let one = text_at-more h g e x b.0 in let two = text_at-more h g e y b.1 in cc
+plain_tree-more h g e n ts (plain.Name bytes) b = ap named (text_at-more h g e bytes b)
+plain_tree-more h g e n ts (plain.Leaf simple x y) b = let one = text_at-more h g e x b.0 in let two = text_at-more h g e y b.1 in cc
 plain_tree-more h g e n ts (plain.StdName std expanded) b = refl
 plain_tree-more h g e n ts (plain.Phrase attributes ps) b = ap (phrase attributes) (parts_in-more h g e n ts ps b)
 plain_tree-more h g e n ts (plain.Scoped friend scope name) b = refl
@@ -231,9 +232,10 @@ all_below-more n m le [] b = b
 all_below-more n m le (i ∷ is) b = (omega (arith, le, b.0), all_below-more n m le is b.1)
 
 pub IsListBelow-more : (h g : Held) → Extends h g → (n m : ℕ) → n ≤ m → (l : handle.List) → IsListBelow h n l → IsListBelow g m l
-IsListBelow-more h g e n m le l b =
-    (IsRange-more (length h.lists) (length g.lists) l.range (length-more ℕ h.lists g.lists e.0) b.0,
-      subst (AllByRecursion (λ (t : ℕ). t < m)) (sym (list_at-more h g e l b.0)) (all_below-more n m le (list_at h l) b.1))
+IsListBelow-more h g e n m le l b = (
+  IsRange-more (length h.lists) (length g.lists) l.range (length-more ℕ h.lists g.lists e.0) b.0,
+  subst (AllByRecursion (λ (t : ℕ). t < m)) (sym (list_at-more h g e l b.0)) (all_below-more n m le (list_at h l) b.1),
+)
 
 pub IsPartBelow-more : (h g : Held) → Extends h g → (n m : ℕ) → n ≤ m → (p : Part) → IsPartBelow h n p → IsPartBelow g m p
 IsPartBelow-more h g e n m le (part.Text x y) b = (IsText-more h g e x b.0, IsText-more h g e y b.1)
@@ -245,9 +247,10 @@ all_parts-more h g e n m le [] b = b
 all_parts-more h g e n m le (p ∷ ps) b = (IsPartBelow-more h g e n m le p b.0, all_parts-more h g e n m le ps b.1)
 
 pub IsPartsBelow-more : (h g : Held) → Extends h g → (n m : ℕ) → n ≤ m → (ps : handles.Parts) → IsPartsBelow h n ps → IsPartsBelow g m ps
-IsPartsBelow-more h g e n m le ps b =
-    (IsRange-more (length h.parts) (length g.parts) ps.range (length-more Part h.parts g.parts e.1) b.0,
-      subst (AllByRecursion (IsPartBelow g m)) (sym (parts_at-more h g e ps b.0)) (all_parts-more h g e n m le (parts_at h ps) b.1))
+IsPartsBelow-more h g e n m le ps b = (
+  IsRange-more (length h.parts) (length g.parts) ps.range (length-more Part h.parts g.parts e.1) b.0,
+  subst (AllByRecursion (IsPartBelow g m)) (sym (parts_at-more h g e ps b.0)) (all_parts-more h g e n m le (parts_at h ps) b.1),
+)
 
 pub IsOptionBelow-more : (n m : ℕ) → n ≤ m → (o : Option ℕ) → IsOptionBelow n o → IsOptionBelow m o
 IsOptionBelow-more n m le None b = b
@@ -255,7 +258,8 @@ IsOptionBelow-more n m le (Some i) b = omega (arith, le, b)
 
 IsPlainBelow-more : (h g : Held) → Extends h g → (n m : ℕ) → n ≤ m → (p : Plain) → IsPlainBelow h n p → IsPlainBelow g m p
 unfolding IsPlainBelow
-IsPlainBelow-more h g e n m le (plain.Leaf kind x y) b = (IsText-more h g e x b.0, IsText-more h g e y b.1)
+IsPlainBelow-more h g e n m le (plain.Name bytes) b = IsText-more h g e bytes b
+IsPlainBelow-more h g e n m le (plain.Leaf simple x y) b = (IsText-more h g e x b.0, IsText-more h g e y b.1)
 IsPlainBelow-more h g e n m le (plain.StdName std expanded) b = b
 IsPlainBelow-more h g e n m le (plain.Phrase attributes ps) b = IsPartsBelow-more h g e n m le ps b
 IsPlainBelow-more h g e n m le (plain.Scoped friend scope name) b = (omega (arith, le, b.0), omega (arith, le, b.1))

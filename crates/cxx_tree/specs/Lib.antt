@@ -2,4 +2,5 @@ pub mod Tree
 pub mod Measure
 pub mod Stored
 pub mod Counts
+pub mod Grows
 pub mod View

@@ -2,7 +2,7 @@
 use Rattle.std.specs.Prelude.{ℕ, zero, suc, ◌+◌, ◌*◌, max, nat_le, Bool, true, false, ◌&&◌, if◌then◌else◌, Option, Some, None, List, length}
 use Rattle.cxx_tree.specs.declared.kinds.Manner.{Manner}
 use Rattle.cxx_tree.specs.declared.kinds.Manner.TheVariants.{Whole, Operand, Scope, Callee, Address, Value, Argument, Count, Folded}
-use Rattle.cxx_tree.specs.Tree.{Tree, Trees, Parts, leaf, std_name, phrase, scoped, with_args, abi_tag, in_module, data_name, objc_protocol, listed, expansion, param, type_param, non_type_param, template_param, pack_param, qualified, pointer, reference, member_pointer, array, function, encoding, pack, no_trees, more_trees, no_parts, text, tree, trees}
+use Rattle.cxx_tree.specs.Tree.{Tree, Trees, Parts, named, leaf, std_name, phrase, scoped, with_args, abi_tag, in_module, data_name, objc_protocol, listed, expansion, param, type_param, non_type_param, template_param, pack_param, qualified, pointer, reference, member_pointer, array, function, encoding, pack, no_trees, more_trees, no_parts, text, tree, trees}
 
 pub record Measure : Type 0 where
   -- of a leaf 1, of another tree one more than that of its highest child
@@ -114,7 +114,8 @@ count (more_trees t ts) = count ts + 1
 
 unfoldable mutual
   pub measure : Tree → Measure
-  measure (leaf kind a b) = leaf_measure (1 + max (length a) (length b))
+  measure (named bytes) = leaf_measure (1 + length bytes)
+  measure (leaf simple a b) = leaf_measure (1 + max (length a) (length b))
   measure (std_name std expanded) = leaf_measure 1
   measure (phrase attributes ps) = around attributes.own (measure_parts attributes.is_reversed ps)
   measure (scoped friend scope name) = around 1 (join (measure scope) (measure name))

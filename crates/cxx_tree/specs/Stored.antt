@@ -1,7 +1,6 @@
 -- What an arena holds, and the trees that its nodes stand for.
 use Rattle.std.specs.Prelude.{ℕ, ◌<◌, ◌≤◌, ◌≡◌, ◌+◌, List, [], ◌∷◌, ◌++◌, map, length, slice_range, Option, Some, None, get_or}
 use Rattle.std.specs.List.{AllByRecursion}
-use Rattle.cxx_tree.specs.declared.kinds.Leaf.TheVariants.{Name}
 use Rattle.cxx_tree.specs.declared.node.Range.{Range}
 use Rattle.cxx_tree.specs.declared.node.Text.{Text}
 use Rattle.cxx_tree.specs.declared.node.Text.TheVariants.{Fixed, Stored}
@@ -15,7 +14,7 @@ use Rattle.cxx_tree.specs.declared.node.Declaration.{Declaration}
 use Rattle.cxx_tree.specs.declared.node.Declaration.TheVariants as declaration
 use Rattle.cxx_tree.specs.declared.node.Node.{Node}
 use Rattle.cxx_tree.specs.declared.node.Node.TheVariants as node
-use Rattle.cxx_tree.specs.Tree.{Tree, Trees, Parts, leaf, std_name, phrase, scoped, with_args, abi_tag, in_module, data_name, objc_protocol, listed, expansion, param, type_param, non_type_param, template_param, pack_param, qualified, pointer, reference, member_pointer, array, function, encoding, pack, no_trees, more_trees, no_parts, text, tree, trees}
+use Rattle.cxx_tree.specs.Tree.{Tree, Trees, Parts, named, leaf, std_name, phrase, scoped, with_args, abi_tag, in_module, data_name, objc_protocol, listed, expansion, param, type_param, non_type_param, template_param, pack_param, qualified, pointer, reference, member_pointer, array, function, encoding, pack, no_trees, more_trees, no_parts, text, tree, trees}
 
 -- what nodes refer to: lists of nodes, parts of phrases, and bytes
 pub record Held : Type 0 where
@@ -35,7 +34,7 @@ parts_at h ps = slice_range h.parts ps.range.from ps.range.to
 
 -- the tree at an index; past the end, an empty name
 abbrev pub tree_at : List Tree → ℕ → Tree
-tree_at ts i = get_or ts i (leaf Name [] [])
+tree_at ts i = get_or ts i (named [])
 
 abbrev pub trees_from_list : List Tree → Trees
 trees_from_list [] = no_trees
@@ -64,7 +63,8 @@ parts_in h ts ps = parts_of h ts (parts_at h ps)
 
 -- what a node stands for, over the trees of the nodes before it
 unfoldable pub plain_tree : Held → List Tree → Plain → Tree
-plain_tree h ts (plain.Leaf kind a b) = leaf kind (text_at h a) (text_at h b)
+plain_tree h ts (plain.Name bytes) = named (text_at h bytes)
+plain_tree h ts (plain.Leaf simple a b) = leaf simple (text_at h a) (text_at h b)
 plain_tree h ts (plain.StdName std expanded) = std_name std expanded
 plain_tree h ts (plain.Phrase attributes ps) = phrase attributes (parts_in h ts ps)
 plain_tree h ts (plain.Scoped friend scope name) = scoped friend (tree_at ts scope) (tree_at ts name)
@@ -124,7 +124,8 @@ IsOptionBelow n (Some i) = i < n
 
 -- what a node refers to is in the arena, and its children stand before an index
 unfoldable pub IsPlainBelow : Held → ℕ → Plain → Type 0
-IsPlainBelow h n (plain.Leaf kind a b) = IsText h a × IsText h b
+IsPlainBelow h n (plain.Name bytes) = IsText h bytes
+IsPlainBelow h n (plain.Leaf simple a b) = IsText h a × IsText h b
 IsPlainBelow h n (plain.StdName std expanded) = Unit {0}
 IsPlainBelow h n (plain.Phrase attributes ps) = IsPartsBelow h n ps
 IsPlainBelow h n (plain.Scoped friend scope name) = (scope < n) × (name < n)

@@ -3,19 +3,18 @@ use Rattle.std.specs.Prelude.{ℕ, Bool, List}
 use Rattle.cxx_tree.specs.declared.kinds.Std.{Std}
 use Rattle.cxx_tree.specs.declared.kinds.Cv.{Cv}
 use Rattle.cxx_tree.specs.declared.kinds.RefQual.{RefQual}
-use Rattle.cxx_tree.specs.declared.kinds.Leaf.{Leaf}
 use Rattle.cxx_tree.specs.declared.kinds.Phrase.{Phrase}
 use Rattle.cxx_tree.specs.declared.kinds.Manner.{Manner}
 use Rattle.cxx_tree.specs.declared.kinds.Listing.{Listing}
 
-abbrev pub Bytes : Type 0
-Bytes = List ℕ
-
 mutual
   -- what a part of a symbol is read as
   pub data Tree : Type 0 where
-    -- a text without a tree below it: in LLVM's style, and in GNU's
-    leaf : Leaf → List ℕ → List ℕ → Tree
+    -- a name: it has the same text in both styles
+    named : List ℕ → Tree
+    -- another text without a tree below it: in LLVM's style, and in GNU's. The flag says that it is an operand without
+    -- parentheses in the latter
+    leaf : Bool → List ℕ → List ℕ → Tree
     -- an abbreviation of std, and whether it is written out
     std_name : Std → Bool → Tree
     -- words and trees in a row

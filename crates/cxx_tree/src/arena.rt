@@ -1,12 +1,13 @@
 //! An arena of nodes, and what they refer to.
-#![tactic(auto, using(crate::proofs::Forest::laws), unfolding(crate::specs::Stored::forest, crate::specs::Counts::AreCounted))]
+#![tactic(auto, using(crate::proofs::Forest::laws, crate::proofs::Grown::grows), unfolding(crate::specs::Stored::forest, crate::specs::Counts::AreCounted))]
 
 ghost use Rattle.std.specs.Prelude.{◌≡◌, ℕ, ◌+◌, ◌<◌, ◌≤◌, [], ◌∷◌, ◌++◌, length, true, false, OnOk, OnErr, IfOk, IsErrOf};
 ghost use Rattle.cxx_tree.specs.Measure as spec;
 ghost use Rattle.cxx_tree.specs.Counts.{Row, AreExact};
+ghost use Rattle.cxx_tree.specs.Grows.{Grows, Makes};
 ghost use Rattle.cxx_tree.specs.declared.arena.PushError.TheVariants as PushError;
 ghost use Rattle.std.specs.List.{AllByRecursion};
-ghost use Rattle.cxx_tree.specs.Stored.{forest, size, tree_of, tree_at, Extends, IsBelow, IsText, IsRange, text_at, list_at, parts_at};
+ghost use Rattle.cxx_tree.specs.Stored.{forest, size, tree_of, tree_at, IsBelow, IsText, IsRange, text_at, list_at, parts_at};
 
 use crate::counts::{Measure, fits};
 use crate::measuring::of_node;
@@ -147,6 +148,7 @@ impl Arena {
         ensures limit { IsErrOf result PushError.Limit →
             (spec.measure (tree_of self.old.held (forest self.old) node)).fits ≡ false }
         ensures held { self.new.held ≡ self.old.held }
+        ensures makes { Makes result self.old self.new (tree_of self.old.held (forest self.old) node) }
         ensures err { OnErr result (self.new ≡ self.old) }
     {
         let measure = of_node(self, node);
@@ -179,7 +181,7 @@ impl Arena {
         ensures within { IfOk result (λ t. IsText self.new.held t) }
         ensures nodes { self.new.nodes ≡ self.old.nodes }
         ensures forest { forest self.new ≡ forest self.old }
-        ensures extends { Extends self.old.held self.new.held }
+        ensures grows { Grows self.old self.new }
         ensures memory { length self.new.held.texts ≤ length self.old.held.texts + length bytes.now }
         ensures lists { self.new.held.lists ≡ self.old.held.lists }
         ensures parts { self.new.held.parts ≡ self.old.held.parts }
@@ -196,7 +198,7 @@ impl Arena {
         ensures within { IfOk result (λ l. IsRange (length self.new.held.lists) l.range) }
         ensures nodes { self.new.nodes ≡ self.old.nodes }
         ensures forest { forest self.new ≡ forest self.old }
-        ensures extends { Extends self.old.held self.new.held }
+        ensures grows { Grows self.old self.new }
         ensures memory { length self.new.held.lists ≤ length self.old.held.lists + length items.now }
         ensures texts { self.new.held.texts ≡ self.old.held.texts }
         ensures parts { self.new.held.parts ≡ self.old.held.parts }
@@ -213,7 +215,7 @@ impl Arena {
         ensures within { IfOk result (λ ps. IsRange (length self.new.held.parts) ps.range) }
         ensures nodes { self.new.nodes ≡ self.old.nodes }
         ensures forest { forest self.new ≡ forest self.old }
-        ensures extends { Extends self.old.held self.new.held }
+        ensures grows { Grows self.old self.new }
         ensures memory { length self.new.held.parts ≤ length self.old.held.parts + length parts.now }
         ensures texts { self.new.held.texts ≡ self.old.held.texts }
         ensures lists { self.new.held.lists ≡ self.old.held.lists }

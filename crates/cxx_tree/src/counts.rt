@@ -51,7 +51,11 @@ pub fn join(a: Measure, b: Measure) -> Measure
     ensures counts { (m n : spec.Measure) → Row a m → Row b n → Row result (spec.join m n) }
 {
     Measure {
-        height: if a.height > b.height { a.height } else { b.height },
+        height: if a.height > b.height {
+            a.height
+        } else {
+            b.height
+        },
         elements: match a.elements {
             Some(n) => Some(n),
             None => b.elements,

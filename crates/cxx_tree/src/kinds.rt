@@ -51,17 +51,6 @@ pub enum Prec {
     Comma,
 }
 
-/// What a leaf is. A leaf has one text in LLVM's style and one in GNU's.
-#[derive(Clone, Copy, PartialEq)]
-pub enum Leaf {
-    /// A name: an operand without parentheses in GNU's style. Its last byte counts where a `<` or a `>` follows.
-    Name,
-    /// A word, such as a function parameter: an operand without parentheses in GNU's style.
-    Word,
-    /// A literal, or a parameter of a lambda.
-    Value,
-}
-
 /// Whether a `>` would close the template argument list around a tree that is printed.
 #[derive(Clone, Copy, PartialEq)]
 pub enum Context {

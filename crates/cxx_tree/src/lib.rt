@@ -9,5 +9,5 @@ mod node;
 
 pub use crate::arena::{Arena, PushError};
 pub use crate::counts::Measure;
-pub use crate::kinds::{Context, Cv, Guard, Leaf, Listing, Manner, Phrase, Prec, RefQual, Role, Std};
+pub use crate::kinds::{Context, Cv, Guard, Listing, Manner, Phrase, Prec, RefQual, Role, Std};
 pub use crate::node::{Declaration, List, Node, Part, Parts, Plain, Range, Text};

@@ -100,12 +100,16 @@ fn of_plain(arena: &Arena, plain: Plain) -> Measure
     ensures counts { Tallied result (spec.measure (plain_tree arena.now.held (forest arena.now) plain)) }
 {
     match plain {
+        Plain::Name(text) => around(1 + text_len(arena, text), nothing()),
         Plain::Leaf(_, a, b) => {
             let long = text_len(arena, a).max(text_len(arena, b));
             around(1 + long, nothing())
         }
         Plain::StdName(_, _) => around(1, nothing()),
-        Plain::Phrase(phrase, parts) => around(phrase.own, of_parts(arena, phrase.is_reversed, parts)),
+        Plain::Phrase(phrase, parts) => around(
+            phrase.own,
+            of_parts(arena, phrase.is_reversed, parts),
+        ),
         Plain::Scoped(_, scope, name) => around(1, join(arena.measure(scope), arena.measure(name))),
         Plain::WithArgs(name, args) => around(1, join(arena.measure(name), of_list(arena, args))),
         Plain::AbiTag(name, tag) => around(1 + text_len(arena, tag), arena.measure(name)),
@@ -128,7 +132,10 @@ fn of_declaration(arena: &Arena, declaration: Declaration) -> Measure
             1,
             join(arena.measure(constraint), arena.measure(name)),
         ),
-        Declaration::NonTypeParam(name, t) => around(1, join(arena.measure(name), arena.measure(t))),
+        Declaration::NonTypeParam(name, t) => around(
+            1,
+            join(arena.measure(name), arena.measure(t)),
+        ),
         Declaration::TemplateParam(name, declarations, rest) => {
             let behind = join(of_list(arena, declarations), of_parts(arena, false, rest));
             around(1, join(arena.measure(name), behind))

@@ -1,6 +1,6 @@
 //! A node of an arena, and what it holds.
 
-use crate::kinds::{Cv, Leaf, Listing, Manner, Phrase, RefQual, Std};
+use crate::kinds::{Cv, Listing, Manner, Phrase, RefQual, Std};
 
 /// A part of a vector of an arena: the first index, and the one after the last.
 #[derive(Clone, Copy)]
@@ -41,8 +41,10 @@ pub enum Part {
 /// A node whose text has one side: a name can't stand inside of it. A `u32` is the index of a node.
 #[derive(Clone, Copy)]
 pub enum Plain {
-    /// A text, in LLVM's style and in GNU's.
-    Leaf(Leaf, Text, Text),
+    Name(Text),
+    /// A text that isn't a name, in LLVM's style and in GNU's. The flag says that it is an operand without parentheses
+    /// in GNU's style.
+    Leaf(bool, Text, Text),
     StdName(Std, bool),
     Phrase(Phrase, Parts),
     /// A scope and a name. The flag says that the name is a friend's.

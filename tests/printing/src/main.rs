@@ -77,12 +77,12 @@ impl Line {
 /// An arena, and what was printed of it last.
 struct Printer {
     arena: Arena,
-    output: rattle::vec::Vec<u8>,
+    output: extracted::growing_text::Text,
 }
 
 impl Printer {
     fn new() -> Printer {
-        Printer { arena: Arena::new(Global), output: rattle::vec::Vec::new(Global) }
+        Printer { arena: Arena::new(Global), output: extracted::growing_text::Text::new(Global) }
     }
 
     /// Makes the nodes of a tree, and drops all others. A tree may be beyond the limits.
@@ -95,7 +95,7 @@ impl Printer {
     fn text(&mut self, symbol: Symbol, mode: Mode, style: Style) -> &[u8] {
         self.output.clear();
         print_symbol(&self.arena, symbol, mode, style, &mut self.output).expect("memory");
-        &self.output
+        self.output.as_slice()
     }
 
     /// Prints a declaration, and returns its length.

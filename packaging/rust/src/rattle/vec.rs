@@ -75,7 +75,7 @@ impl<T: Clone> Vec<T> {
         Ok(())
     }
 
-    #[inline]
+    #[inline(always)]
     pub fn extend_from_slice(&mut self, more: &[T]) -> Result<(), AllocError> {
         self.0.try_reserve(more.len())?;
         self.0.extend_from_slice(more);

@@ -19,7 +19,7 @@ returns-clause-counts c =
     let small : c.args.i < length (forest s) = omega (arith, c.requires.within, ap size c.self.view_is, length-forest s) in
     subst (λ (r : Store). Row c.index.result.now (measure (tree_at (forest r) c.args.i))) c.self.view_is
     (subst (λ (m : stored.Measure). Row m (measure (tree_at (forest s) c.args.i))) (sym c.index.ensures)
-      (counted-at c.self.inside.counts.items (forest s) c.self.invariant.1 c.args.i c.index.result.now small).0)
+    (counted-at c.self.inside.counts.items (forest s) c.self.invariant.1 c.args.i c.index.result.now small).0)
 
 pub returns-clause-exact : goal.returns-clause-exact
 returns-clause-exact c =

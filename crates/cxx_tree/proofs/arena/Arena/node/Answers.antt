@@ -18,4 +18,4 @@ returns-clause-below c =
     let small : c.args.i < length c.self.inside.nodes.items = omega (arith, c.requires.within, ap (λ (s : Store). length s.nodes) c.self.view_is) in
     subst (λ (s : Store). IsBelow s.held c.args.i c.index.result.now) c.self.view_is
     (subst (λ (n : Node). IsBelow (store_of c.self.inside).held c.args.i n) (sym c.index.ensures)
-      (stored-at (store_of c.self.inside).held c.self.inside.nodes.items c.args.i c.index.result.now c.self.invariant.0 small))
+    (stored-at (store_of c.self.inside).held c.self.inside.nodes.items c.args.i c.index.result.now c.self.invariant.0 small))

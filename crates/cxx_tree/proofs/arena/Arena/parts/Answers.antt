@@ -2,8 +2,10 @@ use Rattle.std.proofs.Common.{ℕ, ◌≡◌, List, refl, sym, subst, ap, ◌∙
 use Rattle.cxx_tree.specs.declared.node.Part.{Part}
 use Rattle.cxx_tree.specs.Stored.{Store, Held, Extends, forest}
 use Rattle.cxx_tree.specs.Counts.{AreCounted}
+use Rattle.cxx_tree.specs.Grows.{Grows}
 use Rattle.cxx_tree.specs.View.{store_of}
 use Rattle.cxx_tree.proofs.Forest.{grown, grown-forest, Begins-end, Begins-same}
+use Rattle.cxx_tree.proofs.Grown.{Grows-held}
 use Rattle.cxx_tree.proofs.arena.Arena.parts.Goals as goal
 
 pub invariant_of-self-2 : goal.invariant_of-self-2
@@ -11,10 +13,11 @@ invariant_of-self-2 c =
     let s = store_of c.self.inside in
     let h : Held = s.held in
     let g : Held = record { lists = h.lists; parts = c.extend_from_slice.new.self.items; texts = h.texts } in
-    let e : Extends h g =
-    (Begins-same ℕ h.lists h.lists refl,
-    Begins-end Part h.parts c.args.parts.now c.extend_from_slice.new.self.items (c.in_ok-extend_from_slice.ensures {u = tt}).items,
-    Begins-same ℕ h.texts h.texts refl) in
+    let e : Extends h g = (
+      Begins-same ℕ h.lists h.lists refl,
+      Begins-end Part h.parts c.args.parts.now c.extend_from_slice.new.self.items (c.in_ok-extend_from_slice.ensures {u = tt}).items,
+      Begins-same ℕ h.texts h.texts refl,
+    ) in
     (grown s g e c.self.invariant.0, subst (AreCounted c.self.inside.counts.items) (sym (grown-forest s g e c.self.invariant.0)) c.self.invariant.1)
 
 pub returns-clause-forest : goal.returns-clause-forest
@@ -22,19 +25,22 @@ returns-clause-forest c =
     let s = store_of c.self.inside in
     let h : Held = s.held in
     let g : Held = record { lists = h.lists; parts = c.extend_from_slice.new.self.items; texts = h.texts } in
-    let e : Extends h g =
-    (Begins-same ℕ h.lists h.lists refl,
-    Begins-end Part h.parts c.args.parts.now c.extend_from_slice.new.self.items (c.in_ok-extend_from_slice.ensures {u = tt}).items,
-    Begins-same ℕ h.texts h.texts refl) in
+    let e : Extends h g = (
+      Begins-same ℕ h.lists h.lists refl,
+      Begins-end Part h.parts c.args.parts.now c.extend_from_slice.new.self.items (c.in_ok-extend_from_slice.ensures {u = tt}).items,
+      Begins-same ℕ h.texts h.texts refl,
+    ) in
     grown-forest s g e c.self.invariant.0 ∙ ap forest c.self.view_is
 
-pub returns-clause-extends : goal.returns-clause-extends
-returns-clause-extends c =
+pub returns-clause-grows : goal.returns-clause-grows
+returns-clause-grows c =
     let s = store_of c.self.inside in
     let h : Held = s.held in
     let g : Held = record { lists = h.lists; parts = c.extend_from_slice.new.self.items; texts = h.texts } in
-    let e : Extends h g =
-    (Begins-same ℕ h.lists h.lists refl,
-    Begins-end Part h.parts c.args.parts.now c.extend_from_slice.new.self.items (c.in_ok-extend_from_slice.ensures {u = tt}).items,
-    Begins-same ℕ h.texts h.texts refl) in
-    subst (λ (r : Store). Extends r.held g) c.self.view_is e
+    let e : Extends h g = (
+      Begins-same ℕ h.lists h.lists refl,
+      Begins-end Part h.parts c.args.parts.now c.extend_from_slice.new.self.items (c.in_ok-extend_from_slice.ensures {u = tt}).items,
+      Begins-same ℕ h.texts h.texts refl,
+    ) in
+    let b : Store = record { nodes = s.nodes; held = g } in
+    subst (λ (r : Store). Grows r b) c.self.view_is (Grows-held s b refl (grown-forest s g e c.self.invariant.0) e)
