@@ -1,5 +1,9 @@
 //! What the printing of a tree depends on beside the tree.
 
+ghost use Rattle.std.specs.Prelude.{◌≡◌, ℕ, Bool, List, Option};
+ghost use Rattle.cxx_tree.specs.Stored.{IsText, text_at};
+ghost use Rattle.cxx_printer.specs.Words as spec;
+
 use cxx_tree::{Arena, Context, Guard, Text};
 
 /// Whose texts are printed.
@@ -25,7 +29,9 @@ pub struct Env {
 
 impl Env {
     /// Returns what holds at the top of a tree.
-    pub fn top(style: Style) -> Env {
+    pub fn top(style: Style) -> Env
+        ensures value { result ≡ spec.top style }
+    {
         Env {
             style,
             pack: None,
@@ -33,7 +39,11 @@ impl Env {
         }
     }
 
-    pub fn is_llvm(self) -> bool {
+    /// Returns whether the style is LLVM's.
+    #[inline(always)]
+    pub fn is_llvm(self) -> bool
+        ensures value { result ≡ spec.is_llvm self }
+    {
         match self.style {
             Style::Llvm => true,
             Style::Gnu | Style::GnuShort => false,
@@ -41,7 +51,10 @@ impl Env {
     }
 
     /// Returns what holds in parentheses.
-    pub fn enclosed(self) -> Env {
+    #[inline(always)]
+    pub fn enclosed(self) -> Env
+        ensures value { result ≡ spec.enclosed self }
+    {
         Env {
             style: self.style,
             pack: self.pack,
@@ -50,7 +63,10 @@ impl Env {
     }
 
     /// Returns what holds in angle brackets.
-    pub fn in_angle(self) -> Env {
+    #[inline(always)]
+    pub fn in_angle(self) -> Env
+        ensures value { result ≡ spec.in_angle self }
+    {
         Env {
             style: self.style,
             pack: self.pack,
@@ -58,7 +74,11 @@ impl Env {
         }
     }
 
-    pub fn in_context(self, context: Context) -> Env {
+    /// Returns what holds in a context.
+    #[inline(always)]
+    pub fn in_context(self, context: Context) -> Env
+        ensures value { result ≡ spec.in_context self context }
+    {
         match context {
             Context::Same => self,
             Context::Enclosed => self.enclosed(),
@@ -67,7 +87,10 @@ impl Env {
     }
 
     /// Returns what holds for an element of the packs.
-    pub fn at(self, element: Option<u32>) -> Env {
+    #[inline(always)]
+    pub fn at(self, element: Option<u32>) -> Env
+        ensures value { result ≡ spec.at self element }
+    {
         Env {
             style: self.style,
             pack: element,
@@ -76,7 +99,10 @@ impl Env {
     }
 
     /// Returns whether a phrase with this guard stands in parentheses.
-    pub fn is_guarded(self, guard: Guard) -> bool {
+    #[inline(always)]
+    pub fn is_guarded(self, guard: Guard) -> bool
+        ensures value { result ≡ spec.is_guarded self guard }
+    {
         match guard {
             Guard::Open | Guard::Enclosed => false,
             Guard::Greater => self.angle || !self.is_llvm(),
@@ -85,7 +111,10 @@ impl Env {
     }
 
     /// Returns what holds for the parts of a phrase with this guard.
-    pub fn within(self, guard: Guard) -> Env {
+    #[inline(always)]
+    pub fn within(self, guard: Guard) -> Env
+        ensures value { result ≡ spec.within self guard }
+    {
         match guard {
             Guard::Open => self,
             Guard::Enclosed => self.enclosed(),
@@ -98,7 +127,12 @@ impl Env {
     }
 
     /// Returns one of two texts.
-    pub fn text(self, arena: &Arena, llvm: Text, gnu: Text) -> &[u8] {
+    #[inline(always)]
+    pub fn text(self, arena: &Arena, llvm: Text, gnu: Text) -> &[u8]
+        requires llvm { IsText arena.now.held llvm }
+        requires gnu { IsText arena.now.held gnu }
+        ensures value { result.now ≡ spec.styled self (text_at arena.now.held llvm) (text_at arena.now.held gnu) }
+    {
         arena.bytes(if self.is_llvm() { llvm } else { gnu })
     }
 }

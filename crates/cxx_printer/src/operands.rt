@@ -1,21 +1,36 @@
 //! What is asked of the head of a tree, whatever it is printed in.
+#![tactic(auto, unfolding(cxx_tree::specs::Stored::tree_of, cxx_tree::specs::Stored::plain_tree, cxx_tree::specs::Stored::declaration_tree, cxx_tree::specs::Stored::IsBelow, cxx_tree::specs::Stored::IsPlainBelow, crate::specs::Heads::prec_of, crate::specs::Heads::is_simple, crate::specs::Heads::has_args, crate::specs::Heads::is_designator, crate::specs::Heads::is_scoped, crate::specs::Heads::count_of, crate::specs::Heads::count_item, crate::specs::Heads::count_items, crate::specs::Heads::is_objc_object, crate::specs::Heads::protocol_of))]
+
+
+ghost use Rattle.std.specs.Prelude.{◌≡◌, ℕ, ◌<◌, ◌≤◌, Bool, Option, Some, None, MatchOption, false, true};
+ghost use Rattle.cxx_tree.specs.Stored.{forest, size, tree_at, trees_in, IsListBelow};
+ghost use Rattle.cxx_printer.specs.Heads as spec;
 
 use cxx_tree::{Arena, Cv, List, Node, Plain, Prec, RefQual, Role};
 
 /// Returns the precedence of a tree.
-pub fn prec_of(arena: &Arena, i: u32) -> Prec {
+pub fn prec_of(arena: &Arena, i: u32) -> Prec
+    requires within { i < size arena.now }
+    ensures value { result ≡ spec.prec_of (tree_at (forest arena.now) i) }
+{
     match arena.node(i) {
         Node::Plain(Plain::Phrase(phrase, _)) => phrase.prec,
         _ => Prec::Primary,
     }
 }
 
-/// Returns whether a precedence is looser than another.
-pub fn is_looser(a: Prec, b: Prec) -> bool {
-    rank(a) > rank(b)
+/// Returns whether an operand of a precedence needs no parentheses in LLVM's style. It may be as loose if `loose` holds.
+pub fn is_tight(inner: Prec, outer: Prec, loose: bool) -> bool
+    ensures value { result ≡ spec.is_tight inner outer loose }
+{
+    let inner = rank(inner);
+    let outer = rank(outer);
+    if inner == outer { loose } else { inner < outer }
 }
 
-fn rank(prec: Prec) -> u8 {
+fn rank(prec: Prec) -> u8
+    ensures value { result ≡ spec.rank prec }
+{
     match prec {
         Prec::Primary => 0,
         Prec::Postfix => 1,
@@ -40,12 +55,15 @@ fn rank(prec: Prec) -> u8 {
 }
 
 /// Returns whether a tree is an operand without parentheses in GNU's style.
-pub fn is_simple(arena: &Arena, i: u32) -> bool {
+pub fn is_simple(arena: &Arena, i: u32) -> bool
+    requires within { i < size arena.now }
+    ensures value { result ≡ spec.is_simple (tree_at (forest arena.now) i) }
+{
     match arena.node(i) {
         Node::Plain(plain) => match plain {
             Plain::Name(_) => true,
             Plain::Leaf(is_simple, _, _) => is_simple,
-            Plain::Phrase(phrase, _) => phrase.role == Role::Simple,
+            Plain::Phrase(phrase, _) => is_simple_role(phrase.role),
             Plain::Scoped(is_friend, _, name) => !is_friend && !has_args(arena, name),
             Plain::Data(name) => is_simple(arena, name),
             _ => false,
@@ -54,43 +72,69 @@ pub fn is_simple(arena: &Arena, i: u32) -> bool {
     }
 }
 
+fn is_simple_role(role: Role) -> bool
+    ensures value { result ≡ spec.is_simple_role role }
+{
+    match role {
+        Role::Simple => true,
+        Role::Ordinary | Role::Designator | Role::Module => false,
+    }
+}
+
 // Whether a node is a name with template arguments.
-fn has_args(arena: &Arena, i: u32) -> bool {
+fn has_args(arena: &Arena, i: u32) -> bool
+    requires within { i < size arena.now }
+    ensures value { result ≡ spec.has_args (tree_at (forest arena.now) i) }
+{
     match arena.node(i) {
         Node::Plain(Plain::WithArgs(_, _)) => true,
         _ => false,
     }
 }
 
+fn is_designator_role(role: Role) -> bool
+    ensures value { result ≡ spec.is_designator_role role }
+{
+    match role {
+        Role::Designator => true,
+        Role::Ordinary | Role::Simple | Role::Module => false,
+    }
+}
+
 /// Returns whether a tree is a designator of an initializer.
-pub fn is_designator(arena: &Arena, i: u32) -> bool {
+pub fn is_designator(arena: &Arena, i: u32) -> bool
+    requires within { i < size arena.now }
+    ensures value { result ≡ spec.is_designator (tree_at (forest arena.now) i) }
+{
     match arena.node(i) {
-        Node::Plain(Plain::Phrase(phrase, _)) => phrase.role == Role::Designator,
+        Node::Plain(Plain::Phrase(phrase, _)) => is_designator_role(phrase.role),
         _ => false,
     }
 }
 
-/// Returns the name of a function whose address is written without parameters in GNU's style.
-pub fn named_address(arena: &Arena, i: u32) -> Option<u32> {
-    match arena.node(i) {
-        Node::Encoding(_, name, _, cv, ref_qual, _) => if is_unqualified(cv, ref_qual)
-            && is_scoped(arena, name)
-            && is_simple(arena, name)
-        {
-            Some(name)
-        } else {
-            None
-        },
-        _ => None,
+/// Returns whether the address of a function with this name and these qualifiers is written without parameters in GNU's
+/// style.
+pub fn is_named_address(arena: &Arena, i: u32, cv: Cv, ref_qual: RefQual) -> bool
+    requires within { i < size arena.now }
+    ensures value { result ≡ spec.is_named_address (tree_at (forest arena.now) i) cv ref_qual }
+{
+    is_unqualified(cv, ref_qual) && is_scoped(arena, i) && is_simple(arena, i)
+}
+
+fn is_unqualified(cv: Cv, ref_qual: RefQual) -> bool
+    ensures value { result ≡ spec.is_unqualified cv ref_qual }
+{
+    match ref_qual {
+        RefQual::None => !cv.is_const && !cv.is_volatile && !cv.is_restrict,
+        RefQual::Lvalue | RefQual::Rvalue => false,
     }
 }
 
-fn is_unqualified(cv: Cv, ref_qual: RefQual) -> bool {
-    !cv.is_const && !cv.is_volatile && !cv.is_restrict && ref_qual == RefQual::None
-}
-
 // Whether a node is a name in a scope, and not a friend's.
-fn is_scoped(arena: &Arena, i: u32) -> bool {
+fn is_scoped(arena: &Arena, i: u32) -> bool
+    requires within { i < size arena.now }
+    ensures value { result ≡ spec.is_scoped (tree_at (forest arena.now) i) }
+{
     match arena.node(i) {
         Node::Plain(Plain::Scoped(is_friend, _, _)) => !is_friend,
         _ => false,
@@ -98,7 +142,10 @@ fn is_scoped(arena: &Arena, i: u32) -> bool {
 }
 
 /// Returns the number of elements of what `sizeof...` counts, if it is known.
-pub fn count_of(arena: &Arena, i: u32) -> Option<u64> {
+pub fn count_of(arena: &Arena, i: u32) -> Option<u64>
+    requires within { i < size arena.now }
+    ensures value { result ≡ spec.count_of (tree_at (forest arena.now) i) }
+{
     match arena.node(i) {
         Node::Plain(plain) => match plain {
             Plain::Expansion(t) => match arena.measure(t).elements {
@@ -112,7 +159,10 @@ pub fn count_of(arena: &Arena, i: u32) -> Option<u64> {
     }
 }
 
-fn count_of_list(arena: &Arena, items: List) -> u64 {
+fn count_of_list(arena: &Arena, items: List) -> u64
+    requires below { IsListBelow arena.now.held (size arena.now) items }
+    ensures value { result ≡ spec.count_items (trees_in arena.now.held (forest arena.now) items) }
+{
     let mut sum = 0;
     for t in arena.items(items) {
         sum += count_of_item(arena, *t);
@@ -120,12 +170,44 @@ fn count_of_list(arena: &Arena, items: List) -> u64 {
     sum
 }
 
-fn count_of_item(arena: &Arena, i: u32) -> u64 {
+fn count_of_item(arena: &Arena, i: u32) -> u64
+    requires within { i < size arena.now }
+    ensures value { result ≡ spec.count_item (tree_at (forest arena.now) i) }
+    ensures small { result ≤ 4294967295 }
+{
     match arena.node(i) {
         Node::Plain(Plain::Expansion(t)) => match arena.measure(t).elements {
             Some(n) => n as u64,
             None => 0,
         },
         _ => 1,
+    }
+}
+
+// Whether a node is the name `objc_object`.
+fn is_objc_object(arena: &Arena, i: u32) -> bool
+    requires within { i < size arena.now }
+    ensures value { result ≡ spec.is_objc_object (tree_at (forest arena.now) i) }
+{
+    match arena.node(i) {
+        Node::Plain(Plain::Name(name)) => arena.bytes(name) == b"objc_object".as_slice(),
+        _ => false,
+    }
+}
+
+/// Returns the protocol of a type, if a pointer to the type is an `id`.
+pub fn protocol_of(arena: &Arena, i: u32) -> Option<&[u8]>
+    requires within { i < size arena.now }
+    ensures value { MatchOption result (spec.protocol_of (tree_at (forest arena.now) i) ≡ None)
+        (λ w. spec.protocol_of (tree_at (forest arena.now) i) ≡ Some w.now) }
+{
+    match arena.node(i) {
+        Node::Plain(Plain::ObjcProtocol(name, protocol)) => {
+            if !is_objc_object(arena, name) {
+                return None;
+            }
+            Some(arena.bytes(protocol))
+        }
+        _ => None,
     }
 }

@@ -1,71 +1,104 @@
 //! Printing.
+//!
+//! Functions that print what a node holds take a `bound` too: the nodes that are printed stand before it.
+#![tactic(auto, using(crate::proofs::Appended::prints), unfolding(cxx_tree::specs::Stored::tree_of, cxx_tree::specs::Stored::plain_tree, cxx_tree::specs::Stored::declaration_tree, cxx_tree::specs::Stored::IsBelow, cxx_tree::specs::Stored::IsPlainBelow, cxx_tree::specs::Stored::IsDeclarationBelow, crate::specs::Printing::print))]
+
+ghost use Rattle.std.specs.Prelude.{◌≡◌, ℕ, nat_eq, ◌+◌, ◌<◌, ◌≤◌, Bool, true, false, List, [], ◌∷◌, ◌++◌, codes, length, Option, Some, None, if◌then◌else◌, IfOk};
+ghost use Rattle.std.specs.List.{AllByRecursion};
+ghost use Rattle.std.specs.Fmt.{decimal};
+ghost use Rattle.cxx_tree.specs.declared.kinds.Prec.TheVariants as prec;
+ghost use Rattle.cxx_tree.specs.Tree.{Tree, pack, reference, encoding};
+ghost use Rattle.cxx_tree.specs.Measure.{measure};
+ghost use Rattle.cxx_tree.specs.Stored.{forest, size, tree_at, trees_at, trees_in, option_at, plain_tree, declaration_tree, parts_in, text_at, IsText, IsListBelow, IsOptionBelow, IsPlainBelow, IsDeclarationBelow, IsPartsBelow, IsPartBelow};
+ghost use Rattle.cxx_printer.specs.declared.shapes.Ending.TheVariants as ending;
+ghost use Rattle.cxx_printer.specs.Heads as heads;
+ghost use Rattle.cxx_printer.specs.Printing as spec;
+ghost use Rattle.cxx_printer.specs.Words as words;
+ghost use Rattle.cxx_printer.specs.Prints.{Prints, PrintsItem, text_of_part};
 
 use crate::env::Env;
-use crate::operands::{count_of, is_designator, is_looser, is_simple, named_address, prec_of};
-use crate::shapes::{
-    Ending, element, ending_of, ending_of_list, form_of, has_right, is_closed, is_objc_object,
-    is_one_sided, is_starred, referent_of,
+use crate::operands::{
+    count_of, is_designator, is_named_address, is_simple, is_tight, prec_of, protocol_of,
 };
-use crate::words::{Form, closed, cv_text, member_opened, ref_text, std_text};
+use crate::shapes::{
+    Ending, element, ending_of, ending_of_list, form_of, has_right, is_closed, is_one_sided, is_starred, referent_of,
+};
+use crate::words::{closed, cv_text, mark, member_opened, opened, ref_text, std_text};
 use cxx_tree::{
-    Arena, Cv, Declaration, List, Listing, Manner, Node, Part, Parts, Phrase, Plain, Prec, RefQual,
-    Text,
+    Arena, Cv, Declaration, List, Listing, Manner, Node, Part, Parts, Phrase, Plain, Prec, RefQual, Text,
 };
 use growing_text::Text as Output;
 use std::alloc::AllocError;
 
-#[inline(always)]
-fn write(out: &mut Output, text: &[u8]) -> Result<(), AllocError> {
+// Appends a text.
+fn write(out: &mut Output, text: &[u8]) -> Result<(), AllocError>
+    ensures prints { Prints result out.old out.new text.now }
+{
     out.add(text)
 }
 
 /// Appends what a tree prints.
-#[inline(always)]
 #[cycle(printer)]
-pub fn print(arena: &Arena, env: Env, i: u32, out: &mut Output) -> Result<(), AllocError> {
+pub fn print(arena: &Arena, env: Env, i: u32, out: &mut Output) -> Result<(), AllocError>
+    requires within { i < size arena.now }
+    ensures prints { Prints result out.old out.new (spec.whole (spec.print (tree_at (forest arena.now) i) env)) }
+{
     match arena.node(i) {
-        Node::Plain(Plain::Name(text)) => write(out, arena.bytes(text)),
-        _ => print_other(arena, env, i, out),
-    }
-}
-
-// Appends what a tree prints that isn't a name.
-#[cycle(printer)]
-fn print_other(arena: &Arena, env: Env, i: u32, out: &mut Output) -> Result<(), AllocError> {
-    match arena.node(i) {
-        Node::Plain(plain) => print_plain(arena, env, plain, out),
-        Node::Encoding(ret, name, params, cv, ref_qual, rest) => {
-            tri!(left_encoding(arena, env, ret, name, out));
-            right_encoding(arena, env, ret, params, cv, ref_qual, rest, out)
-        }
+        Node::Plain(plain) => print_plain(arena, env, i, plain, out),
+        Node::Encoding(ret, name, params, cv, ref_qual, rest) => print_encoding(
+            arena, env, i, ret, name, params, cv, ref_qual, rest, out,
+        ),
         _ => print_sides(arena, env, i, out),
     }
 }
 
 // Appends what a tree prints on both sides.
 #[cycle(printer)]
-fn print_sides(arena: &Arena, env: Env, i: u32, out: &mut Output) -> Result<(), AllocError> {
-    if is_one_sided(arena, i) {
-        return print_left(arena, env, i, out);
-    }
+fn print_sides(arena: &Arena, env: Env, i: u32, out: &mut Output) -> Result<(), AllocError>
+    requires within { i < size arena.now }
+    ensures prints { Prints result out.old out.new (spec.whole (spec.print (tree_at (forest arena.now) i) env)) }
+{
     tri!(print_left(arena, env, i, out));
-    print_right(arena, env, i, joins(arena, env, i), out)
+    if is_one_sided(arena, i) {
+        return Ok(());
+    }
+    print_right(arena, env, i, is_closed(arena, env, i), out)
 }
 
-// Whether the right side of a tree is joined to its left one, so that no blank is before a bracket.
-fn joins(arena: &Arena, env: Env, i: u32) -> bool {
-    match arena.node(i) {
-        Node::Array(_, _) | Node::Qualified(_, _) | Node::Pack(_) => is_closed(arena, env, i),
-        _ => false,
-    }
+// Appends what a function prints.
+#[cycle(printer)]
+fn print_encoding(
+    arena: &Arena,
+    env: Env,
+    bound: u32,
+    ret: Option<u32>,
+    name: u32,
+    params: List,
+    cv: Cv,
+    ref_qual: RefQual,
+    rest: Parts,
+    out: &mut Output,
+) -> Result<(), AllocError>
+    requires bound { bound ≤ size arena.now }
+    requires ret { IsOptionBelow bound ret }
+    requires name { name < bound }
+    requires params { IsListBelow arena.now.held bound params }
+    requires rest { IsPartsBelow arena.now.held bound rest }
+    ensures prints { Prints result out.old out.new (spec.whole (spec.print (encoding (option_at (forest arena.now) ret) (tree_at (forest arena.now) name) (trees_in arena.now.held (forest arena.now) params) cv ref_qual (parts_in arena.now.held (forest arena.now) rest)) env)) }
+{
+    tri!(left_encoding(arena, env, ret, name, out));
+    right_encoding(arena, env, bound, ret, params, cv, ref_qual, rest, out)
 }
 
 /// Appends what a tree prints on the left of a name.
 #[cycle(printer)]
-pub fn print_left(arena: &Arena, env: Env, i: u32, out: &mut Output) -> Result<(), AllocError> {
+pub fn print_left(arena: &Arena, env: Env, i: u32, out: &mut Output) -> Result<(), AllocError>
+    requires within { i < size arena.now }
+    ensures prints { Prints result out.old out.new ((spec.print (tree_at (forest arena.now) i) env).text.left) }
+{
     match arena.node(i) {
-        Node::Plain(plain) => print_plain(arena, env, plain, out),
-        Node::Declaration(declaration) => left_declaration(arena, env, declaration, out),
+        Node::Plain(plain) => left_plain(arena, env, i, plain, out),
+        Node::Declaration(declaration) => left_declaration(arena, env, i, declaration, out),
         Node::Qualified(t, cv) => left_qualified(arena, env, t, cv, out),
         Node::Pointer(t) => left_pointer(arena, env, t, out),
         Node::Reference(t, is_lvalue) => left_reference(arena, env, is_lvalue, t, out),
@@ -73,8 +106,18 @@ pub fn print_left(arena: &Arena, env: Env, i: u32, out: &mut Output) -> Result<(
         Node::Array(element, _) => print_left(arena, env, element, out),
         Node::Function(ret, _, _, _, _) => left_function(arena, env, ret, out),
         Node::Encoding(ret, name, _, _, _, _) => left_encoding(arena, env, ret, name, out),
-        Node::Pack(items) => left_pack(arena, env, items, out),
+        Node::Pack(items) => left_pack(arena, env, i, items, out),
     }
+}
+
+// Appends what a tree with one side prints.
+#[cycle(printer)]
+fn left_plain(arena: &Arena, env: Env, bound: u32, plain: Plain, out: &mut Output) -> Result<(), AllocError>
+    requires bound { bound ≤ size arena.now }
+    requires below { IsPlainBelow arena.now.held bound plain }
+    ensures prints { Prints result out.old out.new ((spec.print (plain_tree arena.now.held (forest arena.now) plain) env).text.left) }
+{
+    print_plain(arena, env, bound, plain, out)
 }
 
 /// Appends what a tree prints on the right of a name. If `joined` holds, no blank is before the bracket of an array.
@@ -85,49 +128,70 @@ pub fn print_right(
     i: u32,
     joined: bool,
     out: &mut Output,
-) -> Result<(), AllocError> {
+) -> Result<(), AllocError>
+    requires within { i < size arena.now }
+    ensures prints { Prints result out.old out.new (spec.right_behind joined (spec.print (tree_at (forest arena.now) i) env).text) }
+{
     match arena.node(i) {
-        Node::Plain(_) => Ok(()),
-        Node::Declaration(declaration) => right_declaration(arena, env, declaration, out),
+        Node::Plain(plain) => right_plain(arena, env, plain, joined, out),
+        Node::Declaration(declaration) => right_declaration(arena, env, i, declaration, out),
         Node::Qualified(t, _) => print_right(arena, env, t, joined, out),
         Node::Pointer(t) => right_pointer(arena, env, t, out),
         Node::Reference(t, is_lvalue) => right_reference(arena, env, is_lvalue, t, out),
         Node::MemberPointer(_, member) => right_behind(arena, env, member, out),
-        Node::Array(element, dimension) => right_array(arena, env, element, dimension, joined, out),
+        Node::Array(element, dimension) => right_array(arena, env, i, element, dimension, joined, out),
         Node::Function(ret, params, cv, ref_qual, exception) => right_function(
-            arena, env, ret, params, cv, ref_qual, exception, out,
+            arena, env, i, ret, params, cv, ref_qual, exception, out,
         ),
         Node::Encoding(ret, _, params, cv, ref_qual, rest) => right_encoding(
-            arena, env, ret, params, cv, ref_qual, rest, out,
+            arena, env, i, ret, params, cv, ref_qual, rest, out,
         ),
-        Node::Pack(items) => right_pack(arena, env, items, joined, out),
+        Node::Pack(items) => right_pack(arena, env, i, items, joined, out),
     }
 }
 
-/// Appends what a tree prints that has one side.
-#[inline(always)]
+// Appends nothing, since a tree with one side has no right one.
+fn right_plain(
+    arena: &Arena,
+    env: Env,
+    plain: Plain,
+    joined: bool,
+    out: &mut Output,
+) -> Result<(), AllocError>
+    ensures prints { Prints result out.old out.new (spec.right_behind joined (spec.print (plain_tree arena.now.held (forest arena.now) plain) env).text) }
+{
+    match plain {
+        Plain::Name(_) | Plain::Leaf(_, _, _) | Plain::StdName(_, _) | Plain::Phrase(_, _) => Ok(()),
+        Plain::Scoped(is_friend, _, _) => if is_friend { Ok(()) } else { Ok(()) },
+        Plain::WithArgs(_, _) | Plain::AbiTag(_, _) | Plain::InModule(_, _) | Plain::Data(_) => Ok(()),
+        Plain::ObjcProtocol(_, _) | Plain::List(_) | Plain::Expansion(_) | Plain::Param(_, _) => Ok(()),
+    }
+}
+
+// Appends what a tree with one side prints.
 #[cycle(printer)]
-fn print_plain(arena: &Arena, env: Env, plain: Plain, out: &mut Output) -> Result<(), AllocError> {
+fn print_plain(arena: &Arena, env: Env, bound: u32, plain: Plain, out: &mut Output) -> Result<(), AllocError>
+    requires bound { bound ≤ size arena.now }
+    requires below { IsPlainBelow arena.now.held bound plain }
+    ensures prints { Prints result out.old out.new ((spec.print (plain_tree arena.now.held (forest arena.now) plain) env).text.left) }
+{
     match plain {
         Plain::Name(text) => write(out, arena.bytes(text)),
         Plain::Leaf(_, llvm, gnu) => write(out, env.text(arena, llvm, gnu)),
         Plain::StdName(std, is_expanded) => write(out, std_text(env.style, std, is_expanded)),
-        Plain::Phrase(phrase, parts) => print_phrase(arena, env, phrase, parts, out),
-        Plain::Scoped(is_friend, scope, name) => print_scoped(
-            arena, env, is_friend, scope, name, out,
-        ),
-        Plain::WithArgs(name, args) => print_with_args(arena, env, name, args, out),
+        Plain::Phrase(phrase, parts) => print_phrase(arena, env, bound, phrase, parts, out),
+        Plain::Scoped(is_friend, scope, name) => print_scoped(arena, env, is_friend, scope, name, out),
+        Plain::WithArgs(name, args) => print_with_args(arena, env, bound, name, args, out),
         Plain::AbiTag(name, tag) => print_abi_tag(arena, env, name, tag, out),
         Plain::InModule(name, owner) => print_in_module(arena, env, name, owner, out),
         Plain::Data(name) => print(arena, env, name, out),
         Plain::ObjcProtocol(t, protocol) => print_protocol(arena, env, t, protocol, out),
-        Plain::List(items) => print_list(arena, env, arena.items(items), out),
+        Plain::List(items) => print_list(arena, env, bound, arena.items(items), out),
         Plain::Expansion(t) => print_expansion(arena, env, t, out),
         Plain::Param(_, _) => Ok(()),
     }
 }
 
-#[inline(always)]
 #[cycle(printer)]
 fn print_scoped(
     arena: &Arena,
@@ -136,28 +200,56 @@ fn print_scoped(
     scope: u32,
     name: u32,
     out: &mut Output,
-) -> Result<(), AllocError> {
+) -> Result<(), AllocError>
+    requires scope { scope < size arena.now }
+    requires name { name < size arena.now }
+    ensures prints { Prints result out.old out.new ((spec.in_scope is_friend env (spec.print (tree_at (forest arena.now) scope) env) (spec.print (tree_at (forest arena.now) name) env)).text.left) }
+{
     if is_friend {
-        tri!(print(arena, env, scope, out));
-        tri!(out.add(b"::friend "));
-        return print(arena, env, name, out);
+        return print_friend(arena, env, scope, name, out);
     }
     tri!(print_scope(arena, env, scope, out));
-    tri!(out.add(b"::"));
+    tri!(write(out, b"::"));
+    print(arena, env, name, out)
+}
+
+#[cycle(printer)]
+fn print_friend(arena: &Arena, env: Env, scope: u32, name: u32, out: &mut Output) -> Result<(), AllocError>
+    requires scope { scope < size arena.now }
+    requires name { name < size arena.now }
+    ensures prints { Prints result out.old out.new (spec.whole (spec.print (tree_at (forest arena.now) scope) env) ++ (codes "::friend " ++ spec.whole (spec.print (tree_at (forest arena.now) name) env))) }
+{
+    tri!(print(arena, env, scope, out));
+    tri!(write(out, b"::friend "));
     print(arena, env, name, out)
 }
 
 /// Appends what a tree prints as a scope. In GNU's style a function has no return type there.
-#[inline(always)]
 #[cycle(printer)]
-pub fn print_scope(arena: &Arena, env: Env, i: u32, out: &mut Output) -> Result<(), AllocError> {
+pub fn print_scope(arena: &Arena, env: Env, i: u32, out: &mut Output) -> Result<(), AllocError>
+    requires within { i < size arena.now }
+    ensures prints { Prints result out.old out.new (spec.scope_text env (spec.print (tree_at (forest arena.now) i) env)) }
+{
+    if env.is_llvm() {
+        return print(arena, env, i, out);
+    }
     match arena.node(i) {
-        Node::Plain(Plain::Name(text)) => write(out, arena.bytes(text)),
-        Node::Encoding(_, name, params, cv, ref_qual, rest) if !env.is_llvm() => print_signature(
-            arena, env, name, params, cv, ref_qual, rest, out,
+        Node::Encoding(_, name, params, cv, ref_qual, rest) => print_signature(
+            arena, env, i, name, params, cv, ref_qual, rest, out,
         ),
+        Node::Plain(plain) => scope_plain(arena, env, i, plain, out),
         _ => print(arena, env, i, out),
     }
+}
+
+// Appends what a tree with one side prints as a scope.
+#[cycle(printer)]
+fn scope_plain(arena: &Arena, env: Env, bound: u32, plain: Plain, out: &mut Output) -> Result<(), AllocError>
+    requires bound { bound ≤ size arena.now }
+    requires below { IsPlainBelow arena.now.held bound plain }
+    ensures prints { Prints result out.old out.new (spec.scope_of (spec.print (plain_tree arena.now.held (forest arena.now) plain) env).function (spec.whole (spec.print (plain_tree arena.now.held (forest arena.now) plain) env))) }
+{
+    print_plain(arena, env, bound, plain, out)
 }
 
 /// Appends a function without its return type.
@@ -165,108 +257,151 @@ pub fn print_scope(arena: &Arena, env: Env, i: u32, out: &mut Output) -> Result<
 pub fn print_signature(
     arena: &Arena,
     env: Env,
+    bound: u32,
     name: u32,
     params: List,
     cv: Cv,
     ref_qual: RefQual,
     rest: Parts,
     out: &mut Output,
-) -> Result<(), AllocError> {
+) -> Result<(), AllocError>
+    requires bound { bound ≤ size arena.now }
+    requires name { name < bound }
+    requires params { IsListBelow arena.now.held bound params }
+    requires rest { IsPartsBelow arena.now.held bound rest }
+    ensures prints { Prints result out.old out.new (spec.whole (spec.print (tree_at (forest arena.now) name) env) ++ spec.signature_right env [] (spec.items_of (trees_in arena.now.held (forest arena.now) params)) cv ref_qual (spec.print_parts (parts_in arena.now.held (forest arena.now) rest) env)) }
+{
     tri!(print(arena, env, name, out));
-    right_encoding(arena, env, None, params, cv, ref_qual, rest, out)
+    right_signature(arena, env, bound, params, cv, ref_qual, rest, out)
 }
 
 #[cycle(printer)]
 fn print_with_args(
     arena: &Arena,
     env: Env,
+    bound: u32,
     name: u32,
     args: List,
     out: &mut Output,
-) -> Result<(), AllocError> {
+) -> Result<(), AllocError>
+    requires bound { bound ≤ size arena.now }
+    requires name { name < bound }
+    requires args { IsListBelow arena.now.held bound args }
+    ensures prints { Prints result out.old out.new ((spec.with_list env (spec.print (tree_at (forest arena.now) name) env) (spec.items_of (trees_in arena.now.held (forest arena.now) args))).text.left) }
+{
     tri!(print(arena, env, name, out));
-    if !env.is_llvm() {
-        if ending_of(arena, env, name) == Ending::Less {
-            tri!(out.add(b" "));
-        }
+    tri!(blank_behind_less(arena, env, name, out));
+    print_angles(arena, env, bound, args, out)
+}
+
+// Appends a blank behind a name that ends with a `<`, in GNU's style.
+fn blank_behind_less(arena: &Arena, env: Env, name: u32, out: &mut Output) -> Result<(), AllocError>
+    requires name { name < size arena.now }
+    ensures prints { Prints result out.old out.new (spec.gnu_blank env ending.Less (spec.print (tree_at (forest arena.now) name) env).ends) }
+{
+    if env.is_llvm() {
+        return Ok(());
     }
-    print_angles(arena, env, args, out)
+    match ending_of(arena, env, name) {
+        Ending::Less => write(out, b" "),
+        Ending::Greater | Ending::Other => Ok(()),
+    }
 }
 
 #[cycle(printer)]
-fn print_abi_tag(
-    arena: &Arena,
-    env: Env,
-    name: u32,
-    tag: Text,
-    out: &mut Output,
-) -> Result<(), AllocError> {
+fn print_abi_tag(arena: &Arena, env: Env, name: u32, tag: Text, out: &mut Output) -> Result<(), AllocError>
+    requires name { name < size arena.now }
+    requires tag { IsText arena.now.held tag }
+    ensures prints { Prints result out.old out.new ((spec.print (tree_at (forest arena.now) name) env).text.left ++ (codes "[abi:" ++ (text_at arena.now.held tag ++ codes "]"))) }
+{
     tri!(print_left(arena, env, name, out));
-    tri!(out.add(b"[abi:"));
+    tri!(write(out, b"[abi:"));
     tri!(write(out, arena.bytes(tag)));
-    out.add(b"]")
+    write(out, b"]")
 }
 
 #[cycle(printer)]
-fn print_in_module(
-    arena: &Arena,
-    env: Env,
-    name: u32,
-    owner: u32,
-    out: &mut Output,
-) -> Result<(), AllocError> {
+fn print_in_module(arena: &Arena, env: Env, name: u32, owner: u32, out: &mut Output) -> Result<(), AllocError>
+    requires name { name < size arena.now }
+    requires owner { owner < size arena.now }
+    ensures prints { Prints result out.old out.new (spec.whole (spec.print (tree_at (forest arena.now) name) env) ++ (codes "@" ++ spec.whole (spec.print (tree_at (forest arena.now) owner) env))) }
+{
     tri!(print(arena, env, name, out));
-    tri!(out.add(b"@"));
+    tri!(write(out, b"@"));
     print(arena, env, owner, out)
 }
 
 #[cycle(printer)]
-fn print_protocol(
-    arena: &Arena,
-    env: Env,
-    t: u32,
-    protocol: Text,
-    out: &mut Output,
-) -> Result<(), AllocError> {
+fn print_protocol(arena: &Arena, env: Env, t: u32, protocol: Text, out: &mut Output) -> Result<(), AllocError>
+    requires within { t < size arena.now }
+    requires protocol { IsText arena.now.held protocol }
+    ensures prints { Prints result out.old out.new (spec.whole (spec.print (tree_at (forest arena.now) t) env) ++ (codes "<" ++ (text_at arena.now.held protocol ++ codes ">"))) }
+{
     tri!(print(arena, env, t, out));
-    tri!(out.add(b"<"));
+    tri!(write(out, b"<"));
     tri!(write(out, arena.bytes(protocol)));
-    out.add(b">")
+    write(out, b">")
 }
 
 /// Appends an expansion: its pattern for each element of the packs in it, or the pattern and an ellipsis.
 #[cycle(printer)]
-fn print_expansion(arena: &Arena, env: Env, t: u32, out: &mut Output) -> Result<(), AllocError> {
+fn print_expansion(arena: &Arena, env: Env, t: u32, out: &mut Output) -> Result<(), AllocError>
+    requires within { t < size arena.now }
+    ensures prints { Prints result out.old out.new (spec.expansion_text env (measure (tree_at (forest arena.now) t)).elements (spec.item (tree_at (forest arena.now) t))) }
+{
     match arena.measure(t).elements {
-        None => {
-            tri!(print_operand(arena, env.at(None), Prec::Comma, true, t, out));
-            out.add(b"...")
-        }
+        None => print_unexpanded(arena, env.at(None), t, out),
         Some(n) => print_repeated(arena, env, n, t, out),
     }
 }
 
+#[cycle(printer)]
+fn print_unexpanded(arena: &Arena, env: Env, t: u32, out: &mut Output) -> Result<(), AllocError>
+    requires within { t < size arena.now }
+    ensures prints { Prints result out.old out.new (spec.operand env prec.Comma true (spec.item (tree_at (forest arena.now) t)) ++ codes "...") }
+{
+    tri!(print_operand(arena, env, Prec::Comma, true, t, out));
+    write(out, b"...")
+}
+
 /// Appends a pattern for each index of a pack, with commas between.
 #[cycle(printer)]
-fn print_repeated(
-    arena: &Arena,
-    env: Env,
-    n: u32,
-    t: u32,
-    out: &mut Output,
-) -> Result<(), AllocError> {
+fn print_repeated(arena: &Arena, env: Env, n: u32, t: u32, out: &mut Output) -> Result<(), AllocError>
+    requires within { t < size arena.now }
+    ensures prints { Prints result out.old out.new (spec.repeated n 0 env (spec.item (tree_at (forest arena.now) t))) }
+{
     for k in 0..n {
-        if k > 0 {
-            tri!(out.add(b", "));
-        }
-        tri!(print(arena, env.at(Some(k)), t, out));
+        tri!(print_element(arena, env, k, t, out));
     }
     Ok(())
 }
 
+/// Appends a pattern at an index of its packs, with a comma before it if it isn't the first.
+#[cycle(printer)]
+fn print_element(arena: &Arena, env: Env, k: u32, t: u32, out: &mut Output) -> Result<(), AllocError>
+    requires within { t < size arena.now }
+    ensures prints { Prints result out.old out.new (spec.separator (nat_eq k 0) ++ spec.whole (spec.print (tree_at (forest arena.now) t) (words.at env (Some k)))) }
+{
+    tri!(write_separator(k == 0, out));
+    print(arena, env.at(Some(k)), t, out)
+}
+
+fn write_separator(is_first: bool, out: &mut Output) -> Result<(), AllocError>
+    ensures prints { Prints result out.old out.new (spec.separator is_first) }
+{
+    if is_first {
+        return Ok(());
+    }
+    write(out, b", ")
+}
+
 /// Appends a list. What prints nothing has no comma.
 #[cycle(printer)]
-fn print_list(arena: &Arena, env: Env, items: &[u32], out: &mut Output) -> Result<(), AllocError> {
+fn print_list(arena: &Arena, env: Env, bound: u32, items: &[u32], out: &mut Output) -> Result<(), AllocError>
+    requires bound { bound ≤ size arena.now }
+    requires below { AllByRecursion (λ t. t < bound) items.now }
+    ensures prints { Prints result out.old out.new (spec.list_text env (spec.items_of (trees_at (forest arena.now) items.now))) }
+{
     let mut is_first = true;
     for t in items {
         is_first = tri!(print_item(arena, env, is_first, *t, out));
@@ -276,23 +411,14 @@ fn print_list(arena: &Arena, env: Env, items: &[u32], out: &mut Output) -> Resul
 
 /// Appends an item of a list, with a comma before it if it isn't the first. Returns whether the next one is the first.
 #[cycle(printer)]
-fn print_item(
-    arena: &Arena,
-    env: Env,
-    is_first: bool,
-    t: u32,
-    out: &mut Output,
-) -> Result<bool, AllocError> {
+fn print_item(arena: &Arena, env: Env, is_first: bool, t: u32, out: &mut Output) -> Result<bool, AllocError>
+    requires within { t < size arena.now }
+    ensures prints { PrintsItem result out.old out.new is_first (spec.item_text env (spec.item (tree_at (forest arena.now) t))) }
+{
     let before = out.len();
-    if !is_first {
-        tri!(out.add(b", "));
-    }
+    tri!(write_separator(is_first, out));
     let start = out.len();
-    if env.is_llvm() {
-        tri!(print_operand(arena, env, Prec::Comma, false, t, out));
-    } else {
-        tri!(print(arena, env, t, out));
-    }
+    tri!(print_item_text(arena, env, t, out));
     if out.len() == start {
         out.truncate(before);
         return Ok(is_first);
@@ -300,9 +426,19 @@ fn print_item(
     Ok(false)
 }
 
+#[cycle(printer)]
+fn print_item_text(arena: &Arena, env: Env, t: u32, out: &mut Output) -> Result<(), AllocError>
+    requires within { t < size arena.now }
+    ensures prints { Prints result out.old out.new (spec.item_text env (spec.item (tree_at (forest arena.now) t))) }
+{
+    if env.is_llvm() {
+        return print_operand(arena, env, Prec::Comma, false, t, out);
+    }
+    print(arena, env, t, out)
+}
+
 /// Appends an operand: the tree, in parentheses if it is looser than the precedence, or as loose and `loose` is false.
 /// In GNU's style it is in parentheses if it isn't a name.
-#[inline(always)]
 #[cycle(printer)]
 fn print_operand(
     arena: &Arena,
@@ -311,7 +447,10 @@ fn print_operand(
     loose: bool,
     t: u32,
     out: &mut Output,
-) -> Result<(), AllocError> {
+) -> Result<(), AllocError>
+    requires within { t < size arena.now }
+    ensures prints { Prints result out.old out.new (spec.operand env prec loose (spec.item (tree_at (forest arena.now) t))) }
+{
     if is_bare(arena, env, prec, loose, t) {
         return print(arena, env, t, out);
     }
@@ -319,73 +458,81 @@ fn print_operand(
 }
 
 // Whether an operand needs no parentheses.
-#[inline(always)]
-fn is_bare(arena: &Arena, env: Env, prec: Prec, loose: bool, t: u32) -> bool {
+fn is_bare(arena: &Arena, env: Env, prec: Prec, loose: bool, t: u32) -> bool
+    requires within { t < size arena.now }
+    ensures value { result ≡ spec.is_bare env prec loose (spec.item (tree_at (forest arena.now) t)) }
+{
     if env.is_llvm() {
         return is_tight(prec_of(arena, t), prec, loose);
     }
     is_simple(arena, t)
 }
 
-// Whether an operand of a precedence needs no parentheses.
-fn is_tight(inner: Prec, outer: Prec, loose: bool) -> bool {
-    if inner == outer {
-        loose
-    } else {
-        !is_looser(inner, outer)
-    }
-}
-
 /// Appends a tree in parentheses.
 #[cycle(printer)]
-fn print_enclosed(arena: &Arena, env: Env, t: u32, out: &mut Output) -> Result<(), AllocError> {
-    tri!(out.add(b"("));
+fn print_enclosed(arena: &Arena, env: Env, t: u32, out: &mut Output) -> Result<(), AllocError>
+    requires within { t < size arena.now }
+    ensures prints { Prints result out.old out.new (spec.in_parens env (spec.item (tree_at (forest arena.now) t))) }
+{
+    tri!(write(out, b"("));
     tri!(print(arena, env.enclosed(), t, out));
-    out.add(b")")
+    write(out, b")")
 }
 
 #[cycle(printer)]
-fn print_phrase(
-    arena: &Arena,
-    env: Env,
-    phrase: Phrase,
-    parts: Parts,
-    out: &mut Output,
-) -> Result<(), AllocError> {
+fn print_phrase(arena: &Arena, env: Env, bound: u32, phrase: Phrase, parts: Parts, out: &mut Output) -> Result<(), AllocError>
+    requires bound { bound ≤ size arena.now }
+    requires parts { IsPartsBelow arena.now.held bound parts }
+    ensures prints { Prints result out.old out.new ((spec.phrased phrase env (spec.print_parts (parts_in arena.now.held (forest arena.now) parts) (words.within env phrase.guard))).text.left) }
+{
     let inner = env.within(phrase.guard);
     if !env.is_guarded(phrase.guard) {
-        return print_parts(arena, inner, parts, out);
+        return print_parts(arena, inner, bound, parts, out);
     }
-    tri!(out.add(b"("));
-    tri!(print_parts(arena, inner, parts, out));
-    out.add(b")")
+    print_guarded(arena, inner, bound, parts, out)
 }
 
 #[cycle(printer)]
-fn print_parts(arena: &Arena, env: Env, parts: Parts, out: &mut Output) -> Result<(), AllocError> {
+fn print_guarded(arena: &Arena, env: Env, bound: u32, parts: Parts, out: &mut Output) -> Result<(), AllocError>
+    requires bound { bound ≤ size arena.now }
+    requires parts { IsPartsBelow arena.now.held bound parts }
+    ensures prints { Prints result out.old out.new (codes "(" ++ ((spec.print_parts (parts_in arena.now.held (forest arena.now) parts) env).text ++ codes ")")) }
+{
+    tri!(write(out, b"("));
+    tri!(print_parts(arena, env, bound, parts, out));
+    write(out, b")")
+}
+
+#[cycle(printer)]
+fn print_parts(arena: &Arena, env: Env, bound: u32, parts: Parts, out: &mut Output) -> Result<(), AllocError>
+    requires bound { bound ≤ size arena.now }
+    requires parts { IsPartsBelow arena.now.held bound parts }
+    ensures prints { Prints result out.old out.new ((spec.print_parts (parts_in arena.now.held (forest arena.now) parts) env).text) }
+{
     for part in arena.parts_of(parts) {
-        tri!(print_part(arena, env, *part, out));
+        tri!(print_part(arena, env, bound, *part, out));
     }
     Ok(())
 }
 
 #[cycle(printer)]
-fn print_part(arena: &Arena, env: Env, part: Part, out: &mut Output) -> Result<(), AllocError> {
+fn print_part(arena: &Arena, env: Env, bound: u32, part: Part, out: &mut Output) -> Result<(), AllocError>
+    requires bound { bound ≤ size arena.now }
+    requires below { IsPartBelow arena.now.held bound part }
+    ensures prints { Prints result out.old out.new (text_of_part arena.now.held (forest arena.now) env part) }
+{
     match part {
         Part::Text(llvm, gnu) => write(out, env.text(arena, llvm, gnu)),
         Part::Tree(manner, t) => print_tree(arena, env, manner, t, out),
-        Part::Trees(listing, items) => print_trees(arena, env, listing, items, out),
+        Part::Trees(listing, items) => print_trees(arena, env, bound, listing, items, out),
     }
 }
 
 #[cycle(printer)]
-fn print_tree(
-    arena: &Arena,
-    env: Env,
-    manner: Manner,
-    t: u32,
-    out: &mut Output,
-) -> Result<(), AllocError> {
+fn print_tree(arena: &Arena, env: Env, manner: Manner, t: u32, out: &mut Output) -> Result<(), AllocError>
+    requires within { t < size arena.now }
+    ensures prints { Prints result out.old out.new (spec.part_text manner (heads.is_designator (tree_at (forest arena.now) t)) (heads.count_of (tree_at (forest arena.now) t)) (measure (tree_at (forest arena.now) t)).elements env (spec.item (tree_at (forest arena.now) t))) }
+{
     match manner {
         Manner::Whole(context) => print(arena, env.in_context(context), t, out),
         Manner::Operand(prec, loose) => print_operand(arena, env, prec, loose, t, out),
@@ -401,88 +548,112 @@ fn print_tree(
 
 /// Appends a function that is called. In GNU's style it has no parameters.
 #[cycle(printer)]
-fn print_callee(arena: &Arena, env: Env, t: u32, out: &mut Output) -> Result<(), AllocError> {
+fn print_callee(arena: &Arena, env: Env, t: u32, out: &mut Output) -> Result<(), AllocError>
+    requires within { t < size arena.now }
+    ensures prints { Prints result out.old out.new (spec.callee_text env (spec.item (tree_at (forest arena.now) t))) }
+{
     if env.is_llvm() {
         return print(arena, env, t, out);
     }
     match arena.node(t) {
-        Node::Encoding(_, name, _, _, _, _) => print_operand(
-            arena,
-            env,
-            Prec::Comma,
-            true,
-            name,
-            out,
-        ),
+        Node::Encoding(_, name, _, _, _, _) => print_operand(arena, env, Prec::Comma, true, name, out),
         _ => print_operand(arena, env, Prec::Comma, true, t, out),
     }
 }
 
 /// Appends the operand of an `&`. In GNU's style some functions have no parameters.
 #[cycle(printer)]
-fn print_address(
-    arena: &Arena,
-    env: Env,
-    prec: Prec,
-    t: u32,
-    out: &mut Output,
-) -> Result<(), AllocError> {
-    if !env.is_llvm() {
-        if let Some(name) = named_address(arena, t) {
-            return print(arena, env, name, out);
-        }
+fn print_address(arena: &Arena, env: Env, prec: Prec, t: u32, out: &mut Output) -> Result<(), AllocError>
+    requires within { t < size arena.now }
+    ensures prints { Prints result out.old out.new (spec.address_text env prec (spec.item (tree_at (forest arena.now) t))) }
+{
+    if env.is_llvm() {
+        return print_operand(arena, env, prec, false, t, out);
     }
-    print_operand(arena, env, prec, false, t, out)
+    match arena.node(t) {
+        Node::Encoding(_, name, _, cv, ref_qual, _) => {
+            if is_named_address(arena, name, cv, ref_qual) {
+                return print(arena, env, name, out);
+            }
+            print_operand(arena, env, prec, false, t, out)
+        }
+        _ => print_operand(arena, env, prec, false, t, out),
+    }
 }
 
 /// Appends a value behind a designator.
 #[cycle(printer)]
-fn print_value(arena: &Arena, env: Env, t: u32, out: &mut Output) -> Result<(), AllocError> {
+fn print_value(arena: &Arena, env: Env, t: u32, out: &mut Output) -> Result<(), AllocError>
+    requires within { t < size arena.now }
+    ensures prints { Prints result out.old out.new (spec.value_text env (heads.is_designator (tree_at (forest arena.now) t)) (spec.item (tree_at (forest arena.now) t))) }
+{
     if is_designator(arena, t) {
         return print(arena, env, t, out);
     }
-    tri!(write(out, if env.is_llvm() { b" = " } else { b"=" }));
+    tri!(write_equals(env, out));
     print_operand(arena, env, Prec::Comma, true, t, out)
+}
+
+fn write_equals(env: Env, out: &mut Output) -> Result<(), AllocError>
+    ensures prints { Prints result out.old out.new (words.styled env (codes " = ") (codes "=")) }
+{
+    if env.is_llvm() {
+        return write(out, b" = ");
+    }
+    write(out, b"=")
 }
 
 /// Appends the only argument of a conversion.
 #[cycle(printer)]
-fn print_argument(arena: &Arena, env: Env, t: u32, out: &mut Output) -> Result<(), AllocError> {
+fn print_argument(arena: &Arena, env: Env, t: u32, out: &mut Output) -> Result<(), AllocError>
+    requires within { t < size arena.now }
+    ensures prints { Prints result out.old out.new (spec.argument_text env (spec.item (tree_at (forest arena.now) t))) }
+{
     if !env.is_llvm() {
         return print_operand(arena, env, Prec::Comma, true, t, out);
     }
-    tri!(out.add(b"("));
+    tri!(write(out, b"("));
     tri!(print_operand(arena, env.enclosed(), Prec::Comma, false, t, out));
-    out.add(b")")
+    write(out, b")")
 }
 
 /// Appends `sizeof...` and a pack, in GNU's style the number of its elements if it is known.
 #[cycle(printer)]
-fn print_count(
-    arena: &Arena,
-    env: Env,
-    has_blank: bool,
-    t: u32,
-    out: &mut Output,
-) -> Result<(), AllocError> {
-    if !env.is_llvm() {
-        if let Some(n) = count_of(arena, t) {
-            return write_number(n, out);
-        }
+fn print_count(arena: &Arena, env: Env, has_blank: bool, t: u32, out: &mut Output) -> Result<(), AllocError>
+    requires within { t < size arena.now }
+    ensures prints { Prints result out.old out.new (spec.count_text env has_blank (heads.count_of (tree_at (forest arena.now) t)) (spec.item (tree_at (forest arena.now) t))) }
+{
+    if env.is_llvm() {
+        return print_sizeof(arena, env, has_blank, t, out);
     }
-    tri!(write(
-        out,
-        if has_blank {
-            b"sizeof... "
-        } else {
-            b"sizeof..."
-        }
-    ));
+    match count_of(arena, t) {
+        None => print_sizeof(arena, env, has_blank, t, out),
+        Some(n) => write_number(n, out),
+    }
+}
+
+#[cycle(printer)]
+fn print_sizeof(arena: &Arena, env: Env, has_blank: bool, t: u32, out: &mut Output) -> Result<(), AllocError>
+    requires within { t < size arena.now }
+    ensures prints { Prints result out.old out.new (spec.sizeof_word has_blank ++ spec.in_parens env (spec.item (tree_at (forest arena.now) t))) }
+{
+    tri!(write_sizeof(has_blank, out));
     print_enclosed(arena, env, t, out)
 }
 
+fn write_sizeof(has_blank: bool, out: &mut Output) -> Result<(), AllocError>
+    ensures prints { Prints result out.old out.new (spec.sizeof_word has_blank) }
+{
+    if has_blank {
+        return write(out, b"sizeof... ");
+    }
+    write(out, b"sizeof...")
+}
+
 // Appends a number.
-fn write_number(n: u64, out: &mut Output) -> Result<(), AllocError> {
+fn write_number(n: u64, out: &mut Output) -> Result<(), AllocError>
+    ensures prints { Prints result out.old out.new (decimal n) }
+{
     if n >= 10 {
         tri!(write_number(n / 10, out));
     }
@@ -492,63 +663,80 @@ fn write_number(n: u64, out: &mut Output) -> Result<(), AllocError> {
 
 /// Appends a pack that a fold expression folds.
 #[cycle(printer)]
-fn print_folded(arena: &Arena, env: Env, t: u32, out: &mut Output) -> Result<(), AllocError> {
+fn print_folded(arena: &Arena, env: Env, t: u32, out: &mut Output) -> Result<(), AllocError>
+    requires within { t < size arena.now }
+    ensures prints { Prints result out.old out.new (spec.folded_text env (measure (tree_at (forest arena.now) t)).elements (spec.item (tree_at (forest arena.now) t))) }
+{
     if !env.is_llvm() {
         if arena.measure(t).elements.is_none() {
             return print_operand(arena, env, Prec::Comma, true, t, out);
         }
     }
-    tri!(out.add(b"("));
+    tri!(write(out, b"("));
     tri!(print_expansion(arena, env, t, out));
-    out.add(b")")
+    write(out, b")")
 }
 
 #[cycle(printer)]
-fn print_trees(
-    arena: &Arena,
-    env: Env,
-    listing: Listing,
-    items: List,
-    out: &mut Output,
-) -> Result<(), AllocError> {
+fn print_trees(arena: &Arena, env: Env, bound: u32, listing: Listing, list: List, out: &mut Output) -> Result<(), AllocError>
+    requires bound { bound ≤ size arena.now }
+    requires below { IsListBelow arena.now.held bound list }
+    ensures prints { Prints result out.old out.new (spec.list_of listing env (spec.items_of (trees_in arena.now.held (forest arena.now) list))) }
+{
     match listing {
-        Listing::Items => print_list(arena, env, arena.items(items), out),
-        Listing::Enclosed => print_list(arena, env.enclosed(), arena.items(items), out),
-        Listing::Parens => print_parens(arena, env, items, out),
-        Listing::Angles => print_angles(arena, env, items, out),
-        Listing::Declarations => print_declarations(arena, env, items, out),
-        Listing::Sequence => print_sequence(arena, env.enclosed(), arena.items(items), out),
+        Listing::Items => print_list(arena, env, bound, arena.items(list), out),
+        Listing::Enclosed => print_list(arena, env.enclosed(), bound, arena.items(list), out),
+        Listing::Parens => print_parens(arena, env, bound, list, out),
+        Listing::Angles => print_angles(arena, env, bound, list, out),
+        Listing::Declarations => print_declarations(arena, env, bound, list, out),
+        Listing::Sequence => print_sequence(arena, env.enclosed(), bound, arena.items(list), out),
     }
 }
 
 #[cycle(printer)]
-fn print_parens(arena: &Arena, env: Env, items: List, out: &mut Output) -> Result<(), AllocError> {
-    tri!(out.add(b"("));
-    tri!(print_list(arena, env.enclosed(), arena.items(items), out));
-    out.add(b")")
+fn print_parens(arena: &Arena, env: Env, bound: u32, list: List, out: &mut Output) -> Result<(), AllocError>
+    requires bound { bound ≤ size arena.now }
+    requires below { IsListBelow arena.now.held bound list }
+    ensures prints { Prints result out.old out.new (spec.parens env (spec.items_of (trees_in arena.now.held (forest arena.now) list))) }
+{
+    tri!(write(out, b"("));
+    tri!(print_list(arena, env.enclosed(), bound, arena.items(list), out));
+    write(out, b")")
 }
 
 #[cycle(printer)]
-fn print_angles(arena: &Arena, env: Env, items: List, out: &mut Output) -> Result<(), AllocError> {
-    let env = env.in_angle();
-    let items = arena.items(items);
-    tri!(out.add(b"<"));
-    tri!(print_list(arena, env, items, out));
-    if !env.is_llvm() {
-        if ending_of_list(arena, env, items) == Ending::Greater {
-            tri!(out.add(b" "));
-        }
+fn print_angles(arena: &Arena, env: Env, bound: u32, list: List, out: &mut Output) -> Result<(), AllocError>
+    requires bound { bound ≤ size arena.now }
+    requires below { IsListBelow arena.now.held bound list }
+    ensures prints { Prints result out.old out.new (spec.angles env (spec.items_of (trees_in arena.now.held (forest arena.now) list))) }
+{
+    tri!(write(out, b"<"));
+    tri!(print_list(arena, env.in_angle(), bound, arena.items(list), out));
+    tri!(blank_behind_greater(arena, env.in_angle(), bound, arena.items(list), out));
+    write(out, b">")
+}
+
+// Appends a blank behind a list that ends with a `>`, in GNU's style.
+fn blank_behind_greater(arena: &Arena, env: Env, bound: u32, items: &[u32], out: &mut Output) -> Result<(), AllocError>
+    requires bound { bound ≤ size arena.now }
+    requires below { AllByRecursion (λ t. t < bound) items.now }
+    ensures prints { Prints result out.old out.new (spec.gnu_blank env ending.Greater (spec.last_ends env (spec.items_of (trees_at (forest arena.now) items.now)))) }
+{
+    if env.is_llvm() {
+        return Ok(());
     }
-    out.add(b">")
+    match ending_of_list(arena, env, bound, items) {
+        Ending::Greater => write(out, b" "),
+        Ending::Less | Ending::Other => Ok(()),
+    }
 }
 
 #[cycle(printer)]
-fn print_sequence(
-    arena: &Arena,
-    env: Env,
-    items: &[u32],
-    out: &mut Output,
-) -> Result<(), AllocError> {
+fn print_sequence(arena: &Arena, env: Env, bound: u32, items: &[u32], out: &mut Output) -> Result<(), AllocError>
+    requires bound { bound ≤ size arena.now }
+    requires below { AllByRecursion (λ t. t < bound) items.now }
+    ensures prints { Prints result out.old out.new (spec.sequence env (spec.items_of (trees_at (forest arena.now) items.now))) }
+{
     for t in items {
         tri!(print(arena, env, *t, out));
     }
@@ -557,92 +745,179 @@ fn print_sequence(
 
 /// Appends the declarations of a closure's template parameters.
 #[cycle(printer)]
-fn print_declarations(
-    arena: &Arena,
-    env: Env,
-    items: List,
-    out: &mut Output,
-) -> Result<(), AllocError> {
+fn print_declarations(arena: &Arena, env: Env, bound: u32, list: List, out: &mut Output) -> Result<(), AllocError>
+    requires bound { bound ≤ size arena.now }
+    requires below { IsListBelow arena.now.held bound list }
+    ensures prints { Prints result out.old out.new (spec.declarations_text env (spec.items_of (trees_in arena.now.held (forest arena.now) list))) }
+{
     if env.is_llvm() {
-        return print_angles(arena, env, items, out);
+        return print_angles(arena, env, bound, list, out);
     }
-    tri!(out.add(b"<"));
-    let mut is_first = true;
-    for t in arena.items(items) {
-        tri!(print_declared(arena, env.in_angle(), is_first, *t, out));
-        is_first = false;
-    }
-    out.add(b">")
+    tri!(write(out, b"<"));
+    tri!(print_declared_list(arena, env.in_angle(), bound, arena.items(list), out));
+    write(out, b">")
 }
 
 #[cycle(printer)]
-fn print_declared(
-    arena: &Arena,
-    env: Env,
-    is_first: bool,
-    t: u32,
-    out: &mut Output,
-) -> Result<(), AllocError> {
-    if !is_first {
-        tri!(out.add(b", "));
+fn print_declared_list(arena: &Arena, env: Env, bound: u32, items: &[u32], out: &mut Output) -> Result<(), AllocError>
+    requires bound { bound ≤ size arena.now }
+    requires below { AllByRecursion (λ t. t < bound) items.now }
+    ensures prints { Prints result out.old out.new (spec.declarations true env (spec.items_of (trees_at (forest arena.now) items.now))) }
+{
+    let mut is_first = true;
+    for t in items {
+        tri!(print_declared(arena, env, is_first, *t, out));
+        is_first = false;
     }
+    Ok(())
+}
+
+#[cycle(printer)]
+fn print_declared(arena: &Arena, env: Env, is_first: bool, t: u32, out: &mut Output) -> Result<(), AllocError>
+    requires within { t < size arena.now }
+    ensures prints { Prints result out.old out.new (spec.separator is_first ++ spec.declared (spec.print (tree_at (forest arena.now) t) env)) }
+{
+    tri!(write_separator(is_first, out));
+    print_whole_declaration(arena, env, t, out)
+}
+
+#[cycle(printer)]
+fn print_whole_declaration(arena: &Arena, env: Env, t: u32, out: &mut Output) -> Result<(), AllocError>
+    requires within { t < size arena.now }
+    ensures prints { Prints result out.old out.new (spec.declared (spec.print (tree_at (forest arena.now) t) env)) }
+{
     tri!(print_head(arena, env, t, out));
-    tri!(out.add(b" "));
+    tri!(write(out, b" "));
     print_declared_name(arena, env, t, out)
 }
 
 /// Appends a declaration of a template parameter without its name, as GNU's style has it.
 #[cycle(printer)]
-fn print_head(arena: &Arena, env: Env, t: u32, out: &mut Output) -> Result<(), AllocError> {
+fn print_head(arena: &Arena, env: Env, t: u32, out: &mut Output) -> Result<(), AllocError>
+    requires within { t < size arena.now }
+    ensures prints { Prints result out.old out.new (spec.head (spec.print (tree_at (forest arena.now) t) env)) }
+{
     match arena.node(t) {
-        Node::Declaration(declaration) => match declaration {
-            Declaration::TypeParam(constraint, _) => print(arena, env, constraint, out),
-            Declaration::NonTypeParam(_, t) => print(arena, env, t, out),
-            Declaration::TemplateParam(_, declarations, _) => print_heads(
-                arena,
-                env,
-                arena.items(declarations),
-                out,
-            ),
-            Declaration::PackParam(d) => {
-                tri!(print_head(arena, env, d, out));
-                out.add(b"...")
-            }
-        },
+        Node::Declaration(declaration) => head_of_declaration(arena, env, t, declaration, out),
+        Node::Plain(plain) => head_of_plain(arena, env, t, plain, out),
         _ => print(arena, env, t, out),
     }
 }
 
 #[cycle(printer)]
-fn print_heads(arena: &Arena, env: Env, items: &[u32], out: &mut Output) -> Result<(), AllocError> {
-    tri!(out.add(b"template<"));
+fn head_of_plain(arena: &Arena, env: Env, bound: u32, plain: Plain, out: &mut Output) -> Result<(), AllocError>
+    requires bound { bound ≤ size arena.now }
+    requires below { IsPlainBelow arena.now.held bound plain }
+    ensures prints { Prints result out.old out.new (spec.head (spec.print (plain_tree arena.now.held (forest arena.now) plain) env)) }
+{
+    print_plain(arena, env, bound, plain, out)
+}
+
+#[cycle(printer)]
+fn head_of_declaration(
+    arena: &Arena,
+    env: Env,
+    bound: u32,
+    declaration: Declaration,
+    out: &mut Output,
+) -> Result<(), AllocError>
+    requires bound { bound ≤ size arena.now }
+    requires below { IsDeclarationBelow arena.now.held bound declaration }
+    ensures prints { Prints result out.old out.new (spec.head (spec.print (declaration_tree arena.now.held (forest arena.now) declaration) env)) }
+{
+    match declaration {
+        Declaration::TypeParam(constraint, _) => print(arena, env, constraint, out),
+        Declaration::NonTypeParam(_, t) => print(arena, env, t, out),
+        Declaration::TemplateParam(_, declarations, _) => print_template_head(
+            arena, env, bound, arena.items(declarations), out,
+        ),
+        Declaration::PackParam(d) => print_pack_head(arena, env, d, out),
+    }
+}
+
+#[cycle(printer)]
+fn print_pack_head(arena: &Arena, env: Env, d: u32, out: &mut Output) -> Result<(), AllocError>
+    requires d { d < size arena.now }
+    ensures prints { Prints result out.old out.new (spec.head (spec.print (tree_at (forest arena.now) d) env) ++ codes "...") }
+{
+    tri!(print_head(arena, env, d, out));
+    write(out, b"...")
+}
+
+#[cycle(printer)]
+fn print_template_head(arena: &Arena, env: Env, bound: u32, items: &[u32], out: &mut Output) -> Result<(), AllocError>
+    requires bound { bound ≤ size arena.now }
+    requires below { AllByRecursion (λ t. t < bound) items.now }
+    ensures prints { Prints result out.old out.new (codes "template<" ++ (spec.heads true env (spec.items_of (trees_at (forest arena.now) items.now)) ++ codes "> class")) }
+{
+    tri!(write(out, b"template<"));
+    tri!(print_heads(arena, env, bound, items, out));
+    write(out, b"> class")
+}
+
+#[cycle(printer)]
+fn print_heads(arena: &Arena, env: Env, bound: u32, items: &[u32], out: &mut Output) -> Result<(), AllocError>
+    requires bound { bound ≤ size arena.now }
+    requires below { AllByRecursion (λ t. t < bound) items.now }
+    ensures prints { Prints result out.old out.new (spec.heads true env (spec.items_of (trees_at (forest arena.now) items.now))) }
+{
     let mut is_first = true;
     for t in items {
-        if !is_first {
-            tri!(out.add(b", "));
-        }
-        tri!(print_head(arena, env, *t, out));
+        tri!(print_next_head(arena, env, is_first, *t, out));
         is_first = false;
     }
-    out.add(b"> class")
+    Ok(())
+}
+
+#[cycle(printer)]
+fn print_next_head(arena: &Arena, env: Env, is_first: bool, t: u32, out: &mut Output) -> Result<(), AllocError>
+    requires within { t < size arena.now }
+    ensures prints { Prints result out.old out.new (spec.separator is_first ++ spec.head (spec.print (tree_at (forest arena.now) t) env)) }
+{
+    tri!(write_separator(is_first, out));
+    print_head(arena, env, t, out)
 }
 
 /// Appends the name that a declaration declares.
 #[cycle(printer)]
-fn print_declared_name(
+fn print_declared_name(arena: &Arena, env: Env, t: u32, out: &mut Output) -> Result<(), AllocError>
+    requires within { t < size arena.now }
+    ensures prints { Prints result out.old out.new (spec.declared_name (spec.print (tree_at (forest arena.now) t) env)) }
+{
+    match arena.node(t) {
+        Node::Declaration(declaration) => name_of_declaration(arena, env, t, declaration, out),
+        Node::Plain(plain) => name_of_plain(arena, env, plain, out),
+        _ => Ok(()),
+    }
+}
+
+// Appends nothing, since a tree with one side declares nothing.
+fn name_of_plain(arena: &Arena, env: Env, plain: Plain, out: &mut Output) -> Result<(), AllocError>
+    ensures prints { Prints result out.old out.new (spec.declared_name (spec.print (plain_tree arena.now.held (forest arena.now) plain) env)) }
+{
+    match plain {
+        Plain::Scoped(is_friend, _, _) => if is_friend { Ok(()) } else { Ok(()) },
+        _ => Ok(()),
+    }
+}
+
+#[cycle(printer)]
+fn name_of_declaration(
     arena: &Arena,
     env: Env,
-    t: u32,
+    bound: u32,
+    declaration: Declaration,
     out: &mut Output,
-) -> Result<(), AllocError> {
-    match arena.node(t) {
-        Node::Declaration(declaration) => match declaration {
-            Declaration::TypeParam(_, name) => print(arena, env, name, out),
-            Declaration::NonTypeParam(name, _) => print(arena, env, name, out),
-            Declaration::TemplateParam(name, _, _) => print(arena, env, name, out),
-            Declaration::PackParam(d) => print_declared_name(arena, env, d, out),
-        },
-        _ => Ok(()),
+) -> Result<(), AllocError>
+    requires bound { bound ≤ size arena.now }
+    requires below { IsDeclarationBelow arena.now.held bound declaration }
+    ensures prints { Prints result out.old out.new (spec.declared_name (spec.print (declaration_tree arena.now.held (forest arena.now) declaration) env)) }
+{
+    match declaration {
+        Declaration::TypeParam(_, name) => print(arena, env, name, out),
+        Declaration::NonTypeParam(name, _) => print(arena, env, name, out),
+        Declaration::TemplateParam(name, _, _) => print(arena, env, name, out),
+        Declaration::PackParam(d) => print_declared_name(arena, env, d, out),
     }
 }
 
@@ -650,146 +925,197 @@ fn print_declared_name(
 fn left_declaration(
     arena: &Arena,
     env: Env,
+    bound: u32,
     declaration: Declaration,
     out: &mut Output,
-) -> Result<(), AllocError> {
+) -> Result<(), AllocError>
+    requires bound { bound ≤ size arena.now }
+    requires below { IsDeclarationBelow arena.now.held bound declaration }
+    ensures prints { Prints result out.old out.new ((spec.print (declaration_tree arena.now.held (forest arena.now) declaration) env).text.left) }
+{
     match declaration {
-        Declaration::TypeParam(constraint, _) => {
-            tri!(print(arena, env, constraint, out));
-            out.add(b" ")
-        }
+        Declaration::TypeParam(constraint, _) => left_type_param(arena, env, constraint, out),
         Declaration::NonTypeParam(_, t) => left_non_type(arena, env, t, out),
-        Declaration::TemplateParam(_, declarations, _) => {
-            tri!(out.add(b"template"));
-            tri!(print_angles(arena, env, declarations, out));
-            out.add(b" typename ")
-        }
-        Declaration::PackParam(d) => {
-            tri!(print_left(arena, env, d, out));
-            out.add(b"...")
-        }
+        Declaration::TemplateParam(_, declarations, _) => left_template(arena, env, bound, declarations, out),
+        Declaration::PackParam(d) => left_pack_param(arena, env, d, out),
     }
+}
+
+#[cycle(printer)]
+fn left_type_param(arena: &Arena, env: Env, constraint: u32, out: &mut Output) -> Result<(), AllocError>
+    requires constraint { constraint < size arena.now }
+    ensures prints { Prints result out.old out.new (spec.whole (spec.print (tree_at (forest arena.now) constraint) env) ++ codes " ") }
+{
+    tri!(print(arena, env, constraint, out));
+    write(out, b" ")
 }
 
 /// Appends the left side of a type, and a blank unless it has a right one.
 #[cycle(printer)]
-fn left_non_type(arena: &Arena, env: Env, t: u32, out: &mut Output) -> Result<(), AllocError> {
+fn left_non_type(arena: &Arena, env: Env, t: u32, out: &mut Output) -> Result<(), AllocError>
+    requires within { t < size arena.now }
+    ensures prints { Prints result out.old out.new ((spec.print (tree_at (forest arena.now) t) env).text.left ++ spec.blank_unless (spec.print (tree_at (forest arena.now) t) env).has_right) }
+{
     tri!(print_left(arena, env, t, out));
-    if has_right(arena, env, t) {
+    write_blank_unless(has_right(arena, env, t), out)
+}
+
+fn write_blank_unless(has_right: bool, out: &mut Output) -> Result<(), AllocError>
+    ensures prints { Prints result out.old out.new (spec.blank_unless has_right) }
+{
+    if has_right {
         return Ok(());
     }
-    out.add(b" ")
+    write(out, b" ")
+}
+
+#[cycle(printer)]
+fn left_template(arena: &Arena, env: Env, bound: u32, list: List, out: &mut Output) -> Result<(), AllocError>
+    requires bound { bound ≤ size arena.now }
+    requires below { IsListBelow arena.now.held bound list }
+    ensures prints { Prints result out.old out.new (codes "template" ++ (spec.angles env (spec.items_of (trees_in arena.now.held (forest arena.now) list)) ++ codes " typename ")) }
+{
+    tri!(write(out, b"template"));
+    tri!(print_angles(arena, env, bound, list, out));
+    write(out, b" typename ")
+}
+
+#[cycle(printer)]
+fn left_pack_param(arena: &Arena, env: Env, d: u32, out: &mut Output) -> Result<(), AllocError>
+    requires d { d < size arena.now }
+    ensures prints { Prints result out.old out.new ((spec.print (tree_at (forest arena.now) d) env).text.left ++ codes "...") }
+{
+    tri!(print_left(arena, env, d, out));
+    write(out, b"...")
 }
 
 #[cycle(printer)]
 fn right_declaration(
     arena: &Arena,
     env: Env,
+    bound: u32,
     declaration: Declaration,
     out: &mut Output,
-) -> Result<(), AllocError> {
+) -> Result<(), AllocError>
+    requires bound { bound ≤ size arena.now }
+    requires below { IsDeclarationBelow arena.now.held bound declaration }
+    ensures prints { Prints result out.old out.new ((spec.print (declaration_tree arena.now.held (forest arena.now) declaration) env).text.right) }
+{
     match declaration {
         Declaration::TypeParam(_, name) => print(arena, env, name, out),
-        Declaration::NonTypeParam(name, t) => {
-            tri!(print(arena, env, name, out));
-            print_right(arena, env, t, false, out)
-        }
-        Declaration::TemplateParam(name, _, rest) => {
-            tri!(print(arena, env, name, out));
-            print_parts(arena, env, rest, out)
-        }
+        Declaration::NonTypeParam(name, t) => right_non_type(arena, env, name, t, out),
+        Declaration::TemplateParam(name, _, rest) => right_template(arena, env, bound, name, rest, out),
         Declaration::PackParam(d) => print_right(arena, env, d, false, out),
     }
 }
 
 #[cycle(printer)]
-fn left_qualified(
-    arena: &Arena,
-    env: Env,
-    t: u32,
-    cv: Cv,
-    out: &mut Output,
-) -> Result<(), AllocError> {
+fn right_non_type(arena: &Arena, env: Env, name: u32, t: u32, out: &mut Output) -> Result<(), AllocError>
+    requires name { name < size arena.now }
+    requires within { t < size arena.now }
+    ensures prints { Prints result out.old out.new (spec.whole (spec.print (tree_at (forest arena.now) name) env) ++ spec.right_behind false (spec.print (tree_at (forest arena.now) t) env).text) }
+{
+    tri!(print(arena, env, name, out));
+    print_right(arena, env, t, false, out)
+}
+
+#[cycle(printer)]
+fn right_template(arena: &Arena, env: Env, bound: u32, name: u32, rest: Parts, out: &mut Output) -> Result<(), AllocError>
+    requires bound { bound ≤ size arena.now }
+    requires name { name < bound }
+    requires rest { IsPartsBelow arena.now.held bound rest }
+    ensures prints { Prints result out.old out.new (spec.whole (spec.print (tree_at (forest arena.now) name) env) ++ (spec.print_parts (parts_in arena.now.held (forest arena.now) rest) env).text) }
+{
+    tri!(print(arena, env, name, out));
+    print_parts(arena, env, bound, rest, out)
+}
+
+#[cycle(printer)]
+fn left_qualified(arena: &Arena, env: Env, t: u32, cv: Cv, out: &mut Output) -> Result<(), AllocError>
+    requires within { t < size arena.now }
+    ensures prints { Prints result out.old out.new ((spec.print (tree_at (forest arena.now) t) env).text.left ++ words.cv_text cv) }
+{
     tri!(print_left(arena, env, t, out));
     write(out, cv_text(cv))
 }
 
-// The protocol of a type, if a pointer to it is an `id`.
-fn protocol_of(arena: &Arena, t: u32) -> Option<Text> {
-    match arena.node(t) {
-        Node::Plain(Plain::ObjcProtocol(name, protocol)) => if is_objc_object(arena, name) {
-            Some(protocol)
-        } else {
-            None
-        },
-        _ => None,
+#[cycle(printer)]
+fn left_pointer(arena: &Arena, env: Env, t: u32, out: &mut Output) -> Result<(), AllocError>
+    requires within { t < size arena.now }
+    ensures prints { Prints result out.old out.new ((spec.pointed (heads.protocol_of (tree_at (forest arena.now) t)) (spec.print (tree_at (forest arena.now) t) env)).text.left) }
+{
+    match protocol_of(arena, t) {
+        None => left_plain_pointer(arena, env, t, out),
+        Some(protocol) => write_id(protocol, out),
     }
 }
 
-#[cycle(printer)]
-fn left_pointer(arena: &Arena, env: Env, t: u32, out: &mut Output) -> Result<(), AllocError> {
-    if let Some(protocol) = protocol_of(arena, t) {
-        tri!(out.add(b"id<"));
-        tri!(write(out, arena.bytes(protocol)));
-        return out.add(b">");
-    }
-    tri!(left_behind(arena, env, t, out));
-    out.add(b"*")
+fn write_id(protocol: &[u8], out: &mut Output) -> Result<(), AllocError>
+    ensures prints { Prints result out.old out.new (codes "id<" ++ (protocol.now ++ codes ">")) }
+{
+    tri!(write(out, b"id<"));
+    tri!(write(out, protocol));
+    write(out, b">")
 }
 
 #[cycle(printer)]
-fn right_pointer(arena: &Arena, env: Env, t: u32, out: &mut Output) -> Result<(), AllocError> {
-    if protocol_of(arena, t).is_some() {
-        return Ok(());
-    }
-    right_behind(arena, env, t, out)
-}
-
-/// Appends the left side of a type before a pointer to it.
-#[cycle(printer)]
-fn left_behind(arena: &Arena, env: Env, t: u32, out: &mut Output) -> Result<(), AllocError> {
+fn left_plain_pointer(arena: &Arena, env: Env, t: u32, out: &mut Output) -> Result<(), AllocError>
+    requires within { t < size arena.now }
+    ensures prints { Prints result out.old out.new ((spec.print (tree_at (forest arena.now) t) env).text.left ++ (words.opened (spec.print (tree_at (forest arena.now) t) env).text.form ++ codes "*")) }
+{
     tri!(print_left(arena, env, t, out));
-    match form_of(arena, env, t) {
-        Form::Plain => Ok(()),
-        Form::Arrayed => out.add(b" ("),
-        Form::Callable => out.add(b"("),
+    tri!(write(out, opened(form_of(arena, env, t))));
+    write(out, b"*")
+}
+
+#[cycle(printer)]
+fn right_pointer(arena: &Arena, env: Env, t: u32, out: &mut Output) -> Result<(), AllocError>
+    requires within { t < size arena.now }
+    ensures prints { Prints result out.old out.new ((spec.pointed (heads.protocol_of (tree_at (forest arena.now) t)) (spec.print (tree_at (forest arena.now) t) env)).text.right) }
+{
+    match protocol_of(arena, t) {
+        None => right_behind(arena, env, t, out),
+        Some(_) => Ok(()),
     }
 }
 
 /// Appends the right side of a type behind a pointer to it.
 #[cycle(printer)]
-fn right_behind(arena: &Arena, env: Env, t: u32, out: &mut Output) -> Result<(), AllocError> {
+fn right_behind(arena: &Arena, env: Env, t: u32, out: &mut Output) -> Result<(), AllocError>
+    requires within { t < size arena.now }
+    ensures prints { Prints result out.old out.new (words.closed (spec.print (tree_at (forest arena.now) t) env).text.form ++ spec.right_behind false (spec.print (tree_at (forest arena.now) t) env).text) }
+{
     tri!(write(out, closed(form_of(arena, env, t))));
     print_right(arena, env, t, false, out)
 }
 
 #[cycle(printer)]
-fn left_reference(
-    arena: &Arena,
-    env: Env,
-    is_lvalue: bool,
-    t: u32,
-    out: &mut Output,
-) -> Result<(), AllocError> {
+fn left_reference(arena: &Arena, env: Env, is_lvalue: bool, t: u32, out: &mut Output) -> Result<(), AllocError>
+    requires within { t < size arena.now }
+    ensures prints { Prints result out.old out.new ((spec.referred is_lvalue (spec.print (tree_at (forest arena.now) t) env)).text.left) }
+{
     let referent = referent_of(arena, env, is_lvalue, t);
-    if let Some(base) = referent.base {
-        tri!(left_behind(arena, env, base, out));
-    }
-    if referent.is_lvalue {
-        out.add(b"&")
-    } else {
-        out.add(b"&&")
+    match referent.base {
+        None => write(out, mark(referent.is_lvalue)),
+        Some(base) => left_base(arena, env, referent.is_lvalue, base, out),
     }
 }
 
 #[cycle(printer)]
-fn right_reference(
-    arena: &Arena,
-    env: Env,
-    is_lvalue: bool,
-    t: u32,
-    out: &mut Output,
-) -> Result<(), AllocError> {
+fn left_base(arena: &Arena, env: Env, is_lvalue: bool, t: u32, out: &mut Output) -> Result<(), AllocError>
+    requires within { t < size arena.now }
+    ensures prints { Prints result out.old out.new ((spec.refers is_lvalue (spec.print (tree_at (forest arena.now) t) env).text).left) }
+{
+    tri!(print_left(arena, env, t, out));
+    tri!(write(out, opened(form_of(arena, env, t))));
+    write(out, mark(is_lvalue))
+}
+
+#[cycle(printer)]
+fn right_reference(arena: &Arena, env: Env, is_lvalue: bool, t: u32, out: &mut Output) -> Result<(), AllocError>
+    requires within { t < size arena.now }
+    ensures prints { Prints result out.old out.new ((spec.referred is_lvalue (spec.print (tree_at (forest arena.now) t) env)).text.right) }
+{
     match referent_of(arena, env, is_lvalue, t).base {
         None => Ok(()),
         Some(base) => right_behind(arena, env, base, out),
@@ -797,114 +1123,179 @@ fn right_reference(
 }
 
 #[cycle(printer)]
-fn left_member(
-    arena: &Arena,
-    env: Env,
-    class: u32,
-    member: u32,
-    out: &mut Output,
-) -> Result<(), AllocError> {
+fn left_member(arena: &Arena, env: Env, class: u32, member: u32, out: &mut Output) -> Result<(), AllocError>
+    requires class { class < size arena.now }
+    requires member { member < size arena.now }
+    ensures prints { Prints result out.old out.new ((spec.member_of env.style (spec.print (tree_at (forest arena.now) class) env) (spec.print (tree_at (forest arena.now) member) env)).text.left) }
+{
     tri!(print_left(arena, env, member, out));
     tri!(write(out, member_opened(env.style, form_of(arena, env, member))));
     tri!(print(arena, env, class, out));
-    out.add(b"::*")
+    write(out, b"::*")
 }
 
 #[cycle(printer)]
 fn right_array(
     arena: &Arena,
     env: Env,
+    bound: u32,
     element: u32,
     dimension: Parts,
     joined: bool,
     out: &mut Output,
-) -> Result<(), AllocError> {
-    tri!(write(out, if joined { b"[" } else { b" [" }));
-    tri!(print_parts(arena, env, dimension, out));
-    tri!(out.add(b"]"));
-    print_right(arena, env, element, true, out)
+) -> Result<(), AllocError>
+    requires bound { bound ≤ size arena.now }
+    requires element { element < bound }
+    requires dimension { IsPartsBelow arena.now.held bound dimension }
+    ensures prints { Prints result out.old out.new (spec.right_behind joined (spec.arrayed (spec.print (tree_at (forest arena.now) element) env) (spec.print_parts (parts_in arena.now.held (forest arena.now) dimension) env)).text) }
+{
+    tri!(write_blank_unless(joined, out));
+    right_bracket(arena, env, bound, element, dimension, out)
 }
 
 #[cycle(printer)]
-fn left_function(arena: &Arena, env: Env, ret: u32, out: &mut Output) -> Result<(), AllocError> {
+fn right_bracket(
+    arena: &Arena,
+    env: Env,
+    bound: u32,
+    element: u32,
+    dimension: Parts,
+    out: &mut Output,
+) -> Result<(), AllocError>
+    requires bound { bound ≤ size arena.now }
+    requires element { element < bound }
+    requires dimension { IsPartsBelow arena.now.held bound dimension }
+    ensures prints { Prints result out.old out.new (codes "[" ++ ((spec.print_parts (parts_in arena.now.held (forest arena.now) dimension) env).text ++ (codes "]" ++ (spec.print (tree_at (forest arena.now) element) env).text.right))) }
+{
+    tri!(write(out, b"["));
+    tri!(print_parts(arena, env, bound, dimension, out));
+    tri!(write(out, b"]"));
+    print_joined(arena, env, element, out)
+}
+
+// Appends the right side of a type behind a bracket.
+#[cycle(printer)]
+fn print_joined(arena: &Arena, env: Env, t: u32, out: &mut Output) -> Result<(), AllocError>
+    requires within { t < size arena.now }
+    ensures prints { Prints result out.old out.new ((spec.print (tree_at (forest arena.now) t) env).text.right) }
+{
+    print_right(arena, env, t, true, out)
+}
+
+#[cycle(printer)]
+fn left_function(arena: &Arena, env: Env, ret: u32, out: &mut Output) -> Result<(), AllocError>
+    requires ret { ret < size arena.now }
+    ensures prints { Prints result out.old out.new ((spec.print (tree_at (forest arena.now) ret) env).text.left ++ spec.function_blank env (spec.print (tree_at (forest arena.now) ret) env)) }
+{
     tri!(print_left(arena, env, ret, out));
-    if !env.is_llvm() {
-        if is_starred(arena, env, ret) && has_right(arena, env, ret) {
-            return Ok(());
-        }
+    blank_behind_ret(arena, env, ret, out)
+}
+
+fn blank_behind_ret(arena: &Arena, env: Env, ret: u32, out: &mut Output) -> Result<(), AllocError>
+    requires ret { ret < size arena.now }
+    ensures prints { Prints result out.old out.new (spec.function_blank env (spec.print (tree_at (forest arena.now) ret) env)) }
+{
+    if env.is_llvm() {
+        return write(out, b" ");
     }
-    out.add(b" ")
+    write_blank_unless(is_starred(arena, env, ret) && has_right(arena, env, ret), out)
 }
 
 #[cycle(printer)]
 fn right_function(
     arena: &Arena,
     env: Env,
+    bound: u32,
     ret: u32,
     params: List,
     cv: Cv,
     ref_qual: RefQual,
     exception: Parts,
     out: &mut Output,
-) -> Result<(), AllocError> {
-    tri!(print_parens(arena, env, params, out));
+) -> Result<(), AllocError>
+    requires bound { bound ≤ size arena.now }
+    requires ret { ret < bound }
+    requires params { IsListBelow arena.now.held bound params }
+    requires exception { IsPartsBelow arena.now.held bound exception }
+    ensures prints { Prints result out.old out.new ((spec.called env (spec.print (tree_at (forest arena.now) ret) env) (spec.items_of (trees_in arena.now.held (forest arena.now) params)) cv ref_qual (spec.print_parts (parts_in arena.now.held (forest arena.now) exception) env)).text.right) }
+{
+    tri!(print_parens(arena, env, bound, params, out));
     if env.is_llvm() {
-        tri!(print_right(arena, env, ret, false, out));
-        tri!(write(out, cv_text(cv)));
-        tri!(write(out, ref_text(ref_qual)));
-        return print_parts(arena, env, exception, out);
+        return behind_params(arena, env, bound, ret, cv, ref_qual, exception, out);
     }
-    tri!(print_parts(arena, env, exception, out));
+    gnu_behind_params(arena, env, bound, ret, cv, ref_qual, exception, out)
+}
+
+#[cycle(printer)]
+fn behind_params(
+    arena: &Arena,
+    env: Env,
+    bound: u32,
+    ret: u32,
+    cv: Cv,
+    ref_qual: RefQual,
+    exception: Parts,
+    out: &mut Output,
+) -> Result<(), AllocError>
+    requires bound { bound ≤ size arena.now }
+    requires ret { ret < bound }
+    requires exception { IsPartsBelow arena.now.held bound exception }
+    ensures prints { Prints result out.old out.new (spec.right_behind false (spec.print (tree_at (forest arena.now) ret) env).text ++ (words.cv_text cv ++ (words.ref_text ref_qual ++ (spec.print_parts (parts_in arena.now.held (forest arena.now) exception) env).text))) }
+{
+    tri!(print_right(arena, env, ret, false, out));
+    tri!(write(out, cv_text(cv)));
+    tri!(write(out, ref_text(ref_qual)));
+    print_parts(arena, env, bound, exception, out)
+}
+
+#[cycle(printer)]
+fn gnu_behind_params(
+    arena: &Arena,
+    env: Env,
+    bound: u32,
+    ret: u32,
+    cv: Cv,
+    ref_qual: RefQual,
+    exception: Parts,
+    out: &mut Output,
+) -> Result<(), AllocError>
+    requires bound { bound ≤ size arena.now }
+    requires ret { ret < bound }
+    requires exception { IsPartsBelow arena.now.held bound exception }
+    ensures prints { Prints result out.old out.new ((spec.print_parts (parts_in arena.now.held (forest arena.now) exception) env).text ++ (words.cv_text cv ++ (words.ref_text ref_qual ++ spec.right_behind false (spec.print (tree_at (forest arena.now) ret) env).text))) }
+{
+    tri!(print_parts(arena, env, bound, exception, out));
     tri!(write(out, cv_text(cv)));
     tri!(write(out, ref_text(ref_qual)));
     print_right(arena, env, ret, false, out)
 }
 
 #[cycle(printer)]
-fn left_encoding(
-    arena: &Arena,
-    env: Env,
-    ret: Option<u32>,
-    name: u32,
-    out: &mut Output,
-) -> Result<(), AllocError> {
-    if let Some(ret) = ret {
-        tri!(left_non_type(arena, env, ret, out));
-    }
+fn left_encoding(arena: &Arena, env: Env, ret: Option<u32>, name: u32, out: &mut Output) -> Result<(), AllocError>
+    requires ret { IsOptionBelow (size arena.now) ret }
+    requires name { name < size arena.now }
+    ensures prints { Prints result out.old out.new (spec.ret_text_left (spec.items_of (option_at (forest arena.now) ret)) env ++ spec.whole (spec.print (tree_at (forest arena.now) name) env)) }
+{
+    tri!(left_ret(arena, env, ret, out));
     print(arena, env, name, out)
 }
 
 #[cycle(printer)]
-fn right_encoding(
-    arena: &Arena,
-    env: Env,
-    ret: Option<u32>,
-    params: List,
-    cv: Cv,
-    ref_qual: RefQual,
-    rest: Parts,
-    out: &mut Output,
-) -> Result<(), AllocError> {
-    tri!(print_parens(arena, env, params, out));
-    if env.is_llvm() {
-        tri!(right_option(arena, env, ret, out));
-        tri!(write(out, cv_text(cv)));
-        tri!(write(out, ref_text(ref_qual)));
-        return print_parts(arena, env, rest, out);
+fn left_ret(arena: &Arena, env: Env, ret: Option<u32>, out: &mut Output) -> Result<(), AllocError>
+    requires ret { IsOptionBelow (size arena.now) ret }
+    ensures prints { Prints result out.old out.new (spec.ret_text_left (spec.items_of (option_at (forest arena.now) ret)) env) }
+{
+    match ret {
+        None => Ok(()),
+        Some(t) => left_non_type(arena, env, t, out),
     }
-    tri!(write(out, cv_text(cv)));
-    tri!(write(out, ref_text(ref_qual)));
-    tri!(right_option(arena, env, ret, out));
-    print_parts(arena, env, rest, out)
 }
 
 #[cycle(printer)]
-fn right_option(
-    arena: &Arena,
-    env: Env,
-    ret: Option<u32>,
-    out: &mut Output,
-) -> Result<(), AllocError> {
+fn right_ret(arena: &Arena, env: Env, ret: Option<u32>, out: &mut Output) -> Result<(), AllocError>
+    requires ret { IsOptionBelow (size arena.now) ret }
+    ensures prints { Prints result out.old out.new (spec.ret_text_right (spec.items_of (option_at (forest arena.now) ret)) env) }
+{
     match ret {
         None => Ok(()),
         Some(t) => print_right(arena, env, t, false, out),
@@ -912,8 +1303,101 @@ fn right_option(
 }
 
 #[cycle(printer)]
-fn left_pack(arena: &Arena, env: Env, items: List, out: &mut Output) -> Result<(), AllocError> {
-    match element(env, arena.items(items)) {
+fn right_encoding(
+    arena: &Arena,
+    env: Env,
+    bound: u32,
+    ret: Option<u32>,
+    params: List,
+    cv: Cv,
+    ref_qual: RefQual,
+    rest: Parts,
+    out: &mut Output,
+) -> Result<(), AllocError>
+    requires bound { bound ≤ size arena.now }
+    requires ret { IsOptionBelow bound ret }
+    requires params { IsListBelow arena.now.held bound params }
+    requires rest { IsPartsBelow arena.now.held bound rest }
+    ensures prints { Prints result out.old out.new (spec.signature_right env (spec.ret_text_right (spec.items_of (option_at (forest arena.now) ret)) env) (spec.items_of (trees_in arena.now.held (forest arena.now) params)) cv ref_qual (spec.print_parts (parts_in arena.now.held (forest arena.now) rest) env)) }
+{
+    tri!(print_parens(arena, env, bound, params, out));
+    if env.is_llvm() {
+        return behind_signature(arena, env, bound, ret, cv, ref_qual, rest, out);
+    }
+    gnu_behind_signature(arena, env, bound, ret, cv, ref_qual, rest, out)
+}
+
+#[cycle(printer)]
+fn behind_signature(
+    arena: &Arena,
+    env: Env,
+    bound: u32,
+    ret: Option<u32>,
+    cv: Cv,
+    ref_qual: RefQual,
+    rest: Parts,
+    out: &mut Output,
+) -> Result<(), AllocError>
+    requires bound { bound ≤ size arena.now }
+    requires ret { IsOptionBelow bound ret }
+    requires rest { IsPartsBelow arena.now.held bound rest }
+    ensures prints { Prints result out.old out.new (spec.ret_text_right (spec.items_of (option_at (forest arena.now) ret)) env ++ (words.cv_text cv ++ (words.ref_text ref_qual ++ (spec.print_parts (parts_in arena.now.held (forest arena.now) rest) env).text))) }
+{
+    tri!(right_ret(arena, env, ret, out));
+    tri!(write(out, cv_text(cv)));
+    tri!(write(out, ref_text(ref_qual)));
+    print_parts(arena, env, bound, rest, out)
+}
+
+#[cycle(printer)]
+fn gnu_behind_signature(
+    arena: &Arena,
+    env: Env,
+    bound: u32,
+    ret: Option<u32>,
+    cv: Cv,
+    ref_qual: RefQual,
+    rest: Parts,
+    out: &mut Output,
+) -> Result<(), AllocError>
+    requires bound { bound ≤ size arena.now }
+    requires ret { IsOptionBelow bound ret }
+    requires rest { IsPartsBelow arena.now.held bound rest }
+    ensures prints { Prints result out.old out.new (words.cv_text cv ++ (words.ref_text ref_qual ++ (spec.ret_text_right (spec.items_of (option_at (forest arena.now) ret)) env ++ (spec.print_parts (parts_in arena.now.held (forest arena.now) rest) env).text))) }
+{
+    tri!(write(out, cv_text(cv)));
+    tri!(write(out, ref_text(ref_qual)));
+    tri!(right_ret(arena, env, ret, out));
+    print_parts(arena, env, bound, rest, out)
+}
+
+// Appends what follows the name of a function without its return type.
+#[cycle(printer)]
+fn right_signature(
+    arena: &Arena,
+    env: Env,
+    bound: u32,
+    params: List,
+    cv: Cv,
+    ref_qual: RefQual,
+    rest: Parts,
+    out: &mut Output,
+) -> Result<(), AllocError>
+    requires bound { bound ≤ size arena.now }
+    requires params { IsListBelow arena.now.held bound params }
+    requires rest { IsPartsBelow arena.now.held bound rest }
+    ensures prints { Prints result out.old out.new (spec.signature_right env [] (spec.items_of (trees_in arena.now.held (forest arena.now) params)) cv ref_qual (spec.print_parts (parts_in arena.now.held (forest arena.now) rest) env)) }
+{
+    right_encoding(arena, env, bound, None, params, cv, ref_qual, rest, out)
+}
+
+#[cycle(printer)]
+fn left_pack(arena: &Arena, env: Env, bound: u32, items: List, out: &mut Output) -> Result<(), AllocError>
+    requires bound { bound ≤ size arena.now }
+    requires items { IsListBelow arena.now.held bound items }
+    ensures prints { Prints result out.old out.new ((spec.print (pack (trees_in arena.now.held (forest arena.now) items)) env).text.left) }
+{
+    match element(arena, env, bound, items) {
         None => Ok(()),
         Some(t) => print_left(arena, env, t, out),
     }
@@ -923,11 +1407,16 @@ fn left_pack(arena: &Arena, env: Env, items: List, out: &mut Output) -> Result<(
 fn right_pack(
     arena: &Arena,
     env: Env,
+    bound: u32,
     items: List,
     joined: bool,
     out: &mut Output,
-) -> Result<(), AllocError> {
-    match element(env, arena.items(items)) {
+) -> Result<(), AllocError>
+    requires bound { bound ≤ size arena.now }
+    requires items { IsListBelow arena.now.held bound items }
+    ensures prints { Prints result out.old out.new (spec.right_behind joined (spec.print (pack (trees_in arena.now.held (forest arena.now) items)) env).text) }
+{
+    match element(arena, env, bound, items) {
         None => Ok(()),
         Some(t) => print_right(arena, env, t, joined, out),
     }

@@ -1,41 +1,64 @@
-//! What is asked of a tree without printing it.
-//!
-//! Where a tree is a pack, its element is asked.
+//! What is asked of a tree without printing it. Where a tree is a pack, its element is asked.
+#![tactic(auto, using(crate::proofs::Packs::packs), unfolding(cxx_tree::specs::Stored::tree_of, cxx_tree::specs::Stored::plain_tree, cxx_tree::specs::Stored::declaration_tree, cxx_tree::specs::Stored::IsBelow, cxx_tree::specs::Stored::IsPlainBelow, cxx_tree::specs::Stored::IsDeclarationBelow, crate::specs::Printing::print))]
+
+ghost use Rattle.std.specs.Prelude.{◌≡◌, ℕ, ◌<◌, ◌≤◌, Bool, true, false, Option, MatchOption, IfSome};
+ghost use Rattle.std.specs.List.{AllByRecursion};
+ghost use Rattle.cxx_tree.specs.Tree.{pack};
+ghost use Rattle.cxx_tree.specs.Stored.{forest, size, tree_at, trees_at, trees_in, plain_tree, parts_in, parts_at, parts_of, IsListBelow, IsPlainBelow, IsPartsBelow, IsPartBelow};
+ghost use Rattle.cxx_printer.specs.Printing as spec;
+ghost use Rattle.cxx_printer.specs.Words.{ending, within};
+ghost use Rattle.cxx_tree.specs.Measure.{measure};
+ghost use Rattle.cxx_printer.specs.Heads as heads;
+ghost use Rattle.cxx_printer.specs.Asked.{OneSided, Refers, ends_of_part};
 
 use crate::env::Env;
-use crate::operands::{is_simple, named_address};
+use crate::operands::{is_named_address, is_simple, protocol_of};
 use crate::words::{Form, std_text};
-use cxx_tree::{Arena, Listing, Manner, Node, Part, Parts, Phrase, Plain};
+use cxx_tree::{Arena, List, Listing, Manner, Node, Part, Parts, Phrase, Plain};
 
-/// The element of a pack that is printed.
-pub fn element(env: Env, items: &[u32]) -> Option<u32> {
+/// Returns the element of a pack that is printed, if there is one.
+pub fn element(arena: &Arena, env: Env, bound: u32, list: List) -> Option<u32>
+    requires below { IsListBelow arena.now.held bound list }
+    ensures value { MatchOption result
+        (spec.print (pack (trees_in arena.now.held (forest arena.now) list)) env ≡ spec.nothing)
+        (λ t. spec.print (pack (trees_in arena.now.held (forest arena.now) list)) env
+            ≡ spec.element_of (spec.print (tree_at (forest arena.now) t) env)) }
+    ensures below { IfSome result (λ t. t < bound) }
+{
+    let items = arena.items(list);
     let k = match env.pack {
         None => 0,
         Some(k) => k as usize,
     };
-    if k < items.len() {
-        Some(items[k])
-    } else {
-        None
+    if k >= items.len() {
+        return None;
     }
+    Some(items[k])
 }
 
 /// Returns the form of a type.
-pub fn form_of(arena: &Arena, env: Env, i: u32) -> Form {
+pub fn form_of(arena: &Arena, env: Env, i: u32) -> Form
+    requires within { i < size arena.now }
+    ensures value { result ≡ (spec.print (tree_at (forest arena.now) i) env).text.form }
+{
     match arena.node(i) {
+        Node::Plain(_) => Form::Plain,
+        Node::Declaration(_) | Node::Pointer(_) | Node::Reference(_, _) | Node::MemberPointer(_, _) => Form::Plain,
         Node::Array(_, _) => Form::Arrayed,
         Node::Function(_, _, _, _, _) | Node::Encoding(_, _, _, _, _, _) => Form::Callable,
         Node::Qualified(t, _) => form_of(arena, env, t),
-        Node::Pack(items) => match element(env, arena.items(items)) {
+        Node::Pack(items) => match element(arena, env, i, items) {
             None => Form::Plain,
             Some(t) => form_of(arena, env, t),
         },
-        _ => Form::Plain,
     }
 }
 
 /// Returns whether a tree has one side alone, whatever it is printed in. Where it says no there may be one alone too.
-pub fn is_one_sided(arena: &Arena, i: u32) -> bool {
+pub fn is_one_sided(arena: &Arena, i: u32) -> bool
+    requires within { i < size arena.now }
+    ensures value { result ≡ true → OneSided (tree_at (forest arena.now) i) }
+{
     match arena.node(i) {
         Node::Plain(_) => true,
         Node::Qualified(t, _) | Node::Pointer(t) | Node::Reference(t, _) => is_one_sided(arena, t),
@@ -44,17 +67,17 @@ pub fn is_one_sided(arena: &Arena, i: u32) -> bool {
 }
 
 /// Returns whether a tree has a right side.
-pub fn has_right(arena: &Arena, env: Env, i: u32) -> bool {
+pub fn has_right(arena: &Arena, env: Env, i: u32) -> bool
+    requires within { i < size arena.now }
+    ensures value { result ≡ (spec.print (tree_at (forest arena.now) i) env).has_right }
+{
     match arena.node(i) {
         Node::Plain(_) => false,
         Node::Declaration(_) => true,
-        Node::Array(_, _) | Node::Function(_, _, _, _, _) | Node::Encoding(_, _, _, _, _, _) =>
-            true,
-        Node::Qualified(t, _) | Node::Pointer(t) | Node::Reference(t, _) => has_right(
-            arena, env, t,
-        ),
+        Node::Array(_, _) | Node::Function(_, _, _, _, _) | Node::Encoding(_, _, _, _, _, _) => true,
+        Node::Qualified(t, _) | Node::Pointer(t) | Node::Reference(t, _) => has_right(arena, env, t),
         Node::MemberPointer(_, member) => has_right(arena, env, member),
-        Node::Pack(items) => match element(env, arena.items(items)) {
+        Node::Pack(items) => match element(arena, env, i, items) {
             None => false,
             Some(t) => has_right(arena, env, t),
         },
@@ -62,10 +85,14 @@ pub fn has_right(arena: &Arena, env: Env, i: u32) -> bool {
 }
 
 /// Returns whether a tree is a pointer.
-pub fn is_starred(arena: &Arena, env: Env, i: u32) -> bool {
+pub fn is_starred(arena: &Arena, env: Env, i: u32) -> bool
+    requires within { i < size arena.now }
+    ensures value { result ≡ (spec.print (tree_at (forest arena.now) i) env).star }
+{
     match arena.node(i) {
+        Node::Plain(_) => false,
         Node::Pointer(_) | Node::MemberPointer(_, _) => true,
-        Node::Pack(items) => match element(env, arena.items(items)) {
+        Node::Pack(items) => match element(arena, env, i, items) {
             None => false,
             Some(t) => is_starred(arena, env, t),
         },
@@ -74,26 +101,43 @@ pub fn is_starred(arena: &Arena, env: Env, i: u32) -> bool {
 }
 
 /// Returns whether the left side of a tree ends with a bracket that joins one behind it.
-pub fn is_closed(arena: &Arena, env: Env, i: u32) -> bool {
-    env.is_llvm() && ends_with_bracket(arena, env, i)
-}
-
-fn ends_with_bracket(arena: &Arena, env: Env, i: u32) -> bool {
+#[cycle(closings)]
+pub fn is_closed(arena: &Arena, env: Env, i: u32) -> bool
+    requires within { i < size arena.now }
+    ensures value { result ≡ (spec.print (tree_at (forest arena.now) i) env).closed }
+{
     match arena.node(i) {
-        Node::Plain(plain) => match plain {
-            Plain::Phrase(phrase, _) => phrase.is_closed,
-            Plain::AbiTag(_, _) => true,
-            Plain::Scoped(_, _, name) => ends_with_bracket(arena, env, name),
-            Plain::Data(name) => ends_with_bracket(arena, env, name),
-            _ => false,
-        },
-        Node::Array(element, _) => ends_with_bracket(arena, env, element),
-        Node::Pack(items) => match element(env, arena.items(items)) {
+        Node::Plain(plain) => is_plain_closed(arena, env, i, plain),
+        Node::Array(t, _) => is_closed(arena, env, t),
+        Node::Pack(items) => match element(arena, env, i, items) {
             None => false,
-            Some(t) => ends_with_bracket(arena, env, t),
+            Some(t) => is_closed(arena, env, t),
         },
         _ => false,
     }
+}
+
+#[cycle(closings)]
+fn is_plain_closed(arena: &Arena, env: Env, bound: u32, plain: Plain) -> bool
+    requires bound { bound ≤ size arena.now }
+    requires below { IsPlainBelow arena.now.held bound plain }
+    ensures value { result ≡ (spec.print (plain_tree arena.now.held (forest arena.now) plain) env).closed }
+{
+    match plain {
+        Plain::Phrase(phrase, _) => env.is_llvm() && phrase.is_closed,
+        Plain::AbiTag(_, _) => env.is_llvm(),
+        Plain::Scoped(is_friend, _, name) => is_scoped_closed(arena, env, is_friend, name),
+        Plain::Data(name) => is_closed(arena, env, name),
+        _ => false,
+    }
+}
+
+#[cycle(closings)]
+fn is_scoped_closed(arena: &Arena, env: Env, _is_friend: bool, name: u32) -> bool
+    requires within { name < size arena.now }
+    ensures value { result ≡ (spec.print (tree_at (forest arena.now) name) env).closed }
+{
+    is_closed(arena, env, name)
 }
 
 /// What a reference refers to in the end, if it isn't past the end of a pack, and the reference that all on the way
@@ -105,10 +149,15 @@ pub struct Referent {
 }
 
 /// Returns what a reference to a node refers to.
-pub fn referent_of(arena: &Arena, env: Env, is_lvalue: bool, i: u32) -> Referent {
+pub fn referent_of(arena: &Arena, env: Env, is_lvalue: bool, i: u32) -> Referent
+    requires within { i < size arena.now }
+    ensures kind { result.is_lvalue ≡ spec.collapsed is_lvalue (spec.print (tree_at (forest arena.now) i) env).kind }
+    ensures base { Refers result.base i (spec.print (tree_at (forest arena.now) i) env).base
+        (λ j. spec.print (tree_at (forest arena.now) j) env) }
+{
     match arena.node(i) {
         Node::Reference(t, inner) => referent_of(arena, env, is_lvalue || inner, t),
-        Node::Pack(items) => match element(env, arena.items(items)) {
+        Node::Pack(items) => match element(arena, env, i, items) {
             None => Referent {
                 is_lvalue,
                 base: None,
@@ -130,7 +179,9 @@ pub enum Ending {
     Other,
 }
 
-fn ending_of_text(bytes: &[u8]) -> Ending {
+fn ending_of_text(bytes: &[u8]) -> Ending
+    ensures value { result ≡ ending bytes.now }
+{
     match bytes {
         [.., b'<'] => Ending::Less,
         [.., b'>'] => Ending::Greater,
@@ -139,18 +190,15 @@ fn ending_of_text(bytes: &[u8]) -> Ending {
 }
 
 /// Returns how the text of a tree ends in GNU's style.
-pub fn ending_of(arena: &Arena, env: Env, i: u32) -> Ending {
+#[cycle(endings)]
+pub fn ending_of(arena: &Arena, env: Env, i: u32) -> Ending
+    requires within { i < size arena.now }
+    ensures value { result ≡ (spec.print (tree_at (forest arena.now) i) env).ends }
+{
     match arena.node(i) {
-        Node::Plain(plain) => ending_of_plain(arena, env, plain),
-        Node::Pointer(t) => match arena.node(t) {
-            Node::Plain(Plain::ObjcProtocol(name, _)) => if is_objc_object(arena, name) {
-                Ending::Greater
-            } else {
-                Ending::Other
-            },
-            _ => Ending::Other,
-        },
-        Node::Pack(items) => match element(env, arena.items(items)) {
+        Node::Plain(plain) => ending_of_plain(arena, env, i, plain),
+        Node::Pointer(t) => ending_of_pointer(arena, t),
+        Node::Pack(items) => match element(arena, env, i, items) {
             None => Ending::Other,
             Some(t) => ending_of(arena, env, t),
         },
@@ -158,46 +206,74 @@ pub fn ending_of(arena: &Arena, env: Env, i: u32) -> Ending {
     }
 }
 
-fn ending_of_plain(arena: &Arena, env: Env, plain: Plain) -> Ending {
+fn ending_of_pointer(arena: &Arena, t: u32) -> Ending
+    requires within { t < size arena.now }
+    ensures value { (p : spec.Printed) → result ≡ (spec.pointed (heads.protocol_of (tree_at (forest arena.now) t)) p).ends }
+{
+    match protocol_of(arena, t) {
+        None => Ending::Other,
+        Some(_) => Ending::Greater,
+    }
+}
+
+#[cycle(endings)]
+fn ending_of_plain(arena: &Arena, env: Env, bound: u32, plain: Plain) -> Ending
+    requires bound { bound ≤ size arena.now }
+    requires below { IsPlainBelow arena.now.held bound plain }
+    ensures value { result ≡ (spec.print (plain_tree arena.now.held (forest arena.now) plain) env).ends }
+{
     match plain {
         Plain::Name(text) => ending_of_text(arena.bytes(text)),
         Plain::Leaf(_, _, _) => Ending::Other,
         Plain::StdName(std, is_expanded) => ending_of_text(std_text(env.style, std, is_expanded)),
-        Plain::Phrase(phrase, parts) => ending_of_phrase(arena, env, phrase, parts),
-        Plain::Scoped(_, _, name) => ending_of(arena, env, name),
+        Plain::Phrase(phrase, parts) => ending_of_phrase(arena, env, bound, phrase, parts),
+        Plain::Scoped(is_friend, _, name) => ending_of_scoped(arena, env, is_friend, name),
         Plain::WithArgs(_, _) => Ending::Greater,
         Plain::AbiTag(_, _) => Ending::Other,
         Plain::InModule(_, owner) => ending_of(arena, env, owner),
         Plain::Data(name) => ending_of(arena, env, name),
         Plain::ObjcProtocol(_, _) => Ending::Greater,
-        Plain::List(items) => ending_of_list(arena, env, arena.items(items)),
+        Plain::List(items) => ending_of_list(arena, env, bound, arena.items(items)),
         Plain::Expansion(t) => ending_of_expansion(arena, env, t),
         Plain::Param(_, _) => Ending::Other,
     }
 }
 
-fn ending_of_phrase(arena: &Arena, env: Env, phrase: Phrase, parts: Parts) -> Ending {
+#[cycle(endings)]
+fn ending_of_scoped(arena: &Arena, env: Env, _is_friend: bool, name: u32) -> Ending
+    requires within { name < size arena.now }
+    ensures value { result ≡ (spec.print (tree_at (forest arena.now) name) env).ends }
+{
+    ending_of(arena, env, name)
+}
+
+#[cycle(endings)]
+fn ending_of_phrase(arena: &Arena, env: Env, bound: u32, phrase: Phrase, parts: Parts) -> Ending
+    requires bound { bound ≤ size arena.now }
+    requires below { IsPartsBelow arena.now.held bound parts }
+    ensures value { result ≡ (spec.phrased phrase env (spec.print_parts (parts_in arena.now.held (forest arena.now) parts)
+        (within env phrase.guard))).ends }
+{
     if !phrase.is_open {
         return Ending::Other;
     }
-    match arena.parts_of(parts) {
-        [.., last] => ending_of_part(arena, env.within(phrase.guard), *last),
-        [] => Ending::Other,
+    let parts = arena.parts_of(parts);
+    let n = parts.len();
+    if n == 0 {
+        return Ending::Other;
     }
+    ending_of_part(arena, env.within(phrase.guard), bound, parts[n - 1])
 }
 
-fn ending_of_part(arena: &Arena, env: Env, part: Part) -> Ending {
+#[cycle(endings)]
+fn ending_of_part(arena: &Arena, env: Env, bound: u32, part: Part) -> Ending
+    requires bound { bound ≤ size arena.now }
+    requires below { IsPartBelow arena.now.held bound part }
+    ensures value { result ≡ ends_of_part arena.now.held (forest arena.now) env part }
+{
     match part {
         Part::Text(_, gnu) => ending_of_text(arena.bytes(gnu)),
-        Part::Tree(manner, t) => match manner {
-            Manner::Whole(context) => ending_of(arena, env.in_context(context), t),
-            Manner::Operand(_, _) | Manner::Argument => ending_of_operand(arena, env, t),
-            Manner::Address(_) => match named_address(arena, t) {
-                Some(name) => ending_of(arena, env, name),
-                None => ending_of_operand(arena, env, t),
-            },
-            _ => Ending::Other,
-        },
+        Part::Tree(manner, t) => ending_of_tree(arena, env, manner, t),
         Part::Trees(listing, _) => match listing {
             Listing::Angles => Ending::Greater,
             _ => Ending::Other,
@@ -205,33 +281,69 @@ fn ending_of_part(arena: &Arena, env: Env, part: Part) -> Ending {
     }
 }
 
-fn ending_of_operand(arena: &Arena, env: Env, t: u32) -> Ending {
-    if is_simple(arena, t) {
-        ending_of(arena, env, t)
-    } else {
-        Ending::Other
+#[cycle(endings)]
+fn ending_of_tree(arena: &Arena, env: Env, manner: Manner, t: u32) -> Ending
+    requires within { t < size arena.now }
+    ensures value { result ≡ spec.part_ends manner env (spec.item (tree_at (forest arena.now) t)) }
+{
+    match manner {
+        Manner::Whole(context) => ending_of(arena, env.in_context(context), t),
+        Manner::Operand(_, _) | Manner::Argument => ending_of_operand(arena, env, t),
+        Manner::Address(_) => ending_of_address(arena, env, t),
+        _ => Ending::Other,
     }
+}
+
+#[cycle(endings)]
+fn ending_of_address(arena: &Arena, env: Env, t: u32) -> Ending
+    requires within { t < size arena.now }
+    ensures value { result ≡ spec.address_ends (spec.named_address (spec.print (tree_at (forest arena.now) t) env).function)
+        (spec.operand_ends env (spec.item (tree_at (forest arena.now) t))) }
+{
+    match arena.node(t) {
+        Node::Encoding(_, name, _, cv, ref_qual, _) => {
+            if is_named_address(arena, name, cv, ref_qual) {
+                return ending_of(arena, env, name);
+            }
+            ending_of_operand(arena, env, t)
+        }
+        _ => ending_of_operand(arena, env, t),
+    }
+}
+
+#[cycle(endings)]
+fn ending_of_operand(arena: &Arena, env: Env, t: u32) -> Ending
+    requires within { t < size arena.now }
+    ensures value { result ≡ spec.operand_ends env (spec.item (tree_at (forest arena.now) t)) }
+{
+    if is_simple(arena, t) {
+        return ending_of(arena, env, t);
+    }
+    Ending::Other
 }
 
 /// Returns how a list ends in GNU's style.
-pub fn ending_of_list(arena: &Arena, env: Env, items: &[u32]) -> Ending {
-    match items {
-        [.., last] => ending_of(arena, env, *last),
-        [] => Ending::Other,
+#[cycle(endings)]
+pub fn ending_of_list(arena: &Arena, env: Env, bound: u32, items: &[u32]) -> Ending
+    requires bound { bound ≤ size arena.now }
+    requires below { AllByRecursion (λ t. t < bound) items.now }
+    ensures value { result ≡ spec.last_ends env (spec.items_of (trees_at (forest arena.now) items.now)) }
+{
+    let n = items.len();
+    if n == 0 {
+        return Ending::Other;
     }
+    ending_of(arena, env, items[n - 1])
 }
 
-fn ending_of_expansion(arena: &Arena, env: Env, t: u32) -> Ending {
+#[cycle(endings)]
+fn ending_of_expansion(arena: &Arena, env: Env, t: u32) -> Ending
+    requires within { t < size arena.now }
+    ensures value { result ≡ spec.expansion_ends env (measure (tree_at (forest arena.now) t)).elements
+        (spec.item (tree_at (forest arena.now) t)) }
+{
     match arena.measure(t).elements {
         None | Some(0) => Ending::Other,
         Some(n) => ending_of(arena, env.at(Some(n - 1)), t),
-    }
-}
-
-/// Returns whether a node is the name `objc_object`.
-pub fn is_objc_object(arena: &Arena, i: u32) -> bool {
-    match arena.node(i) {
-        Node::Plain(Plain::Name(name)) => arena.bytes(name) == b"objc_object",
-        _ => false,
     }
 }

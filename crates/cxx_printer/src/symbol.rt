@@ -56,7 +56,7 @@ fn print_mode(
     match arena.node(i) {
         Node::Encoding(_, name, params, cv, ref_qual, rest) => match mode {
             Mode::Name => print(arena, env, name, out),
-            Mode::Signature => print_signature(arena, env, name, params, cv, ref_qual, rest, out),
+            Mode::Signature => print_signature(arena, env, i, name, params, cv, ref_qual, rest, out),
             Mode::Declaration => print(arena, env, i, out),
         },
         _ => print(arena, env, i, out),

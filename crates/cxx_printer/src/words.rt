@@ -1,4 +1,9 @@
 //! Words that are printed.
+#![tactic(auto, unfolding(crate::specs::Words::std_text, crate::specs::Words::short_std_text, crate::specs::Words::llvm_std_text, crate::specs::Words::gnu_std_text, crate::specs::Words::cv_text, crate::specs::Words::ref_text, crate::specs::Words::mark, crate::specs::Words::opened, crate::specs::Words::member_opened, crate::specs::Words::closed))]
+
+
+ghost use Rattle.std.specs.Prelude.{◌≡◌, ℕ, Bool, List};
+ghost use Rattle.cxx_printer.specs.Words as spec;
 
 use crate::env::Style;
 use cxx_tree::{Cv, RefQual, Std};
@@ -12,7 +17,9 @@ pub enum Form {
 }
 
 /// Returns the text of an abbreviation of `std`.
-pub fn std_text(style: Style, std: Std, is_expanded: bool) -> &'static [u8] {
+pub fn std_text(style: Style, std: Std, is_expanded: bool) -> &'static [u8]
+    ensures value { result.now ≡ spec.std_text style std is_expanded }
+{
     let is_long = match style {
         Style::Gnu => true,
         Style::Llvm | Style::GnuShort => is_expanded,
@@ -26,7 +33,9 @@ pub fn std_text(style: Style, std: Std, is_expanded: bool) -> &'static [u8] {
     }
 }
 
-fn short_std_text(std: Std) -> &'static [u8] {
+fn short_std_text(std: Std) -> &'static [u8]
+    ensures value { result.now ≡ spec.short_std_text std }
+{
     match std {
         Std::Allocator => b"std::allocator",
         Std::BasicString => b"std::basic_string",
@@ -37,7 +46,9 @@ fn short_std_text(std: Std) -> &'static [u8] {
     }
 }
 
-fn llvm_std_text(std: Std) -> &'static [u8] {
+fn llvm_std_text(std: Std) -> &'static [u8]
+    ensures value { result.now ≡ spec.llvm_std_text std }
+{
     match std {
         Std::Allocator => b"std::allocator",
         Std::BasicString => b"std::basic_string",
@@ -48,7 +59,9 @@ fn llvm_std_text(std: Std) -> &'static [u8] {
     }
 }
 
-fn gnu_std_text(std: Std) -> &'static [u8] {
+fn gnu_std_text(std: Std) -> &'static [u8]
+    ensures value { result.now ≡ spec.gnu_std_text std }
+{
     match std {
         Std::Allocator => b"std::allocator",
         Std::BasicString => b"std::basic_string",
@@ -60,7 +73,9 @@ fn gnu_std_text(std: Std) -> &'static [u8] {
 }
 
 /// Returns qualifiers, each behind a blank.
-pub fn cv_text(cv: Cv) -> &'static [u8] {
+pub fn cv_text(cv: Cv) -> &'static [u8]
+    ensures value { result.now ≡ spec.cv_text cv }
+{
     match (cv.is_const, cv.is_volatile, cv.is_restrict) {
         (false, false, false) => b"",
         (true, false, false) => b" const",
@@ -74,7 +89,9 @@ pub fn cv_text(cv: Cv) -> &'static [u8] {
 }
 
 /// Returns the reference qualifier of a function.
-pub fn ref_text(ref_qual: RefQual) -> &'static [u8] {
+pub fn ref_text(ref_qual: RefQual) -> &'static [u8]
+    ensures value { result.now ≡ spec.ref_text ref_qual }
+{
     match ref_qual {
         RefQual::None => b"",
         RefQual::Lvalue => b" &",
@@ -83,12 +100,16 @@ pub fn ref_text(ref_qual: RefQual) -> &'static [u8] {
 }
 
 /// Returns the mark of a reference.
-pub fn mark(is_lvalue: bool) -> &'static [u8] {
+pub fn mark(is_lvalue: bool) -> &'static [u8]
+    ensures value { result.now ≡ spec.mark is_lvalue }
+{
     if is_lvalue { b"&" } else { b"&&" }
 }
 
 /// Returns what stands before the mark of a pointer or a reference to a type.
-pub fn opened(form: Form) -> &'static [u8] {
+pub fn opened(form: Form) -> &'static [u8]
+    ensures value { result.now ≡ spec.opened form }
+{
     match form {
         Form::Plain => b"",
         Form::Arrayed => b" (",
@@ -97,7 +118,9 @@ pub fn opened(form: Form) -> &'static [u8] {
 }
 
 /// Returns what stands before the class of a pointer to a member.
-pub fn member_opened(style: Style, form: Form) -> &'static [u8] {
+pub fn member_opened(style: Style, form: Form) -> &'static [u8]
+    ensures value { result.now ≡ spec.member_opened style form }
+{
     match form {
         Form::Plain => b" ",
         Form::Arrayed => match style {
@@ -109,7 +132,9 @@ pub fn member_opened(style: Style, form: Form) -> &'static [u8] {
 }
 
 /// Returns what stands before the right side of a type that a pointer or a reference refers to.
-pub fn closed(form: Form) -> &'static [u8] {
+pub fn closed(form: Form) -> &'static [u8]
+    ensures value { result.now ≡ spec.closed form }
+{
     match form {
         Form::Plain => b"",
         Form::Arrayed | Form::Callable => b")",

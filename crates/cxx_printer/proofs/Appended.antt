@@ -1,0 +1,16 @@
+use Rattle.std.proofs.Common.{ℕ, ◌≡◌, ◌+◌, ◌<◌, ◌≤◌, Bool, List, [], ◌∷◌, ◌++◌, length, refl, sym, ap, ◌∙◌, arith, append_assoc, Result, Ok, Err}
+use Rattle.std.specs.declared.alloc.AllocError.{AllocError}
+use Rattle.cxx_printer.specs.Prints.{Prints}
+
+-- one text, and then another
+pub prints_then : (r : Result (Unit {0}) AllocError) (a b c x y : List ℕ) → b ≡ a ++ x → Prints r b c y → Prints r a c (x ++ y)
+unfolding Prints
+prints_then (Ok u) a b c x y h k = k ∙ ap (λ (l : List ℕ). l ++ y) h ∙ append_assoc a x y
+prints_then (Err e) a b c x y h k = tt
+
+-- memory was refused
+pub prints_refused : (e : AllocError) (a b : List ℕ) (x : List ℕ) → Prints (Err e) a b x
+unfolding Prints
+prints_refused e a b x = tt
+
+pub ruleset prints = (prints_then, prints_refused)

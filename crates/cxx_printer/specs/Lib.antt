@@ -1,0 +1,5 @@
+pub mod Words
+pub mod Heads
+pub mod Printing
+pub mod Prints
+pub mod Asked
