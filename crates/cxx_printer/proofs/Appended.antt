@@ -1,4 +1,5 @@
-use Rattle.std.proofs.Common.{ℕ, ◌≡◌, ◌+◌, ◌<◌, ◌≤◌, Bool, List, [], ◌∷◌, ◌++◌, length, refl, sym, ap, ◌∙◌, arith, append_assoc, Result, Ok, Err}
+use Rattle.std.proofs.Common.{ℕ, ◌≡◌, ◌+◌, ◌<◌, ◌≤◌, Bool, List, [], ◌∷◌, ◌++◌, length, refl, sym, ap, ◌∙◌, arith, append_assoc, Result, Ok, Err, OnOk}
+use Rattle.std.proofs.lemmas.List.{append-nil}
 use Rattle.std.specs.declared.alloc.AllocError.{AllocError}
 use Rattle.cxx_printer.specs.Prints.{Prints}
 
@@ -13,4 +14,15 @@ pub prints_refused : (e : AllocError) (a b : List ℕ) (x : List ℕ) → Prints
 unfolding Prints
 prints_refused e a b x = tt
 
-pub ruleset prints = (prints_then, prints_refused)
+-- nothing is appended
+pub prints_nothing : (u : Unit {0}) (a x : List ℕ) → x ≡ [] → Prints (Ok u) a a x
+unfolding Prints
+prints_nothing u a x e = sym (append-nil a) ∙ ap (λ (l : List ℕ). a ++ l) (sym e)
+
+-- a call that appends
+pub prints_added : (r : Result (Unit {0}) AllocError) (a b x : List ℕ) → OnOk r (b ≡ a ++ x) → Prints r a b x
+unfolding Prints
+prints_added (Ok u) a b x h = h
+prints_added (Err e) a b x h = tt
+
+pub ruleset prints = (prints_then, prints_refused, prints_nothing)

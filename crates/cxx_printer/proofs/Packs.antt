@@ -4,7 +4,9 @@ use Rattle.std.specs.List.{AllByRecursion}
 use Rattle.cxx_tree.specs.Tree.{Tree, Trees, pack}
 use Rattle.cxx_tree.specs.Stored.{tree_at, trees_at}
 use Rattle.cxx_printer.specs.declared.env.Env.{Env}
-use Rattle.cxx_printer.specs.Printing.{Printed, Item, print, items_of, printed_at, nothing, element_of, item, last_ends}
+use Rattle.cxx_printer.specs.Words.{ending, ending_of_byte}
+use Rattle.cxx_printer.specs.Printing.{Printed, Item, print, items_of, printed_at, nothing, element_of, item, last_ends, index_or_zero}
+use Rattle.cxx_printer.specs.declared.shapes.Ending.TheVariants.{Other}
 
 -- the element of a pack
 pub printed_at-item : (ts : List Tree) (is : List ℕ) (env : Env) (k d : ℕ) → k < length is → printed_at (items_of (trees_at ts is)) k env ≡ print (tree_at ts (get_or is k d)) env
@@ -33,4 +35,37 @@ last_ends-at ts env (i ∷ []) (suc k) d h = absurd (omega (arith, h))
 last_ends-at ts env (i ∷ j ∷ is) zero d h = absurd (omega (arith, h))
 last_ends-at ts env (i ∷ j ∷ is) (suc k) d h = last_ends-at ts env (j ∷ is) k d (omega (arith, h))
 
-pub ruleset packs = (below_at)
+pub ending-at : (bs : List ℕ) (k d : ℕ) → length bs ≡ suc k → ending bs ≡ ending_of_byte (get_or bs k d)
+unfolding ending
+ending-at [] k d h = absurd (omega (arith, h))
+ending-at (b ∷ []) zero d h = refl
+ending-at (b ∷ []) (suc k) d h = absurd (omega (arith, h))
+ending-at (b ∷ c ∷ bs) zero d h = absurd (omega (arith, h))
+ending-at (b ∷ c ∷ bs) (suc k) d h = ending-at (c ∷ bs) k d (omega (arith, h))
+
+pub ending-none : (bs : List ℕ) → length bs ≡ 0 → ending bs ≡ Other
+unfolding ending
+ending-none [] h = refl
+ending-none (b ∷ bs) h = absurd (omega (arith, h))
+
+pub last_ends-none : (ts : List Tree) (env : Env) (is : List ℕ) → length is ≡ 0 → last_ends env (items_of (trees_at ts is)) ≡ Other
+unfolding print last_ends
+last_ends-none ts env [] h = refl
+last_ends-none ts env (i ∷ is) h = absurd (omega (arith, h))
+
+-- the element of a pack in an environment
+pub pack-item : (ts : List Tree) (is : List ℕ) (us : Trees) (env : Env) (k d : ℕ) → us ≡ trees_at ts is → k ≡ index_or_zero env.pack → k < length is → print (pack us) env ≡ element_of (print (tree_at ts (get_or is k d)) env)
+unfolding print
+pack-item ts is us env k d e f h =
+    ap (λ (vs : Trees). element_of (printed_at (items_of vs) (index_or_zero env.pack) env)) e
+    ∙ ap (λ (j : ℕ). element_of (printed_at (items_of (trees_at ts is)) j env)) (sym f)
+    ∙ ap element_of (printed_at-item ts is env k d h)
+
+pub pack-past : (ts : List Tree) (is : List ℕ) (us : Trees) (env : Env) (k : ℕ) → us ≡ trees_at ts is → k ≡ index_or_zero env.pack → length is ≤ k → print (pack us) env ≡ nothing
+unfolding print
+pack-past ts is us env k e f h =
+    ap (λ (vs : Trees). element_of (printed_at (items_of vs) (index_or_zero env.pack) env)) e
+    ∙ ap (λ (j : ℕ). element_of (printed_at (items_of (trees_at ts is)) j env)) (sym f)
+    ∙ ap element_of (printed_at-past ts is env k h)
+
+pub ruleset packs = (below_at, ending-at, ending-none, last_ends-at, last_ends-none)

@@ -64,10 +64,13 @@ within env guard.Shift = if is_guarded env guard.Shift then enclosed env else en
 abbrev pub styled : Env → List ℕ → List ℕ → List ℕ
 styled env llvm gnu = if is_llvm env then llvm else gnu
 
+abbrev pub ending_of_byte : ℕ → Ending
+ending_of_byte b = if nat_eq b 60 then Less else (if nat_eq b 62 then Greater else Other)
+
 -- how a text ends
 unfoldable pub ending : List ℕ → Ending
 ending [] = Other
-ending (b ∷ []) = if nat_eq b 60 then Less else (if nat_eq b 62 then Greater else Other)
+ending (b ∷ []) = ending_of_byte b
 ending (b ∷ c ∷ bs) = ending (c ∷ bs)
 
 unfoldable pub short_std_text : Std → List ℕ

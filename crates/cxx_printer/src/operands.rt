@@ -148,14 +148,20 @@ pub fn count_of(arena: &Arena, i: u32) -> Option<u64>
 {
     match arena.node(i) {
         Node::Plain(plain) => match plain {
-            Plain::Expansion(t) => match arena.measure(t).elements {
-                Some(n) => Some(n as u64),
-                None => None,
-            },
+            Plain::Expansion(t) => widened(arena.elements(t)),
             Plain::List(items) => Some(count_of_list(arena, items)),
             _ => None,
         },
         _ => None,
+    }
+}
+
+fn widened(n: Option<u32>) -> Option<u64>
+    ensures value { result ≡ n }
+{
+    match n {
+        None => None,
+        Some(n) => Some(n as u64),
     }
 }
 
@@ -176,7 +182,7 @@ fn count_of_item(arena: &Arena, i: u32) -> u64
     ensures small { result ≤ 4294967295 }
 {
     match arena.node(i) {
-        Node::Plain(Plain::Expansion(t)) => match arena.measure(t).elements {
+        Node::Plain(Plain::Expansion(t)) => match arena.elements(t) {
             Some(n) => n as u64,
             None => 0,
         },

@@ -31,6 +31,7 @@ use growing_text::Text as Output;
 use std::alloc::AllocError;
 
 // Appends a text.
+#[tactic(auto, using(crate::proofs::Appended::prints_added))]
 fn write(out: &mut Output, text: &[u8]) -> Result<(), AllocError>
     ensures prints { Prints result out.old out.new text.now }
 {
@@ -349,7 +350,7 @@ fn print_expansion(arena: &Arena, env: Env, t: u32, out: &mut Output) -> Result<
     requires within { t < size arena.now }
     ensures prints { Prints result out.old out.new (spec.expansion_text env (measure (tree_at (forest arena.now) t)).elements (spec.item (tree_at (forest arena.now) t))) }
 {
-    match arena.measure(t).elements {
+    match arena.elements(t) {
         None => print_unexpanded(arena, env.at(None), t, out),
         Some(n) => print_repeated(arena, env, n, t, out),
     }
@@ -668,7 +669,7 @@ fn print_folded(arena: &Arena, env: Env, t: u32, out: &mut Output) -> Result<(),
     ensures prints { Prints result out.old out.new (spec.folded_text env (measure (tree_at (forest arena.now) t)).elements (spec.item (tree_at (forest arena.now) t))) }
 {
     if !env.is_llvm() {
-        if arena.measure(t).elements.is_none() {
+        if arena.elements(t).is_none() {
             return print_operand(arena, env, Prec::Comma, true, t, out);
         }
     }

@@ -6,7 +6,7 @@ ghost use Rattle.std.specs.List.{AllByRecursion};
 ghost use Rattle.cxx_tree.specs.Tree.{pack};
 ghost use Rattle.cxx_tree.specs.Stored.{forest, size, tree_at, trees_at, trees_in, plain_tree, parts_in, parts_at, parts_of, IsListBelow, IsPlainBelow, IsPartsBelow, IsPartBelow};
 ghost use Rattle.cxx_printer.specs.Printing as spec;
-ghost use Rattle.cxx_printer.specs.Words.{ending, within};
+ghost use Rattle.cxx_printer.specs.Words.{ending, ending_of_byte, within};
 ghost use Rattle.cxx_tree.specs.Measure.{measure};
 ghost use Rattle.cxx_printer.specs.Heads as heads;
 ghost use Rattle.cxx_printer.specs.Asked.{OneSided, Refers, ends_of_part};
@@ -26,14 +26,20 @@ pub fn element(arena: &Arena, env: Env, bound: u32, list: List) -> Option<u32>
     ensures below { IfSome result (λ t. t < bound) }
 {
     let items = arena.items(list);
-    let k = match env.pack {
-        None => 0,
-        Some(k) => k as usize,
-    };
+    let k = index_or_zero(env.pack);
     if k >= items.len() {
         return None;
     }
     Some(items[k])
+}
+
+fn index_or_zero(pack: Option<u32>) -> usize
+    ensures value { result ≡ spec.index_or_zero pack }
+{
+    match pack {
+        None => 0,
+        Some(k) => k as usize,
+    }
 }
 
 /// Returns the form of a type.
@@ -182,9 +188,19 @@ pub enum Ending {
 fn ending_of_text(bytes: &[u8]) -> Ending
     ensures value { result ≡ ending bytes.now }
 {
-    match bytes {
-        [.., b'<'] => Ending::Less,
-        [.., b'>'] => Ending::Greater,
+    let n = bytes.len();
+    if n == 0 {
+        return Ending::Other;
+    }
+    ending_of_byte(bytes[n - 1])
+}
+
+fn ending_of_byte(byte: u8) -> Ending
+    ensures value { result ≡ ending_of_byte byte }
+{
+    match byte {
+        b'<' => Ending::Less,
+        b'>' => Ending::Greater,
         _ => Ending::Other,
     }
 }
@@ -342,7 +358,7 @@ fn ending_of_expansion(arena: &Arena, env: Env, t: u32) -> Ending
     ensures value { result ≡ spec.expansion_ends env (measure (tree_at (forest arena.now) t)).elements
         (spec.item (tree_at (forest arena.now) t)) }
 {
-    match arena.measure(t).elements {
+    match arena.elements(t) {
         None | Some(0) => Ending::Other,
         Some(n) => ending_of(arena, env.at(Some(n - 1)), t),
     }

@@ -138,6 +138,15 @@ impl Arena {
         self.counts[i as usize]
     }
 
+    /// Returns the number of elements of the first pack in the tree of a node, outside of expansions.
+    #[tactic(auto, unfolding(crate::specs::Counts::Row))]
+    pub fn elements(&self, i: u32) -> Option<u32>
+        requires within { i < size self.now }
+        ensures value { result ≡ (spec.measure (tree_at (forest self.now) i)).elements }
+    {
+        self.measure(i).elements
+    }
+
     /// Appends a node, whose children stand here, and returns its index.
     pub fn push(&mut self, node: Node) -> Result<u32, PushError>
         requires below { IsBelow self.old.held (size self.old) node }
