@@ -1,12 +1,25 @@
-use Rattle.std.proofs.Common.{ℕ, ◌≡◌, ◌+◌, ◌<◌, ◌≤◌, Bool, true, false, List, [], ◌∷◌, ◌++◌, length, map, refl, sym, ap, ◌∙◌, arith, zero, suc, Option, Some, None}
+use Rattle.std.proofs.Common.{ℕ, ◌≡◌, ◌+◌, ◌<◌, ◌≤◌, Bool, true, false, List, [], ◌∷◌, ◌++◌, length, map, refl, sym, ap, subst, ◌∙◌, arith, zero, suc, Option, Some, None}
 use Rattle.std.proofs.Math.ListN.{get_or}
 use Rattle.std.specs.List.{AllByRecursion}
-use Rattle.cxx_tree.specs.Tree.{Tree, Trees, pack}
-use Rattle.cxx_tree.specs.Stored.{tree_at, trees_at}
+use Rattle.std.specs.Prelude.{is_some}
+use mathlib.Core.Bool.{true≢false}
+use Rattle.cxx_tree.specs.declared.node.Part.{Part}
+use Rattle.cxx_tree.specs.declared.node.Part.TheVariants as part
+use Rattle.cxx_tree.specs.declared.node.Plain.{Plain}
+use Rattle.cxx_tree.specs.declared.node.Plain.TheVariants as plain
+use Rattle.cxx_tree.specs.declared.node.Declaration.{Declaration}
+use Rattle.cxx_tree.specs.declared.node.Declaration.TheVariants as declaration
+use Rattle.cxx_tree.specs.Tree.{Tree, Trees, pack, qualified, pointer, reference}
+use Rattle.cxx_tree.specs.Stored.{Held, tree_at, trees_at, plain_tree, declaration_tree, parts_of, IsPartBelow}
+use Rattle.cxx_printer.specs.Asked.{Refers, IsLeft, OneSided, ends_of_part}
 use Rattle.cxx_printer.specs.declared.env.Env.{Env}
-use Rattle.cxx_printer.specs.Words.{ending, ending_of_byte}
-use Rattle.cxx_printer.specs.Printing.{Printed, Item, print, items_of, printed_at, nothing, element_of, item, last_ends, index_or_zero}
+use Rattle.cxx_printer.specs.Words.{ending, ending_of_byte, closed}
+use Rattle.cxx_printer.specs.declared.words.Form.{Form}
+use Rattle.cxx_printer.specs.Heads.{protocol_of}
+use Rattle.cxx_tree.specs.declared.kinds.Cv.{Cv}
+use Rattle.cxx_printer.specs.Printing.{Printed, Text, Item, simple, print, print_parts, right_behind, bracket_blank, run_ends, last_of, pointed, items_of, printed_at, nothing, element_of, item, last_ends, index_or_zero}
 use Rattle.cxx_printer.specs.declared.shapes.Ending.TheVariants.{Other}
+use Rattle.cxx_printer.specs.declared.shapes.Ending.{Ending}
 
 -- the element of a pack
 pub printed_at-item : (ts : List Tree) (is : List ℕ) (env : Env) (k d : ℕ) → k < length is → printed_at (items_of (trees_at ts is)) k env ≡ print (tree_at ts (get_or is k d)) env
@@ -68,4 +81,186 @@ pack-past ts is us env k e f h =
     ∙ ap (λ (j : ℕ). element_of (printed_at (items_of (trees_at ts is)) j env)) (sym f)
     ∙ ap element_of (printed_at-past ts is env k h)
 
-pub ruleset packs = (below_at, ending-at, ending-none, last_ends-at, last_ends-none)
+
+
+-- what is no reference is its own base
+plain-own : (h : Held) (ts : List Tree) (p : Plain) (env : Env) → (print (plain_tree h ts p) env).base ≡ (print (plain_tree h ts p) env).text
+unfolding print plain_tree
+plain-own h ts (plain.Name x) env = refl
+plain-own h ts (plain.Leaf a x y) env = refl
+plain-own h ts (plain.StdName k x) env = refl
+plain-own h ts (plain.Phrase a x) env = refl
+plain-own h ts (plain.Scoped true q n) env = refl
+plain-own h ts (plain.Scoped false q n) env = refl
+plain-own h ts (plain.WithArgs n x) env = refl
+plain-own h ts (plain.AbiTag n x) env = refl
+plain-own h ts (plain.InModule n m) env = refl
+plain-own h ts (plain.Data n) env = refl
+plain-own h ts (plain.ObjcProtocol t x) env = refl
+plain-own h ts (plain.List x) env = refl
+plain-own h ts (plain.Expansion t) env = refl
+plain-own h ts (plain.Param l i) env = refl
+
+plain-none : (h : Held) (ts : List Tree) (p : Plain) (env : Env) → (print (plain_tree h ts p) env).kind ≡ None
+unfolding print plain_tree
+plain-none h ts (plain.Name x) env = refl
+plain-none h ts (plain.Leaf a x y) env = refl
+plain-none h ts (plain.StdName k x) env = refl
+plain-none h ts (plain.Phrase a x) env = refl
+plain-none h ts (plain.Scoped true q n) env = refl
+plain-none h ts (plain.Scoped false q n) env = refl
+plain-none h ts (plain.WithArgs n x) env = refl
+plain-none h ts (plain.AbiTag n x) env = refl
+plain-none h ts (plain.InModule n m) env = refl
+plain-none h ts (plain.Data n) env = refl
+plain-none h ts (plain.ObjcProtocol t x) env = refl
+plain-none h ts (plain.List x) env = refl
+plain-none h ts (plain.Expansion t) env = refl
+plain-none h ts (plain.Param l i) env = refl
+
+declaration-own : (h : Held) (ts : List Tree) (d : Declaration) (env : Env) → (print (declaration_tree h ts d) env).base ≡ (print (declaration_tree h ts d) env).text
+unfolding print declaration_tree
+declaration-own h ts (declaration.TypeParam a b) env = refl
+declaration-own h ts (declaration.NonTypeParam a b) env = refl
+declaration-own h ts (declaration.TemplateParam a b r) env = refl
+declaration-own h ts (declaration.PackParam a) env = refl
+
+declaration-none : (h : Held) (ts : List Tree) (d : Declaration) (env : Env) → (print (declaration_tree h ts d) env).kind ≡ None
+unfolding print declaration_tree
+declaration-none h ts (declaration.TypeParam a b) env = refl
+declaration-none h ts (declaration.NonTypeParam a b) env = refl
+declaration-none h ts (declaration.TemplateParam a b r) env = refl
+declaration-none h ts (declaration.PackParam a) env = refl
+
+pub plain-base : (h : Held) (ts : List Tree) (p : Plain) (t : Tree) (env : Env) → t ≡ plain_tree h ts p → (print t env).base ≡ (print t env).text
+plain-base h ts p t env e = ap (λ (u : Tree). (print u env).base) e ∙ plain-own h ts p env ∙ ap (λ (u : Tree). (print u env).text) (sym e)
+
+pub plain-kind : (h : Held) (ts : List Tree) (p : Plain) (t : Tree) (env : Env) → t ≡ plain_tree h ts p → (print t env).kind ≡ None
+plain-kind h ts p t env e = ap (λ (u : Tree). (print u env).kind) e ∙ plain-none h ts p env
+
+pub declaration-base : (h : Held) (ts : List Tree) (d : Declaration) (t : Tree) (env : Env) → t ≡ declaration_tree h ts d → (print t env).base ≡ (print t env).text
+declaration-base h ts d t env e = ap (λ (u : Tree). (print u env).base) e ∙ declaration-own h ts d env ∙ ap (λ (u : Tree). (print u env).text) (sym e)
+
+pub declaration-kind : (h : Held) (ts : List Tree) (d : Declaration) (t : Tree) (env : Env) → t ≡ declaration_tree h ts d → (print t env).kind ≡ None
+declaration-kind h ts d t env e = ap (λ (u : Tree). (print u env).kind) e ∙ declaration-none h ts d env
+
+pub pointed-base : (o : Option (List ℕ)) (p : Printed) → (pointed o p).base ≡ (pointed o p).text
+pointed-base None p = refl
+pointed-base (Some w) p = refl
+
+pub pointed-none : (o : Option (List ℕ)) (p : Printed) → (pointed o p).kind ≡ None
+pointed-none None p = refl
+pointed-none (Some w) p = refl
+
+-- what a reference refers to, further on
+pub Refers-more : (o : Option ℕ) (t i : ℕ) (b c : Text) (f : ℕ → Printed) → t ≤ i → c ≡ b → Refers o t b f → Refers o i c f
+unfolding Refers
+Refers-more None t i b c f l e r = e ∙ r
+Refers-more (Some j) t i b c f l e r = (omega (arith, l, r.0), e ∙ r.1)
+
+pub Refers-itself : (i : ℕ) (b : Text) (f : ℕ → Printed) → b ≡ (f i).text → Refers (Some i) i b f
+unfolding Refers
+Refers-itself i b f e = (omega arith, e)
+
+pub Refers-none : (i : ℕ) (b : Text) (f : ℕ → Printed) → b ≡ simple [] → Refers None i b f
+unfolding Refers
+Refers-none i b f e = e
+
+-- how parts end
+last_of-some : (e : Ending) (o : Option Ending) → (x : Ending) × (last_of e o ≡ Some x)
+last_of-some e None = (e, refl)
+last_of-some e (Some x) = (x, refl)
+
+ends-some : (h : Held) (ts : List Tree) (env : Env) (p : Part) (ps : List Part) → (x : Ending) × ((print_parts (parts_of h ts (p ∷ ps)) env).ends ≡ Some x)
+unfolding print
+ends-some h ts env (part.Text a b) ps = last_of-some _ (print_parts (parts_of h ts ps) env).ends
+ends-some h ts env (part.Tree manner t) ps = last_of-some _ (print_parts (parts_of h ts ps) env).ends
+ends-some h ts env (part.Trees listing l) ps = last_of-some _ (print_parts (parts_of h ts ps) env).ends
+
+none-some : (x : Ending) → None ≡ Some x → ⊥
+none-some x h = true≢false (sym (ap is_some h))
+
+last_of-rest : (e : Ending) (o : Option Ending) (x : Ending) → o ≡ Some x → last_of e o ≡ o
+last_of-rest e None x h = absurd (none-some x h)
+last_of-rest e (Some y) x h = refl
+
+ends-rest : (h : Held) (ts : List Tree) (env : Env) (p q : Part) (ps : List Part) → (print_parts (parts_of h ts (p ∷ q ∷ ps)) env).ends ≡ (print_parts (parts_of h ts (q ∷ ps)) env).ends
+unfolding print
+ends-rest h ts env (part.Text a b) q ps =
+    let some = ends-some h ts env q ps in last_of-rest _ (print_parts (parts_of h ts (q ∷ ps)) env).ends some.0 some.1
+ends-rest h ts env (part.Tree manner t) q ps =
+    let some = ends-some h ts env q ps in last_of-rest _ (print_parts (parts_of h ts (q ∷ ps)) env).ends some.0 some.1
+ends-rest h ts env (part.Trees listing l) q ps =
+    let some = ends-some h ts env q ps in last_of-rest _ (print_parts (parts_of h ts (q ∷ ps)) env).ends some.0 some.1
+
+pub parts-end-at : (h : Held) (ts : List Tree) (env : Env) (ps : List Part) (k : ℕ) (d : Part) → length ps ≡ suc k → run_ends (print_parts (parts_of h ts ps) env).ends ≡ ends_of_part h ts env (get_or ps k d)
+unfolding print ends_of_part
+parts-end-at h ts env [] k d e = absurd (omega (arith, e))
+parts-end-at h ts env (part.Text a b ∷ []) zero d e = refl
+parts-end-at h ts env (part.Tree manner t ∷ []) zero d e = refl
+parts-end-at h ts env (part.Trees listing l ∷ []) zero d e = refl
+parts-end-at h ts env (p ∷ []) (suc k) d e = absurd (omega (arith, e))
+parts-end-at h ts env (p ∷ q ∷ ps) zero d e = absurd (omega (arith, e))
+parts-end-at h ts env (p ∷ q ∷ ps) (suc k) d e =
+    ap run_ends (ends-rest h ts env p q ps) ∙ parts-end-at h ts env (q ∷ ps) k d (omega (arith, e))
+
+pub parts-end-none : (h : Held) (ts : List Tree) (env : Env) (ps : List Part) → length ps ≡ 0 → run_ends (print_parts (parts_of h ts ps) env).ends ≡ Other
+unfolding print
+parts-end-none h ts env [] e = refl
+parts-end-none h ts env (p ∷ ps) e = absurd (omega (arith, e))
+
+pub in_parts : (h : Held) (n : ℕ) (ps : List Part) (k : ℕ) (d : Part) → AllByRecursion (IsPartBelow h n) ps → k < length ps → IsPartBelow h n (get_or ps k d)
+in_parts h n [] k d b l = absurd (omega arith)
+in_parts h n (p ∷ ps) zero d b l = b.0
+in_parts h n (p ∷ ps) (suc k) d b l = in_parts h n ps k d b.1 (omega arith)
+
+-- trees with one side
+behind-left : (t : Text) → IsLeft t → closed t.form ++ right_behind false t ≡ []
+unfolding closed
+behind-left t e =
+    ap (λ (f : Form). closed f ++ right_behind false t) e.2
+    ∙ ap (λ (b : Bool). bracket_blank b false ++ t.right) e.1 ∙ e.0
+
+plain-left : (h : Held) (ts : List Tree) (p : Plain) (env : Env) → IsLeft (print (plain_tree h ts p) env).text × IsLeft (print (plain_tree h ts p) env).base
+unfolding print plain_tree
+plain-left h ts (plain.Name x) env = ((refl, refl, refl), (refl, refl, refl))
+plain-left h ts (plain.Leaf a x y) env = ((refl, refl, refl), (refl, refl, refl))
+plain-left h ts (plain.StdName k x) env = ((refl, refl, refl), (refl, refl, refl))
+plain-left h ts (plain.Phrase a x) env = ((refl, refl, refl), (refl, refl, refl))
+plain-left h ts (plain.Scoped true q n) env = ((refl, refl, refl), (refl, refl, refl))
+plain-left h ts (plain.Scoped false q n) env = ((refl, refl, refl), (refl, refl, refl))
+plain-left h ts (plain.WithArgs n x) env = ((refl, refl, refl), (refl, refl, refl))
+plain-left h ts (plain.AbiTag n x) env = ((refl, refl, refl), (refl, refl, refl))
+plain-left h ts (plain.InModule n m) env = ((refl, refl, refl), (refl, refl, refl))
+plain-left h ts (plain.Data n) env = ((refl, refl, refl), (refl, refl, refl))
+plain-left h ts (plain.ObjcProtocol t x) env = ((refl, refl, refl), (refl, refl, refl))
+plain-left h ts (plain.List x) env = ((refl, refl, refl), (refl, refl, refl))
+plain-left h ts (plain.Expansion t) env = ((refl, refl, refl), (refl, refl, refl))
+plain-left h ts (plain.Param l i) env = ((refl, refl, refl), (refl, refl, refl))
+
+pub plain-one_sided : (h : Held) (ts : List Tree) (p : Plain) (t : Tree) → t ≡ plain_tree h ts p → OneSided t
+unfolding OneSided
+plain-one_sided h ts p t e = λ env. subst (λ (u : Tree). IsLeft (print u env).text × IsLeft (print u env).base) (sym e) (plain-left h ts p env)
+
+pub qualified-one_sided : (u : Tree) (cv : Cv) (t : Tree) → t ≡ qualified u cv → OneSided u → OneSided t
+unfolding OneSided print
+qualified-one_sided u cv t e h =
+    λ env. subst (λ (v : Tree). IsLeft (print v env).text × IsLeft (print v env).base) (sym e)
+    (((h env).0.0, (h env).0.1, (h env).0.2), ((h env).0.0, (h env).0.1, (h env).0.2))
+
+pointed-left : (o : Option (List ℕ)) (p : Printed) → IsLeft p.text → IsLeft (pointed o p).text × IsLeft (pointed o p).base
+pointed-left None p h = ((behind-left p.text h, refl, refl), (behind-left p.text h, refl, refl))
+pointed-left (Some w) p h = ((refl, refl, refl), (refl, refl, refl))
+
+pub pointer-one_sided : (u : Tree) (t : Tree) → t ≡ pointer u → OneSided u → OneSided t
+unfolding OneSided print
+pointer-one_sided u t e h =
+    λ env. subst (λ (v : Tree). IsLeft (print v env).text × IsLeft (print v env).base) (sym e) (pointed-left (protocol_of u) (print u env) (h env).0)
+
+pub reference-one_sided : (u : Tree) (l : Bool) (t : Tree) → t ≡ reference u l → OneSided u → OneSided t
+unfolding OneSided print
+reference-one_sided u l t e h =
+    λ env. subst (λ (v : Tree). IsLeft (print v env).text × IsLeft (print v env).base) (sym e)
+    ((behind-left (print u env).base (h env).1, refl, refl), (h env).1)
+
+pub ruleset packs = (below_at, ending-at, ending-none, last_ends-at, last_ends-none, parts-end-at, parts-end-none, in_parts)

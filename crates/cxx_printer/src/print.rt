@@ -87,7 +87,7 @@ fn print_encoding(
     requires rest { IsPartsBelow arena.now.held bound rest }
     ensures prints { Prints result out.old out.new (spec.whole (spec.print (encoding (option_at (forest arena.now) ret) (tree_at (forest arena.now) name) (trees_in arena.now.held (forest arena.now) params) cv ref_qual (parts_in arena.now.held (forest arena.now) rest)) env)) }
 {
-    tri!(left_encoding(arena, env, ret, name, out));
+    tri!(left_encoding(arena, env, bound, ret, name, out));
     right_encoding(arena, env, bound, ret, params, cv, ref_qual, rest, out)
 }
 
@@ -106,7 +106,7 @@ pub fn print_left(arena: &Arena, env: Env, i: u32, out: &mut Output) -> Result<(
         Node::MemberPointer(class, member) => left_member(arena, env, class, member, out),
         Node::Array(element, _) => print_left(arena, env, element, out),
         Node::Function(ret, _, _, _, _) => left_function(arena, env, ret, out),
-        Node::Encoding(ret, name, _, _, _, _) => left_encoding(arena, env, ret, name, out),
+        Node::Encoding(ret, name, _, _, _, _) => left_encoding(arena, env, i, ret, name, out),
         Node::Pack(items) => left_pack(arena, env, i, items, out),
     }
 }
@@ -510,7 +510,8 @@ fn print_parts(arena: &Arena, env: Env, bound: u32, parts: Parts, out: &mut Outp
     requires parts { IsPartsBelow arena.now.held bound parts }
     ensures prints { Prints result out.old out.new ((spec.print_parts (parts_in arena.now.held (forest arena.now) parts) env).text) }
 {
-    for part in arena.parts_of(parts) {
+    let list = arena.parts_of(parts);
+    for part in list {
         tri!(print_part(arena, env, bound, *part, out));
     }
     Ok(())
@@ -1051,6 +1052,7 @@ fn left_pointer(arena: &Arena, env: Env, t: u32, out: &mut Output) -> Result<(),
     }
 }
 
+#[tactic(auto, using(crate::proofs::Appended::prints))]
 fn write_id(protocol: &[u8], out: &mut Output) -> Result<(), AllocError>
     ensures prints { Prints result out.old out.new (codes "id<" ++ (protocol.now ++ codes ">")) }
 {
@@ -1272,18 +1274,27 @@ fn gnu_behind_params(
 }
 
 #[cycle(printer)]
-fn left_encoding(arena: &Arena, env: Env, ret: Option<u32>, name: u32, out: &mut Output) -> Result<(), AllocError>
-    requires ret { IsOptionBelow (size arena.now) ret }
-    requires name { name < size arena.now }
+fn left_encoding(
+    arena: &Arena,
+    env: Env,
+    bound: u32,
+    ret: Option<u32>,
+    name: u32,
+    out: &mut Output,
+) -> Result<(), AllocError>
+    requires bound { bound ≤ size arena.now }
+    requires ret { IsOptionBelow bound ret }
+    requires name { name < bound }
     ensures prints { Prints result out.old out.new (spec.ret_text_left (spec.items_of (option_at (forest arena.now) ret)) env ++ spec.whole (spec.print (tree_at (forest arena.now) name) env)) }
 {
-    tri!(left_ret(arena, env, ret, out));
+    tri!(left_ret(arena, env, bound, ret, out));
     print(arena, env, name, out)
 }
 
 #[cycle(printer)]
-fn left_ret(arena: &Arena, env: Env, ret: Option<u32>, out: &mut Output) -> Result<(), AllocError>
-    requires ret { IsOptionBelow (size arena.now) ret }
+fn left_ret(arena: &Arena, env: Env, bound: u32, ret: Option<u32>, out: &mut Output) -> Result<(), AllocError>
+    requires bound { bound ≤ size arena.now }
+    requires ret { IsOptionBelow bound ret }
     ensures prints { Prints result out.old out.new (spec.ret_text_left (spec.items_of (option_at (forest arena.now) ret)) env) }
 {
     match ret {
@@ -1293,8 +1304,9 @@ fn left_ret(arena: &Arena, env: Env, ret: Option<u32>, out: &mut Output) -> Resu
 }
 
 #[cycle(printer)]
-fn right_ret(arena: &Arena, env: Env, ret: Option<u32>, out: &mut Output) -> Result<(), AllocError>
-    requires ret { IsOptionBelow (size arena.now) ret }
+fn right_ret(arena: &Arena, env: Env, bound: u32, ret: Option<u32>, out: &mut Output) -> Result<(), AllocError>
+    requires bound { bound ≤ size arena.now }
+    requires ret { IsOptionBelow bound ret }
     ensures prints { Prints result out.old out.new (spec.ret_text_right (spec.items_of (option_at (forest arena.now) ret)) env) }
 {
     match ret {
@@ -1344,7 +1356,7 @@ fn behind_signature(
     requires rest { IsPartsBelow arena.now.held bound rest }
     ensures prints { Prints result out.old out.new (spec.ret_text_right (spec.items_of (option_at (forest arena.now) ret)) env ++ (words.cv_text cv ++ (words.ref_text ref_qual ++ (spec.print_parts (parts_in arena.now.held (forest arena.now) rest) env).text))) }
 {
-    tri!(right_ret(arena, env, ret, out));
+    tri!(right_ret(arena, env, bound, ret, out));
     tri!(write(out, cv_text(cv)));
     tri!(write(out, ref_text(ref_qual)));
     print_parts(arena, env, bound, rest, out)
@@ -1368,7 +1380,7 @@ fn gnu_behind_signature(
 {
     tri!(write(out, cv_text(cv)));
     tri!(write(out, ref_text(ref_qual)));
-    tri!(right_ret(arena, env, ret, out));
+    tri!(right_ret(arena, env, bound, ret, out));
     print_parts(arena, env, bound, rest, out)
 }
 

@@ -1,7 +1,7 @@
 //! What is asked of a tree without printing it. Where a tree is a pack, its element is asked.
-#![tactic(auto, using(crate::proofs::Packs::packs), unfolding(cxx_tree::specs::Stored::tree_of, cxx_tree::specs::Stored::plain_tree, cxx_tree::specs::Stored::declaration_tree, cxx_tree::specs::Stored::IsBelow, cxx_tree::specs::Stored::IsPlainBelow, cxx_tree::specs::Stored::IsDeclarationBelow, crate::specs::Printing::print))]
+#![tactic(auto, using(crate::proofs::Packs::packs), unfolding(cxx_tree::specs::Stored::tree_of, cxx_tree::specs::Stored::plain_tree, cxx_tree::specs::Stored::declaration_tree, cxx_tree::specs::Stored::IsBelow, cxx_tree::specs::Stored::IsPlainBelow, cxx_tree::specs::Stored::IsDeclarationBelow, crate::specs::Printing::print, crate::specs::Asked::ends_of_part))]
 
-ghost use Rattle.std.specs.Prelude.{◌≡◌, ℕ, ◌<◌, ◌≤◌, Bool, true, false, Option, MatchOption, IfSome};
+ghost use Rattle.std.specs.Prelude.{◌≡◌, ℕ, ◌<◌, ◌≤◌, Bool, true, false, Option, Some, None, MatchOption, IfSome};
 ghost use Rattle.std.specs.List.{AllByRecursion};
 ghost use Rattle.cxx_tree.specs.Tree.{pack};
 ghost use Rattle.cxx_tree.specs.Stored.{forest, size, tree_at, trees_at, trees_in, plain_tree, parts_in, parts_at, parts_of, IsListBelow, IsPlainBelow, IsPartsBelow, IsPartBelow};
@@ -67,7 +67,9 @@ pub fn is_one_sided(arena: &Arena, i: u32) -> bool
 {
     match arena.node(i) {
         Node::Plain(_) => true,
-        Node::Qualified(t, _) | Node::Pointer(t) | Node::Reference(t, _) => is_one_sided(arena, t),
+        Node::Qualified(t, _) => is_one_sided(arena, t),
+        Node::Pointer(t) => is_one_sided(arena, t),
+        Node::Reference(t, _) => is_one_sided(arena, t),
         _ => false,
     }
 }
@@ -170,10 +172,25 @@ pub fn referent_of(arena: &Arena, env: Env, is_lvalue: bool, i: u32) -> Referent
             },
             Some(t) => referent_of(arena, env, is_lvalue, t),
         },
-        _ => Referent {
-            is_lvalue,
-            base: Some(i),
-        },
+        Node::Plain(_) => itself(is_lvalue, i),
+        Node::Declaration(_) => itself(is_lvalue, i),
+        Node::Qualified(_, _) => itself(is_lvalue, i),
+        Node::Pointer(_) => itself(is_lvalue, i),
+        Node::MemberPointer(_, _) => itself(is_lvalue, i),
+        Node::Array(_, _) => itself(is_lvalue, i),
+        Node::Function(_, _, _, _, _) => itself(is_lvalue, i),
+        Node::Encoding(_, _, _, _, _, _) => itself(is_lvalue, i),
+    }
+}
+
+// What is no reference.
+fn itself(is_lvalue: bool, i: u32) -> Referent
+    ensures kind { result.is_lvalue ≡ spec.collapsed is_lvalue None }
+    ensures base { result.base ≡ Some i }
+{
+    Referent {
+        is_lvalue,
+        base: Some(i),
     }
 }
 
@@ -273,12 +290,21 @@ fn ending_of_phrase(arena: &Arena, env: Env, bound: u32, phrase: Phrase, parts: 
     if !phrase.is_open {
         return Ending::Other;
     }
-    let parts = arena.parts_of(parts);
+    ending_of_parts(arena, env.within(phrase.guard), bound, arena.parts_of(parts))
+}
+
+// How parts end.
+#[cycle(endings)]
+fn ending_of_parts(arena: &Arena, env: Env, bound: u32, parts: &[Part]) -> Ending
+    requires bound { bound ≤ size arena.now }
+    requires below { AllByRecursion (IsPartBelow arena.now.held bound) parts.now }
+    ensures value { result ≡ spec.run_ends (spec.print_parts (parts_of arena.now.held (forest arena.now) parts.now) env).ends }
+{
     let n = parts.len();
     if n == 0 {
         return Ending::Other;
     }
-    ending_of_part(arena, env.within(phrase.guard), bound, parts[n - 1])
+    ending_of_part(arena, env, bound, parts[n - 1])
 }
 
 #[cycle(endings)]

@@ -1,0 +1,295 @@
+use Rattle.std.proofs.Common.{ℕ, ◌≡◌, ◌≤◌, ◌+◌, ◌-◌, ◌*◌, ◌++◌, max, drop, length, true}
+use Rattle.cxx_tree.specs.Stored.{forest, tree_at, trees_at, parts_of}
+use Rattle.cxx_printer.specs.Printing.{item, items_of, print_parts, list_from, sequence, declarations, heads, repeated}
+use Rattle.cxx_printer.proofs.print.+printer.Given as goal
+
+abbrev pub decreases-print : goal.decreases-print
+decreases-print l = 64 * l.i + 40
+
+abbrev pub decreases-print_sides : goal.decreases-print_sides
+decreases-print_sides l = 64 * l.i + 39
+
+abbrev pub decreases-print_left : goal.decreases-print_left
+decreases-print_left l = 64 * l.i + 30
+
+abbrev pub decreases-print_right : goal.decreases-print_right
+decreases-print_right l = 64 * l.i + 30
+
+abbrev pub decreases-print_scope : goal.decreases-print_scope
+decreases-print_scope l = 64 * l.i + 44
+
+abbrev pub decreases-print_encoding : goal.decreases-print_encoding
+decreases-print_encoding l = 64 * l.bound + 22
+
+abbrev pub decreases-left_encoding : goal.decreases-left_encoding
+decreases-left_encoding l = 64 * l.bound + 21
+
+abbrev pub decreases-left_ret : goal.decreases-left_ret
+decreases-left_ret l = 64 * l.bound + 5
+
+abbrev pub decreases-right_ret : goal.decreases-right_ret
+decreases-right_ret l = 64 * l.bound + 5
+
+abbrev pub decreases-right_encoding : goal.decreases-right_encoding
+decreases-right_encoding l = 64 * l.bound + 18
+
+abbrev pub decreases-behind_signature : goal.decreases-behind_signature
+decreases-behind_signature l = 64 * l.bound + 17
+
+abbrev pub decreases-gnu_behind_signature : goal.decreases-gnu_behind_signature
+decreases-gnu_behind_signature l = 64 * l.bound + 17
+
+abbrev pub decreases-print_signature : goal.decreases-print_signature
+decreases-print_signature l = 64 * l.bound + 25
+
+abbrev pub decreases-right_signature : goal.decreases-right_signature
+decreases-right_signature l = 64 * l.bound + 19
+
+abbrev pub decreases-left_plain : goal.decreases-left_plain
+decreases-left_plain l = 64 * l.bound + 27
+
+abbrev pub decreases-scope_plain : goal.decreases-scope_plain
+decreases-scope_plain l = 64 * l.bound + 27
+
+abbrev pub decreases-head_of_plain : goal.decreases-head_of_plain
+decreases-head_of_plain l = 64 * l.bound + 27
+
+abbrev pub decreases-print_plain : goal.decreases-print_plain
+decreases-print_plain l = 64 * l.bound + 26
+
+abbrev pub decreases-left_declaration : goal.decreases-left_declaration
+decreases-left_declaration l = 64 * l.bound + 20
+
+abbrev pub decreases-right_declaration : goal.decreases-right_declaration
+decreases-right_declaration l = 64 * l.bound + 20
+
+abbrev pub decreases-head_of_declaration : goal.decreases-head_of_declaration
+decreases-head_of_declaration l = 64 * l.bound + 20
+
+abbrev pub decreases-name_of_declaration : goal.decreases-name_of_declaration
+decreases-name_of_declaration l = 64 * l.bound + 20
+
+abbrev pub decreases-left_qualified : goal.decreases-left_qualified
+decreases-left_qualified l = 64 * l.t + 35
+
+abbrev pub decreases-left_pointer : goal.decreases-left_pointer
+decreases-left_pointer l = 64 * l.t + 37
+
+abbrev pub decreases-left_plain_pointer : goal.decreases-left_plain_pointer
+decreases-left_plain_pointer l = 64 * l.t + 36
+
+abbrev pub decreases-left_reference : goal.decreases-left_reference
+decreases-left_reference l = 64 * l.t + 37
+
+abbrev pub decreases-left_base : goal.decreases-left_base
+decreases-left_base l = 64 * l.t + 36
+
+abbrev pub decreases-left_member : goal.decreases-left_member
+decreases-left_member l = 64 * (max l.class l.member) + 41
+
+abbrev pub decreases-left_function : goal.decreases-left_function
+decreases-left_function l = 64 * l.ret + 31
+
+abbrev pub decreases-left_pack : goal.decreases-left_pack
+decreases-left_pack l = 64 * l.bound + 5
+
+abbrev pub decreases-right_pointer : goal.decreases-right_pointer
+decreases-right_pointer l = 64 * l.t + 32
+
+abbrev pub decreases-right_behind : goal.decreases-right_behind
+decreases-right_behind l = 64 * l.t + 31
+
+abbrev pub decreases-right_reference : goal.decreases-right_reference
+decreases-right_reference l = 64 * l.t + 32
+
+abbrev pub decreases-right_array : goal.decreases-right_array
+decreases-right_array l = 64 * l.bound + 18
+
+abbrev pub decreases-right_bracket : goal.decreases-right_bracket
+decreases-right_bracket l = 64 * l.bound + 17
+
+abbrev pub decreases-print_joined : goal.decreases-print_joined
+decreases-print_joined l = 64 * l.t + 31
+
+abbrev pub decreases-right_function : goal.decreases-right_function
+decreases-right_function l = 64 * l.bound + 18
+
+abbrev pub decreases-behind_params : goal.decreases-behind_params
+decreases-behind_params l = 64 * l.bound + 17
+
+abbrev pub decreases-gnu_behind_params : goal.decreases-gnu_behind_params
+decreases-gnu_behind_params l = 64 * l.bound + 17
+
+abbrev pub decreases-right_pack : goal.decreases-right_pack
+decreases-right_pack l = 64 * l.bound + 5
+
+abbrev pub decreases-print_phrase : goal.decreases-print_phrase
+decreases-print_phrase l = 64 * l.bound + 16
+
+abbrev pub decreases-print_guarded : goal.decreases-print_guarded
+decreases-print_guarded l = 64 * l.bound + 15
+
+abbrev pub decreases-print_parts : goal.decreases-print_parts
+decreases-print_parts l = 64 * l.bound + 14
+
+abbrev pub decreases-print_part : goal.decreases-print_part
+decreases-print_part l = 64 * l.bound + 13
+
+abbrev pub decreases-print_trees : goal.decreases-print_trees
+decreases-print_trees l = 64 * l.bound + 12
+
+abbrev pub decreases-print_declarations : goal.decreases-print_declarations
+decreases-print_declarations l = 64 * l.bound + 11
+
+abbrev pub decreases-print_parens : goal.decreases-print_parens
+decreases-print_parens l = 64 * l.bound + 10
+
+abbrev pub decreases-print_angles : goal.decreases-print_angles
+decreases-print_angles l = 64 * l.bound + 10
+
+abbrev pub decreases-print_declared_list : goal.decreases-print_declared_list
+decreases-print_declared_list l = 64 * l.bound + 9
+
+abbrev pub decreases-print_template_head : goal.decreases-print_template_head
+decreases-print_template_head l = 64 * l.bound + 9
+
+abbrev pub decreases-print_heads : goal.decreases-print_heads
+decreases-print_heads l = 64 * l.bound + 8
+
+abbrev pub decreases-print_list : goal.decreases-print_list
+decreases-print_list l = 64 * l.bound + 8
+
+abbrev pub decreases-print_sequence : goal.decreases-print_sequence
+decreases-print_sequence l = 64 * l.bound + 8
+
+abbrev pub decreases-print_scoped : goal.decreases-print_scoped
+decreases-print_scoped l = 64 * (max l.scope l.name) + 46
+
+abbrev pub decreases-print_friend : goal.decreases-print_friend
+decreases-print_friend l = 64 * (max l.scope l.name) + 45
+
+abbrev pub decreases-print_with_args : goal.decreases-print_with_args
+decreases-print_with_args l = 64 * l.bound + 16
+
+abbrev pub decreases-print_abi_tag : goal.decreases-print_abi_tag
+decreases-print_abi_tag l = 64 * l.name + 41
+
+abbrev pub decreases-print_in_module : goal.decreases-print_in_module
+decreases-print_in_module l = 64 * (max l.name l.owner) + 41
+
+abbrev pub decreases-print_protocol : goal.decreases-print_protocol
+decreases-print_protocol l = 64 * l.t + 41
+
+abbrev pub decreases-print_expansion : goal.decreases-print_expansion
+decreases-print_expansion l = 64 * l.t + 47
+
+abbrev pub decreases-print_unexpanded : goal.decreases-print_unexpanded
+decreases-print_unexpanded l = 64 * l.t + 46
+
+abbrev pub decreases-print_repeated : goal.decreases-print_repeated
+decreases-print_repeated l = 64 * l.t + 46
+
+abbrev pub decreases-print_element : goal.decreases-print_element
+decreases-print_element l = 64 * l.t + 45
+
+abbrev pub decreases-print_item : goal.decreases-print_item
+decreases-print_item l = 64 * l.t + 44
+
+abbrev pub decreases-print_item_text : goal.decreases-print_item_text
+decreases-print_item_text l = 64 * l.t + 43
+
+abbrev pub decreases-print_operand : goal.decreases-print_operand
+decreases-print_operand l = 64 * l.t + 42
+
+abbrev pub decreases-print_enclosed : goal.decreases-print_enclosed
+decreases-print_enclosed l = 64 * l.t + 41
+
+abbrev pub decreases-print_tree : goal.decreases-print_tree
+decreases-print_tree l = 64 * l.t + 50
+
+abbrev pub decreases-print_callee : goal.decreases-print_callee
+decreases-print_callee l = 64 * l.t + 45
+
+abbrev pub decreases-print_address : goal.decreases-print_address
+decreases-print_address l = 64 * l.t + 45
+
+abbrev pub decreases-print_value : goal.decreases-print_value
+decreases-print_value l = 64 * l.t + 45
+
+abbrev pub decreases-print_argument : goal.decreases-print_argument
+decreases-print_argument l = 64 * l.t + 45
+
+abbrev pub decreases-print_count : goal.decreases-print_count
+decreases-print_count l = 64 * l.t + 46
+
+abbrev pub decreases-print_sizeof : goal.decreases-print_sizeof
+decreases-print_sizeof l = 64 * l.t + 45
+
+abbrev pub decreases-print_folded : goal.decreases-print_folded
+decreases-print_folded l = 64 * l.t + 48
+
+abbrev pub decreases-print_declared : goal.decreases-print_declared
+decreases-print_declared l = 64 * l.t + 47
+
+abbrev pub decreases-print_whole_declaration : goal.decreases-print_whole_declaration
+decreases-print_whole_declaration l = 64 * l.t + 46
+
+abbrev pub decreases-print_head : goal.decreases-print_head
+decreases-print_head l = 64 * l.t + 45
+
+abbrev pub decreases-print_pack_head : goal.decreases-print_pack_head
+decreases-print_pack_head l = 64 * l.d + 46
+
+abbrev pub decreases-print_declared_name : goal.decreases-print_declared_name
+decreases-print_declared_name l = 64 * l.t + 45
+
+abbrev pub decreases-print_next_head : goal.decreases-print_next_head
+decreases-print_next_head l = 64 * l.t + 46
+
+abbrev pub decreases-left_type_param : goal.decreases-left_type_param
+decreases-left_type_param l = 64 * l.constraint + 41
+
+abbrev pub decreases-left_non_type : goal.decreases-left_non_type
+decreases-left_non_type l = 64 * l.t + 31
+
+abbrev pub decreases-left_template : goal.decreases-left_template
+decreases-left_template l = 64 * l.bound + 17
+
+abbrev pub decreases-left_pack_param : goal.decreases-left_pack_param
+decreases-left_pack_param l = 64 * l.d + 31
+
+abbrev pub decreases-right_non_type : goal.decreases-right_non_type
+decreases-right_non_type l = 64 * (max l.name l.t) + 41
+
+abbrev pub decreases-right_template : goal.decreases-right_template
+decreases-right_template l = 64 * l.bound + 17
+
+abbrev pub invariant-print_repeated-loop-k : goal.invariant-print_repeated-loop-k
+invariant-print_repeated-loop-k l =
+    l.fn.out ++ repeated l.n 0 l.env (item (tree_at (forest l.arena) l.t))
+    ≡ l.out ++ repeated (l.n - l.k) l.k l.env (item (tree_at (forest l.arena) l.t))
+
+abbrev pub invariant-print_list-loop-t : goal.invariant-print_list-loop-t
+invariant-print_list-loop-t l =
+    l.fn.out ++ list_from true l.env (items_of (trees_at (forest l.arena) l.items))
+    ≡ l.out ++ list_from l.is_first l.env (items_of (trees_at (forest l.arena) (drop l.t-index l.items)))
+
+abbrev pub invariant-print_parts-loop-part : goal.invariant-print_parts-loop-part
+invariant-print_parts-loop-part l =
+    l.fn.out ++ (print_parts (parts_of l.arena.held (forest l.arena) l.list) l.env).text
+    ≡ l.out ++ (print_parts (parts_of l.arena.held (forest l.arena) (drop l.part-index l.list)) l.env).text
+
+abbrev pub invariant-print_sequence-loop-t : goal.invariant-print_sequence-loop-t
+invariant-print_sequence-loop-t l =
+    l.fn.out ++ sequence l.env (items_of (trees_at (forest l.arena) l.items))
+    ≡ l.out ++ sequence l.env (items_of (trees_at (forest l.arena) (drop l.t-index l.items)))
+
+abbrev pub invariant-print_declared_list-loop-t : goal.invariant-print_declared_list-loop-t
+invariant-print_declared_list-loop-t l =
+    l.fn.out ++ declarations true l.env (items_of (trees_at (forest l.arena) l.items))
+    ≡ l.out ++ declarations l.is_first l.env (items_of (trees_at (forest l.arena) (drop l.t-index l.items)))
+
+abbrev pub invariant-print_heads-loop-t : goal.invariant-print_heads-loop-t
+invariant-print_heads-loop-t l =
+    l.fn.out ++ heads true l.env (items_of (trees_at (forest l.arena) l.items))
+    ≡ l.out ++ heads l.is_first l.env (items_of (trees_at (forest l.arena) (drop l.t-index l.items)))
