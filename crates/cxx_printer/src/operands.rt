@@ -1,7 +1,6 @@
 //! What is asked of the head of a tree, whatever it is printed in.
 #![tactic(auto, unfolding(cxx_tree::specs::Stored::tree_of, cxx_tree::specs::Stored::plain_tree, cxx_tree::specs::Stored::declaration_tree, cxx_tree::specs::Stored::IsBelow, cxx_tree::specs::Stored::IsPlainBelow, crate::specs::Heads::prec_of, crate::specs::Heads::is_simple, crate::specs::Heads::has_args, crate::specs::Heads::is_designator, crate::specs::Heads::is_scoped, crate::specs::Heads::count_of, crate::specs::Heads::count_item, crate::specs::Heads::count_items, crate::specs::Heads::is_objc_object, crate::specs::Heads::protocol_of))]
 
-
 ghost use Rattle.std.specs.Prelude.{◌≡◌, ℕ, ◌<◌, ◌≤◌, Bool, Option, Some, None, MatchOption, false, true};
 ghost use Rattle.cxx_tree.specs.Stored.{forest, size, tree_at, trees_in, IsListBelow};
 ghost use Rattle.cxx_printer.specs.Heads as spec;
