@@ -5,23 +5,19 @@ use Rattle.cxx_printer.specs.Prints.{Prints}
 
 -- one text, and then another
 pub prints_then : (r : Result (Unit {0}) AllocError) (a b c x y : List ℕ) → b ≡ a ++ x → Prints r b c y → Prints r a c (x ++ y)
-unfolding Prints
 prints_then (Ok u) a b c x y h k = k ∙ ap (λ (l : List ℕ). l ++ y) h ∙ append_assoc a x y
 prints_then (Err e) a b c x y h k = tt
 
 -- memory was refused
 pub prints_refused : (e : AllocError) (a b : List ℕ) (x : List ℕ) → Prints (Err e) a b x
-unfolding Prints
 prints_refused e a b x = tt
 
 -- nothing is appended
 pub prints_nothing : (u : Unit {0}) (a x : List ℕ) → x ≡ [] → Prints (Ok u) a a x
-unfolding Prints
 prints_nothing u a x e = sym (append-nil a) ∙ ap (λ (l : List ℕ). a ++ l) (sym e)
 
 -- a call that appends
 pub prints_added : (r : Result (Unit {0}) AllocError) (a b x : List ℕ) → OnOk r (b ≡ a ++ x) → Prints r a b x
-unfolding Prints
 prints_added (Ok u) a b x h = h
 prints_added (Err e) a b x h = tt
 

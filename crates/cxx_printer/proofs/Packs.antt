@@ -154,16 +154,13 @@ pointed-none (Some w) p = refl
 
 -- what a reference refers to, further on
 pub Refers-more : (o : Option ℕ) (t i : ℕ) (b c : Text) (f : ℕ → Printed) → t ≤ i → c ≡ b → Refers o t b f → Refers o i c f
-unfolding Refers
 Refers-more None t i b c f l e r = e ∙ r
 Refers-more (Some j) t i b c f l e r = (omega (arith, l, r.0), e ∙ r.1)
 
 pub Refers-itself : (i : ℕ) (b : Text) (f : ℕ → Printed) → b ≡ (f i).text → Refers (Some i) i b f
-unfolding Refers
 Refers-itself i b f e = (omega arith, e)
 
 pub Refers-none : (i : ℕ) (b : Text) (f : ℕ → Printed) → b ≡ simple [] → Refers None i b f
-unfolding Refers
 Refers-none i b f e = e
 
 -- how parts end

@@ -1,5 +1,5 @@
 -- What is asked of a tree without printing it.
-use Rattle.std.specs.Prelude.{ℕ, ◌≡◌, ◌≤◌, Bool, true, false, List, [], ◌∷◌, Option, Some, None}
+use Rattle.std.specs.Prelude.{ℕ, ◌≡◌, ◌≤◌, Bool, true, false, List, [], ◌∷◌, Option, Some, None, MatchOption}
 use Rattle.cxx_tree.specs.declared.node.Part.{Part}
 use Rattle.cxx_tree.specs.declared.node.Part.TheVariants as part
 use Rattle.cxx_tree.specs.Tree.{Tree}
@@ -20,9 +20,8 @@ unfoldable pub OneSided : Tree → Type 0
 OneSided t = (env : Env) → IsLeft (print t env).text × IsLeft (print t env).base
 
 -- what a reference refers to: nothing, or what the node at an index prints
-unfoldable pub Refers : Option ℕ → ℕ → Text → (ℕ → Printed) → Type 0
-Refers None i base f = base ≡ simple []
-Refers (Some j) i base f = (j ≤ i) × (base ≡ (f j).text)
+abbrev pub Refers : Option ℕ → ℕ → Text → (ℕ → Printed) → Type 0
+Refers o i base f = MatchOption o (base ≡ simple []) (λ j. (j ≤ i) × (base ≡ (f j).text))
 
 -- how a part ends
 unfoldable pub ends_of_part : Held → List Tree → Env → Part → Ending

@@ -12,12 +12,12 @@ use Rattle.cxx_printer.specs.Heads.{is_designator, count_of}
 use Rattle.cxx_printer.specs.Printing.{item, items_of, part_text, list_of, item_behind, is_still_first}
 
 -- the call appends the text; nothing is said where memory was refused
-unfoldable pub Prints : Result (Unit {0}) AllocError → List ℕ → List ℕ → List ℕ → Type 0
+abbrev pub Prints : Result (Unit {0}) AllocError → List ℕ → List ℕ → List ℕ → Type 0
 Prints (Ok u) old new text = new ≡ old ++ text
 Prints (Err e) old new text = Unit {0}
 
 -- the call appends an item of a list, and says whether the next one is the first
-unfoldable pub PrintsItem : Result Bool AllocError → List ℕ → List ℕ → Bool → List ℕ → Type 0
+abbrev pub PrintsItem : Result Bool AllocError → List ℕ → List ℕ → Bool → List ℕ → Type 0
 PrintsItem (Ok first) old new was_first text =
     (new ≡ old ++ item_behind was_first text) × (first ≡ is_still_first was_first text)
 PrintsItem (Err e) old new was_first text = Unit {0}

@@ -1,7 +1,7 @@
 //! Printing.
 //!
 //! Functions that print what a node holds take a `bound` too: the nodes that are printed stand before it.
-#![tactic(auto, using(crate::proofs::Appended::prints), unfolding(cxx_tree::specs::Stored::tree_of, cxx_tree::specs::Stored::plain_tree, cxx_tree::specs::Stored::declaration_tree, cxx_tree::specs::Stored::IsBelow, cxx_tree::specs::Stored::IsPlainBelow, cxx_tree::specs::Stored::IsDeclarationBelow, crate::specs::Printing::print))]
+#![tactic(auto, using(crate::proofs::Appended::prints), unfolding(cxx_tree::specs::Stored::tree_of, cxx_tree::specs::Stored::plain_tree, cxx_tree::specs::Stored::declaration_tree, cxx_tree::specs::Stored::IsBelow, cxx_tree::specs::Stored::IsPlainBelow, cxx_tree::specs::Stored::IsDeclarationBelow, crate::specs::Printing::print, crate::specs::Prints::text_of_part))]
 
 ghost use Rattle.std.specs.Prelude.{◌≡◌, ℕ, nat_eq, ◌+◌, ◌<◌, ◌≤◌, Bool, true, false, List, [], ◌∷◌, ◌++◌, codes, length, Option, Some, None, if◌then◌else◌, IfOk};
 ghost use Rattle.std.specs.List.{AllByRecursion};
@@ -25,7 +25,7 @@ use crate::shapes::{
 };
 use crate::words::{closed, cv_text, mark, member_opened, opened, ref_text, std_text};
 use cxx_tree::{
-    Arena, Cv, Declaration, List, Listing, Manner, Node, Part, Parts, Phrase, Plain, Prec, RefQual, Text,
+    Arena, Cv, Declaration, List, Listing, Manner, Node, Part, Parts, Phrase, Plain, Prec, RefQual, Text, MOST_DIGITS, number_bytes,
 };
 use growing_text::Text as Output;
 use std::alloc::AllocError;
@@ -656,11 +656,8 @@ fn write_sizeof(has_blank: bool, out: &mut Output) -> Result<(), AllocError>
 fn write_number(n: u64, out: &mut Output) -> Result<(), AllocError>
     ensures prints { Prints result out.old out.new (decimal n) }
 {
-    if n >= 10 {
-        tri!(write_number(n / 10, out));
-    }
-    let digit = [b'0' + (n % 10) as u8];
-    write(out, &digit)
+    let mut spare = [0; MOST_DIGITS];
+    write(out, number_bytes(&mut spare, n as u128))
 }
 
 /// Appends a pack that a fold expression folds.
@@ -1052,7 +1049,6 @@ fn left_pointer(arena: &Arena, env: Env, t: u32, out: &mut Output) -> Result<(),
     }
 }
 
-#[tactic(auto, using(crate::proofs::Appended::prints))]
 fn write_id(protocol: &[u8], out: &mut Output) -> Result<(), AllocError>
     ensures prints { Prints result out.old out.new (codes "id<" ++ (protocol.now ++ codes ">")) }
 {

@@ -3,11 +3,13 @@
 
 mod arena;
 mod counts;
+mod digits;
 mod kinds;
 mod measuring;
 mod node;
 
 pub use crate::arena::{Arena, PushError};
 pub use crate::counts::Measure;
+pub use crate::digits::{MOST_DIGITS, number_bytes};
 pub use crate::kinds::{Context, Cv, Guard, Listing, Manner, Phrase, Prec, RefQual, Role, Std};
 pub use crate::node::{Declaration, List, Node, Part, Parts, Plain, Range, Text};

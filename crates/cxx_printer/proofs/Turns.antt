@@ -1,0 +1,127 @@
+-- What the turns of the printer's loops append.
+use Rattle.std.proofs.Common.{ℕ, ◌≡◌, ◌+◌, ◌-◌, ◌<◌, ◌≤◌, Bool, true, false, List, [], ◌∷◌, ◌++◌, length, take, drop, codes, refl, sym, ap, ◌∙◌, arith, append_assoc, zero, suc, Option, Some, None, length-append, nat_eq}
+use Rattle.std.proofs.Math.ListN.{get_or}
+use Rattle.std.proofs.lemmas.List.{append-nil}
+use Rattle.std.proofs.lemmas.Grind.{common_steps}
+use Rattle.cxx_tree.specs.declared.node.Part.{Part}
+use Rattle.cxx_tree.specs.declared.node.Part.TheVariants as part
+use Rattle.cxx_tree.specs.Tree.{Tree}
+use Rattle.cxx_tree.specs.Stored.{Held, tree_at, trees_at, parts_of}
+use Rattle.cxx_printer.specs.declared.env.Env.{Env}
+use Rattle.cxx_printer.specs.Words.{at}
+use Rattle.cxx_printer.specs.Prints.{text_of_part}
+use Rattle.cxx_printer.specs.Printing.{Item, item, items_of, print, print_parts, whole, separator, item_behind, is_still_first, item_text, list_from, sequence, declared, declarations, head, heads, repeated, bracket_blank}
+use Rattle.cxx_printer.specs.Asked.{OneSided}
+
+-- what is printed so far and what is left make the whole
+pub so_far_step : (a b new all rest x more : List ℕ) → a ++ all ≡ b ++ rest → rest ≡ x ++ more → new ≡ b ++ x → a ++ all ≡ new ++ more
+so_far_step a b new all rest x more h e k =
+    h ∙ ap (λ (l : List ℕ). b ++ l) e ∙ sym (append_assoc b x more) ∙ ap (λ (l : List ℕ). l ++ more) (sym k)
+
+pub so_far_end : (a new all rest : List ℕ) → a ++ all ≡ new ++ rest → rest ≡ [] → new ≡ a ++ all
+so_far_end a new all rest h e = sym (h ∙ ap (λ (l : List ℕ). new ++ l) e ∙ append-nil new)
+
+pub list_step : (ts : List Tree) (is : List ℕ) (env : Env) (first : Bool) (k d : ℕ) → k < length is →
+    list_from first env (items_of (trees_at ts (drop k is))) ≡ item_behind first (item_text env (item (tree_at ts (get_or is k d)))) ++ list_from (is_still_first first (item_text env (item (tree_at ts (get_or is k d))))) env (items_of (trees_at ts (drop (k + 1) is)))
+unfolding print list_from
+list_step ts [] env first k d h = absurd (omega arith)
+list_step ts (i ∷ is) env first zero d h = refl
+list_step ts (i ∷ is) env first (suc k) d h =
+    let e : suc k + 1 ≡ suc (k + 1) = omega arith in
+    let x = item_text env (item (tree_at ts (get_or is k d))) in
+    list_step ts is env first k d (omega arith)
+    ∙ ap (λ (j : ℕ). item_behind first x ++ list_from (is_still_first first x) env (items_of (trees_at ts (drop j (i ∷ is))))) (sym e)
+
+pub list_end : (ts : List Tree) (is : List ℕ) (env : Env) (first : Bool) (k : ℕ) → length is ≤ k → list_from first env (items_of (trees_at ts (drop k is))) ≡ []
+unfolding print list_from
+list_end ts [] env first zero h = refl
+list_end ts [] env first (suc k) h = refl
+list_end ts (i ∷ is) env first zero h = absurd (omega arith)
+list_end ts (i ∷ is) env first (suc k) h = list_end ts is env first k (omega arith)
+
+pub sequence_step : (ts : List Tree) (is : List ℕ) (env : Env) (k d : ℕ) → k < length is →
+    sequence env (items_of (trees_at ts (drop k is))) ≡ whole (print (tree_at ts (get_or is k d)) env) ++ sequence env (items_of (trees_at ts (drop (k + 1) is)))
+unfolding print sequence
+sequence_step ts [] env k d h = absurd (omega arith)
+sequence_step ts (i ∷ is) env zero d h = refl
+sequence_step ts (i ∷ is) env (suc k) d h =
+    let e : suc k + 1 ≡ suc (k + 1) = omega arith in
+    sequence_step ts is env k d (omega arith)
+    ∙ ap (λ (j : ℕ). whole (print (tree_at ts (get_or is k d)) env) ++ sequence env (items_of (trees_at ts (drop j (i ∷ is))))) (sym e)
+
+pub sequence_end : (ts : List Tree) (is : List ℕ) (env : Env) (k : ℕ) → length is ≤ k → sequence env (items_of (trees_at ts (drop k is))) ≡ []
+unfolding print sequence
+sequence_end ts [] env zero h = refl
+sequence_end ts [] env (suc k) h = refl
+sequence_end ts (i ∷ is) env zero h = absurd (omega arith)
+sequence_end ts (i ∷ is) env (suc k) h = sequence_end ts is env k (omega arith)
+
+pub declarations_step : (ts : List Tree) (is : List ℕ) (env : Env) (first : Bool) (k d : ℕ) → k < length is →
+    declarations first env (items_of (trees_at ts (drop k is))) ≡ (separator first ++ declared (print (tree_at ts (get_or is k d)) env)) ++ declarations false env (items_of (trees_at ts (drop (k + 1) is)))
+unfolding print declarations
+declarations_step ts [] env first k d h = absurd (omega arith)
+declarations_step ts (i ∷ is) env first zero d h = refl
+declarations_step ts (i ∷ is) env first (suc k) d h =
+    let e : suc k + 1 ≡ suc (k + 1) = omega arith in
+    declarations_step ts is env first k d (omega arith)
+    ∙ ap (λ (j : ℕ). (separator first ++ declared (print (tree_at ts (get_or is k d)) env)) ++ declarations false env (items_of (trees_at ts (drop j (i ∷ is))))) (sym e)
+
+pub declarations_end : (ts : List Tree) (is : List ℕ) (env : Env) (first : Bool) (k : ℕ) → length is ≤ k → declarations first env (items_of (trees_at ts (drop k is))) ≡ []
+unfolding print declarations
+declarations_end ts [] env first zero h = refl
+declarations_end ts [] env first (suc k) h = refl
+declarations_end ts (i ∷ is) env first zero h = absurd (omega arith)
+declarations_end ts (i ∷ is) env first (suc k) h = declarations_end ts is env first k (omega arith)
+
+pub heads_step : (ts : List Tree) (is : List ℕ) (env : Env) (first : Bool) (k d : ℕ) → k < length is →
+    heads first env (items_of (trees_at ts (drop k is))) ≡ (separator first ++ head (print (tree_at ts (get_or is k d)) env)) ++ heads false env (items_of (trees_at ts (drop (k + 1) is)))
+unfolding print heads
+heads_step ts [] env first k d h = absurd (omega arith)
+heads_step ts (i ∷ is) env first zero d h = refl
+heads_step ts (i ∷ is) env first (suc k) d h =
+    let e : suc k + 1 ≡ suc (k + 1) = omega arith in
+    heads_step ts is env first k d (omega arith)
+    ∙ ap (λ (j : ℕ). (separator first ++ head (print (tree_at ts (get_or is k d)) env)) ++ heads false env (items_of (trees_at ts (drop j (i ∷ is))))) (sym e)
+
+pub heads_end : (ts : List Tree) (is : List ℕ) (env : Env) (first : Bool) (k : ℕ) → length is ≤ k → heads first env (items_of (trees_at ts (drop k is))) ≡ []
+unfolding print heads
+heads_end ts [] env first zero h = refl
+heads_end ts [] env first (suc k) h = refl
+heads_end ts (i ∷ is) env first zero h = absurd (omega arith)
+heads_end ts (i ∷ is) env first (suc k) h = heads_end ts is env first k (omega arith)
+
+pub repeated_step : (n k : ℕ) (env : Env) (x : Item) → k < n → repeated (n - k) k env x ≡ (separator (nat_eq k 0) ++ whole (x.printed (at env (Some k)))) ++ repeated (n - (k + 1)) (k + 1) env x
+unfolding repeated
+repeated_step n k env x h =
+    let e : n - k ≡ suc (n - (k + 1)) = omega arith in ap (λ (m : ℕ). repeated m k env x) e
+
+pub repeated_end : (n k : ℕ) (env : Env) (x : Item) → n ≤ k → repeated (n - k) k env x ≡ []
+unfolding repeated
+repeated_end n k env x h =
+    let e : n - k ≡ 0 = omega arith in ap (λ (m : ℕ). repeated m k env x) e
+
+pub parts_step : (h : Held) (ts : List Tree) (ps : List Part) (env : Env) (k : ℕ) (d : Part) → k < length ps →
+    (print_parts (parts_of h ts (drop k ps)) env).text ≡ text_of_part h ts env (get_or ps k d) ++ (print_parts (parts_of h ts (drop (k + 1) ps)) env).text
+unfolding print text_of_part
+parts_step h ts [] env k d b = absurd (omega arith)
+parts_step h ts (part.Text x y ∷ ps) env zero d b = refl
+parts_step h ts (part.Tree manner t ∷ ps) env zero d b = refl
+parts_step h ts (part.Trees listing l ∷ ps) env zero d b = refl
+parts_step h ts (p ∷ ps) env (suc k) d b =
+    let e : suc k + 1 ≡ suc (k + 1) = omega arith in
+    parts_step h ts ps env k d (omega arith)
+    ∙ ap (λ (j : ℕ). text_of_part h ts env (get_or ps k d) ++ (print_parts (parts_of h ts (drop j (p ∷ ps))) env).text) (sym e)
+
+pub parts_end : (h : Held) (ts : List Tree) (ps : List Part) (env : Env) (k : ℕ) → length ps ≤ k → (print_parts (parts_of h ts (drop k ps)) env).text ≡ []
+unfolding print
+parts_end h ts [] env zero b = refl
+parts_end h ts [] env (suc k) b = refl
+parts_end h ts (p ∷ ps) env zero b = absurd (omega arith)
+parts_end h ts (p ∷ ps) env (suc k) b = parts_end h ts ps env k (omega arith)
+
+-- a tree with one side
+pub whole-left : (t : Tree) (env : Env) → OneSided t → whole (print t env) ≡ (print t env).text.left
+unfolding OneSided
+whole-left t env h =
+    ap (λ (b : Bool). (print t env).text.left ++ (bracket_blank b (print t env).closed ++ (print t env).text.right)) (h env).0.1
+    ∙ ap (λ (l : List ℕ). (print t env).text.left ++ l) (h env).0.0 ∙ append-nil (print t env).text.left
