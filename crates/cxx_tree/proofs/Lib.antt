@@ -1,3 +1,4 @@
 pub mod Forest
 pub mod Measured
 pub mod Grown
+pub mod Making

@@ -1,0 +1,39 @@
+-- What makes nodes: the texts, the lists and the parts of an arena stay right as it grows.
+use Rattle.std.proofs.Common.{ℕ, ◌≡◌, ◌+◌, ◌<◌, ◌≤◌, List, [], ◌∷◌, refl, sym, ap, ◌∙◌, arith, subst, Option, Some, None, false, Result, Ok, Err}
+use Rattle.std.specs.List.{AllByRecursion}
+use Rattle.cxx_tree.specs.declared.node.Text.{Text}
+use Rattle.cxx_tree.specs.declared.node.List as handle
+use Rattle.cxx_tree.specs.declared.node.Parts as handles
+use Rattle.cxx_tree.specs.declared.node.Part.{Part}
+use Rattle.cxx_tree.specs.declared.node.Node.{Node}
+use Rattle.cxx_tree.specs.declared.kinds.Phrase.{Phrase}
+use Rattle.cxx_tree.specs.declared.arena.PushError.{PushError}
+use Rattle.cxx_tree.specs.declared.arena.PushError.TheVariants.{Memory, Limit}
+use Rattle.cxx_tree.specs.Tree.{Tree, phrase}
+use Rattle.cxx_tree.specs.Grows.{Grows, Makes}
+use Rattle.cxx_tree.specs.Stored.{Held, Store, forest, size, tree_at, text_at, list_at, parts_at, parts_of, parts_in, trees_at, IsRange, IsText, IsPartBelow, IsPartsBelow}
+use Rattle.cxx_tree.proofs.Forest.{parts_of-more, parts_of-same, all_parts-more}
+use Rattle.cxx_tree.proofs.Grown.{Makes-after, Makes-refused}
+
+-- parts of a grown arena
+pub parts_of-grows : (a b : Store) → Grows a b → (ps : List Part) → AllByRecursion (IsPartBelow a.held (size a)) ps → parts_of b.held (forest b) ps ≡ parts_of a.held (forest a) ps
+parts_of-grows a b g ps below =
+    parts_of-more a.held b.held g.extends (size a) (forest b) ps below ∙ parts_of-same a.held (size a) (forest b) (forest a) g.same ps below
+
+pub parts-grow : (a b : Store) → Grows a b → (ps : List Part) → AllByRecursion (IsPartBelow a.held (size a)) ps → AllByRecursion (IsPartBelow b.held (size b)) ps
+parts-grow a b g ps below = all_parts-more a.held b.held g.extends (size a) (size b) g.longer ps below
+
+-- parts that were copied
+pub parts_in-copied : (a b : Store) → Grows a b → (ps : List Part) → AllByRecursion (IsPartBelow a.held (size a)) ps → (l : handles.Parts) → parts_at b.held l ≡ ps → parts_in b.held (forest b) l ≡ parts_of a.held (forest a) ps
+parts_in-copied a b g ps below l e = ap (parts_of b.held (forest b)) e ∙ parts_of-grows a b g ps below
+
+pub parts-copied : (a b : Store) → Grows a b → (ps : List Part) → AllByRecursion (IsPartBelow a.held (size a)) ps → (l : handles.Parts) → parts_at b.held l ≡ ps → AllByRecursion (IsPartBelow b.held (size b)) (parts_at b.held l)
+parts-copied a b g ps below l e = subst (AllByRecursion (IsPartBelow b.held (size b))) (sym e) (parts-grow a b g ps below)
+
+-- after what is held grew, over the same tree
+pub Makes-then : (r : Result ℕ PushError) (a b c : Store) (t u : Tree) → Grows a b → t ≡ u → Makes r b c t → Makes r a c u
+Makes-then r a b c t u g e m = Makes-after r a b c u g (subst (Makes r b c) e m)
+
+-- memory was refused
+pub Makes-memory : (r : Result ℕ PushError) (a b : Store) (t : Tree) → r ≡ Err Memory → Grows a b → Makes r a b t
+Makes-memory r a b t e g = subst (λ (x : Result ℕ PushError). Makes x a b t) (sym e) (Makes-refused a b t g)
