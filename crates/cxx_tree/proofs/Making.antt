@@ -12,7 +12,7 @@ use Rattle.cxx_tree.specs.declared.arena.PushError.TheVariants.{Memory, Limit}
 use Rattle.cxx_tree.specs.Tree.{Tree, phrase}
 use Rattle.cxx_tree.specs.Grows.{Grows, Makes}
 use Rattle.cxx_tree.specs.Stored.{Held, Store, forest, size, tree_at, text_at, list_at, parts_at, parts_of, parts_in, trees_at, IsRange, IsText, IsPartBelow, IsPartsBelow}
-use Rattle.cxx_tree.proofs.Forest.{parts_of-more, parts_of-same, all_parts-more}
+use Rattle.cxx_tree.proofs.Forest.{parts_of-more, parts_of-same, all_parts-more, text_at-more, IsText-more}
 use Rattle.cxx_tree.proofs.Grown.{Makes-after, Makes-refused}
 
 -- parts of a grown arena
@@ -37,3 +37,12 @@ Makes-then r a b c t u g e m = Makes-after r a b c u g (subst (Makes r b c) e m)
 -- memory was refused
 pub Makes-memory : (r : Result ℕ PushError) (a b : Store) (t : Tree) → r ≡ Err Memory → Grows a b → Makes r a b t
 Makes-memory r a b t e g = subst (λ (x : Result ℕ PushError). Makes x a b t) (sym e) (Makes-refused a b t g)
+
+-- texts of a grown arena
+pub text_at-grows : (a b : Store) (t : Text) → Grows a b → IsText a.held t → text_at b.held t ≡ text_at a.held t
+text_at-grows a b t g i = text_at-more a.held b.held g.extends t i
+
+pub IsText-grows : (a b : Store) (t : Text) → Grows a b → IsText a.held t → IsText b.held t
+IsText-grows a b t g i = IsText-more a.held b.held g.extends t i
+
+pub ruleset making = (Makes-memory, Makes-after, parts_of-grows, text_at-grows, IsText-grows)
