@@ -5,13 +5,14 @@ ghost use Rattle.std.specs.List.{AllByRecursion};
 ghost use Rattle.cxx_tree.specs.Grows.{Makes};
 ghost use Rattle.cxx_tree.specs.Stored.{forest, size, tree_at, trees_at, text_at, IsText, IsOptionBelow};
 ghost use Rattle.cxx_tree.specs.Rows as rows;
+ghost use Rattle.cxx_tree.specs.Tree as tree;
 
 use crate::parts::{
-    enclosed, expression, fixed, gnu_operand, held, is_text, length, list, loose, open, phrase,
-    primary, styled, tight, whole,
+    enclosed, expression, fixed, gnu_operand, held, is_text, length, list, lists, loose, open,
+    phrase, primary, styled, tight, whole,
 };
 use cxx_tree::{
-    Arena, Context, Guard, List, Listing, Manner, Part, Phrase, Prec, PushError, Role, Text,
+    Arena, Context, Guard, Listing, Manner, Part, Phrase, Prec, PushError, Role, Text,
 };
 
 // How the operand of a prefix is printed.
@@ -291,4 +292,341 @@ pub fn call(arena: &mut Arena, function: u32, args: &[u32]) -> Result<u32, PushE
         Part::Trees(Listing::Parens, args),
     ];
     phrase(arena, expression(0, Prec::Postfix), &parts)
+}
+
+// The word of a `new` expression in LLVM's style.
+fn new_llvm(is_global: bool, is_array: bool) -> &'static [u8]
+    ensures value { result.now ≡ rows.new_llvm is_global is_array }
+{
+    match (is_global, is_array) {
+        (false, false) => b"new",
+        (false, true) => b"new[]",
+        (true, false) => b"::new",
+        (true, true) => b"::new[]",
+    }
+}
+
+// The word of a `new` expression in GNU's style.
+fn new_gnu(is_global: bool) -> &'static [u8]
+    ensures value { result.now ≡ rows.new_gnu is_global }
+{
+    match is_global {
+        false => b"new ",
+        true => b"::new ",
+    }
+}
+
+/// Makes `new TYPE(INITS)`, with a placement `new(PLACEMENT) TYPE(INITS)`, or in GNU's style `new (PLACEMENT)
+/// TYPE(INITS)`. If it is global, `::` stands in front.
+pub fn new_expression(
+    arena: &mut Arena,
+    placement: &[u32],
+    t: u32,
+    inits: &[u32],
+    is_global: bool,
+    is_array: bool,
+) -> Result<u32, PushError>
+    requires placement { AllByRecursion (λ t. t < size arena.old) placement.now }
+    requires t { t < size arena.old }
+    requires inits { AllByRecursion (λ t. t < size arena.old) inits.now }
+    ensures makes { Makes result arena.old arena.new (rows.new_expression (trees_at (forest arena.old) placement.now)
+        (tree_at (forest arena.old) t) (trees_at (forest arena.old) inits.now) is_global is_array) }
+{
+    let front = styled(new_llvm(is_global, is_array), new_gnu(is_global));
+    let attributes = expression(0, Prec::Unary);
+    let blank = styled(b" ", b"");
+    let (places, values) = lists(arena, placement, inits)?;
+    let places = Part::Trees(Listing::Parens, places);
+    let values = Part::Trees(Listing::Parens, values);
+    match (placement.is_empty(), inits.is_empty()) {
+        (true, true) => phrase(arena, attributes, &[front, blank, whole(t)]),
+        (true, false) => phrase(arena, attributes, &[front, blank, whole(t), values]),
+        (false, true) => phrase(arena, attributes, &[front, places, fixed(b" "), whole(t)]),
+        (false, false) => phrase(
+            arena,
+            attributes,
+            &[front, places, fixed(b" "), whole(t), values],
+        ),
+    }
+}
+
+/// Makes `(TYPE)(ES)`, in GNU's style `(TYPE)E` if there is one.
+pub fn conversion(arena: &mut Arena, t: u32, es: &[u32], prec: Prec) -> Result<u32, PushError>
+    requires t { t < size arena.old }
+    requires es { AllByRecursion (λ t. t < size arena.old) es.now }
+    ensures makes { Makes result arena.old arena.new (rows.conversion (tree_at (forest arena.old) t)
+        (trees_at (forest arena.old) es.now) prec) }
+{
+    if es.len() == 1 {
+        let argument = Part::Tree(Manner::Argument, es[0]);
+        return phrase(
+            arena,
+            open(0, prec),
+            &[fixed(b"("), enclosed(t), fixed(b")"), argument],
+        );
+    }
+    let es = list(arena, es)?;
+    let parts = [
+        fixed(b"("),
+        enclosed(t),
+        fixed(b")"),
+        Part::Trees(Listing::Parens, es),
+    ];
+    phrase(arena, expression(0, prec), &parts)
+}
+
+/// Makes `{ES}` or `TYPE{ES}`.
+pub fn init_list(arena: &mut Arena, ty: Option<u32>, es: &[u32]) -> Result<u32, PushError>
+    requires ty { IsOptionBelow (size arena.old) ty }
+    requires es { AllByRecursion (λ t. t < size arena.old) es.now }
+    ensures makes { Makes result arena.old arena.new (rows.init_list (option_map (tree_at (forest arena.old)) ty)
+        (trees_at (forest arena.old) es.now)) }
+{
+    let attributes = Phrase {
+        role: Role::Simple,
+        ..primary(0)
+    };
+    let items = Part::Trees(Listing::Items, list(arena, es)?);
+    match ty {
+        Some(t) => phrase(
+            arena,
+            attributes,
+            &[whole(t), fixed(b"{"), items, fixed(b"}")],
+        ),
+        None => phrase(arena, attributes, &[fixed(b"{"), items, fixed(b"}")]),
+    }
+}
+
+// The attributes of a designator.
+fn designator() -> Phrase
+    ensures value { result ≡ rows.designator }
+{
+    Phrase {
+        role: Role::Designator,
+        ..primary(0)
+    }
+}
+
+/// Makes `.FIELD = E`, or `[INDEX] = E`.
+pub fn designated(arena: &mut Arena, d: u32, e: u32, is_index: bool) -> Result<u32, PushError>
+    requires d { d < size arena.old }
+    requires e { e < size arena.old }
+    ensures makes { Makes result arena.old arena.new
+        (rows.designated (tree_at (forest arena.old) d) (tree_at (forest arena.old) e) is_index) }
+{
+    let value = Part::Tree(Manner::Value, e);
+    if is_index {
+        return phrase(
+            arena,
+            designator(),
+            &[fixed(b"["), whole(d), fixed(b"]"), value],
+        );
+    }
+    phrase(arena, designator(), &[fixed(b"."), whole(d), value])
+}
+
+/// Makes `[FIRST ... LAST] = E`.
+pub fn designated_range(
+    arena: &mut Arena,
+    first: u32,
+    last: u32,
+    e: u32,
+) -> Result<u32, PushError>
+    requires first { first < size arena.old }
+    requires last { last < size arena.old }
+    requires e { e < size arena.old }
+    ensures makes { Makes result arena.old arena.new (rows.designated_range (tree_at (forest arena.old) first)
+        (tree_at (forest arena.old) last) (tree_at (forest arena.old) e)) }
+{
+    let parts = [
+        fixed(b"["),
+        whole(first),
+        fixed(b" ... "),
+        whole(last),
+        fixed(b"]"),
+        Part::Tree(Manner::Value, e),
+    ];
+    phrase(arena, designator(), &parts)
+}
+
+// Makes `(A SYMBOL ... SYMBOL B)`.
+fn fold_between(
+    arena: &mut Arena,
+    attributes: Phrase,
+    symbol: Text,
+    a: (Manner, u32),
+    b: (Manner, u32),
+) -> Result<u32, PushError>
+    requires symbol { IsText arena.old.held symbol }
+    requires a { a.1 < size arena.old }
+    requires b { b.1 < size arena.old }
+    ensures makes { Makes result arena.old arena.new (tree.phrase attributes (rows.fold_between
+        (text_at arena.old.held symbol) a.0 (tree_at (forest arena.old) a.1) b.0 (tree_at (forest arena.old) b.1))) }
+{
+    let blank = styled(b" ", b"");
+    let parts = [
+        fixed(b"("),
+        Part::Tree(a.0, a.1),
+        blank,
+        held(symbol),
+        styled(b" ... ", b"..."),
+        held(symbol),
+        blank,
+        Part::Tree(b.0, b.1),
+        fixed(b")"),
+    ];
+    phrase(arena, attributes, &parts)
+}
+
+/// Makes `(... SYMBOL PACK)`, `(PACK SYMBOL ...)`, `(INIT SYMBOL ... SYMBOL PACK)` or `(PACK SYMBOL ... SYMBOL INIT)`,
+/// in GNU's style without blanks.
+pub fn fold(
+    arena: &mut Arena,
+    is_left: bool,
+    symbol: Text,
+    pack: u32,
+    init: Option<u32>,
+) -> Result<u32, PushError>
+    requires symbol { IsText arena.old.held symbol }
+    requires pack { pack < size arena.old }
+    requires init { IsOptionBelow (size arena.old) init }
+    ensures makes { Makes result arena.old arena.new (rows.fold is_left (text_at arena.old.held symbol)
+        (tree_at (forest arena.old) pack) (option_map (tree_at (forest arena.old)) init)) }
+{
+    let attributes = Phrase {
+        guard: Guard::Enclosed,
+        ..primary(length(arena, symbol))
+    };
+    let folded = Part::Tree(Manner::Folded, pack);
+    let blank = styled(b" ", b"");
+    let loose = Manner::Operand(Prec::Cast, true);
+    match (init, is_left) {
+        (None, true) => {
+            let parts = [
+                styled(b"(... ", b"(..."),
+                held(symbol),
+                blank,
+                folded,
+                fixed(b")"),
+            ];
+            phrase(arena, attributes, &parts)
+        }
+        (None, false) => {
+            let parts = [
+                fixed(b"("),
+                folded,
+                blank,
+                held(symbol),
+                styled(b" ...)", b"...)"),
+            ];
+            phrase(arena, attributes, &parts)
+        }
+        (Some(i), true) => {
+            fold_between(arena, attributes, symbol, (loose, i), (Manner::Folded, pack))
+        }
+        (Some(i), false) => {
+            fold_between(arena, attributes, symbol, (Manner::Folded, pack), (loose, i))
+        }
+    }
+}
+
+/// Makes `"<TYPE>"`.
+pub fn string_literal(arena: &mut Arena, t: u32) -> Result<u32, PushError>
+    requires t { t < size arena.old }
+    ensures makes { Makes result arena.old arena.new (rows.string_literal (tree_at (forest arena.old) t)) }
+{
+    phrase(arena, primary(0), &[fixed(b"\"<"), whole(t), fixed(b">\"")])
+}
+
+/// Makes `(TYPE)VALUE`.
+pub fn typed_literal(arena: &mut Arena, t: u32, value: Text) -> Result<u32, PushError>
+    requires t { t < size arena.old }
+    requires value { IsText arena.old.held value }
+    ensures makes { Makes result arena.old arena.new
+        (rows.typed_literal (tree_at (forest arena.old) t) (text_at arena.old.held value)) }
+{
+    let attributes = primary(length(arena, value));
+    phrase(
+        arena,
+        attributes,
+        &[fixed(b"("), enclosed(t), fixed(b")"), held(value)],
+    )
+}
+
+/// Makes `requires {REQUIREMENTS }`, or `requires (PARAMS) {REQUIREMENTS }`.
+pub fn requires_expression(
+    arena: &mut Arena,
+    params: &[u32],
+    requirements: &[u32],
+) -> Result<u32, PushError>
+    requires params { AllByRecursion (λ t. t < size arena.old) params.now }
+    requires requirements { AllByRecursion (λ t. t < size arena.old) requirements.now }
+    ensures makes { Makes result arena.old arena.new (rows.requires_expression
+        (trees_at (forest arena.old) params.now) (trees_at (forest arena.old) requirements.now)) }
+{
+    let (listed, sequence) = lists(arena, params, requirements)?;
+    let sequence = Part::Trees(Listing::Sequence, sequence);
+    if params.is_empty() {
+        return phrase(
+            arena,
+            primary(0),
+            &[fixed(b"requires {"), sequence, fixed(b" }")],
+        );
+    }
+    let parts = [
+        fixed(b"requires "),
+        Part::Trees(Listing::Parens, listed),
+        fixed(b" {"),
+        sequence,
+        fixed(b" }"),
+    ];
+    phrase(arena, primary(0), &parts)
+}
+
+/// Makes ` E;`, ` {E} noexcept;`, ` {E} -> TYPE;` or ` {E} noexcept -> TYPE;`.
+pub fn expr_requirement(
+    arena: &mut Arena,
+    e: u32,
+    is_noexcept: bool,
+    ty: Option<u32>,
+) -> Result<u32, PushError>
+    requires e { e < size arena.old }
+    requires ty { IsOptionBelow (size arena.old) ty }
+    ensures makes { Makes result arena.old arena.new (rows.expr_requirement (tree_at (forest arena.old) e)
+        is_noexcept (option_map (tree_at (forest arena.old)) ty)) }
+{
+    let front = fixed(b" {");
+    match (is_noexcept, ty) {
+        (false, None) => phrase(arena, primary(0), &[fixed(b" "), whole(e), fixed(b";")]),
+        (true, None) => phrase(
+            arena,
+            primary(0),
+            &[front, enclosed(e), fixed(b"} noexcept;")],
+        ),
+        (false, Some(t)) => phrase(
+            arena,
+            primary(0),
+            &[front, enclosed(e), fixed(b"} -> "), whole(t), fixed(b";")],
+        ),
+        (true, Some(t)) => phrase(
+            arena,
+            primary(0),
+            &[front, enclosed(e), fixed(b"} noexcept -> "), whole(t), fixed(b";")],
+        ),
+    }
+}
+
+/// Makes ` WORD TREE;`.
+pub fn requirement(arena: &mut Arena, text: Text, t: u32) -> Result<u32, PushError>
+    requires text { IsText arena.old.held text }
+    requires t { t < size arena.old }
+    ensures makes { Makes result arena.old arena.new
+        (rows.requirement (text_at arena.old.held text) (tree_at (forest arena.old) t)) }
+{
+    let attributes = primary(length(arena, text));
+    phrase(
+        arena,
+        attributes,
+        &[fixed(b" "), held(text), fixed(b" "), whole(t), fixed(b";")],
+    )
 }

@@ -11,8 +11,10 @@ mod parts;
 mod types;
 
 pub use crate::expressions::{
-    binary, call, conditional, count, enclosing, member, named_cast, postfix_op, prefix_op,
-    prefixed, subobject, subscript,
+    binary, call, conditional, conversion, count, designated, designated_range, enclosing,
+    expr_requirement, fold, init_list, member, named_cast, new_expression, postfix_op, prefix_op,
+    prefixed, requirement, requires_expression, string_literal, subobject, subscript,
+    typed_literal,
 };
 pub use crate::names::{
     bindings, ctor_dtor, ctor_vtable, default_arg, dtor_name, lambda_param, literal, module_name,

@@ -142,6 +142,26 @@ pub fn list(arena: &mut Arena, ts: &[u32]) -> Result<List, AllocError>
     arena.list(ts)
 }
 
+/// Copies two lists of nodes.
+pub fn lists(arena: &mut Arena, ts: &[u32], us: &[u32]) -> Result<(List, List), AllocError>
+    requires below { AllByRecursion (λ t. t < size arena.old) ts.now }
+    requires second { AllByRecursion (λ t. t < size arena.old) us.now }
+    ensures below { IfOk result (λ l. IsListBelow arena.new.held (size arena.old) l.0) }
+    ensures trees { IfOk result
+        (λ l. trees_in arena.new.held (forest arena.old) l.0 ≡ trees_at (forest arena.old) ts.now) }
+    ensures below_second { IfOk result (λ l. IsListBelow arena.new.held (size arena.old) l.1) }
+    ensures trees_second { IfOk result
+        (λ l. trees_in arena.new.held (forest arena.old) l.1 ≡ trees_at (forest arena.old) us.now) }
+    ensures grows { Grows arena.old arena.new }
+    ensures forest { forest arena.new ≡ forest arena.old }
+    ensures size { size arena.new ≡ size arena.old }
+    ensures texts { arena.new.held.texts ≡ arena.old.held.texts }
+{
+    let first = list(arena, ts)?;
+    let second = list(arena, us)?;
+    Ok((first, second))
+}
+
 /// Copies parts.
 pub fn parts(arena: &mut Arena, ps: &[Part]) -> Result<Parts, AllocError>
     requires below { AllByRecursion (IsPartBelow arena.old.held (size arena.old)) ps.now }

@@ -172,7 +172,7 @@ parts_of-more h g e n ts (part.Trees listing l ∷ ps) b =
     let rest = parts_of-more h g e n ts ps b.1 in
     cc
 
-trees_in-more : (h g : Held) → Extends h g → (n : ℕ) (ts : List Tree) (l : handle.List) → IsListBelow h n l → trees_in g ts l ≡ trees_in h ts l
+pub trees_in-more : (h g : Held) → Extends h g → (n : ℕ) (ts : List Tree) (l : handle.List) → IsListBelow h n l → trees_in g ts l ≡ trees_in h ts l
 trees_in-more h g e n ts l b = ap (trees_at ts) (list_at-more h g e l b.0)
 
 parts_in-more : (h g : Held) → Extends h g → (n : ℕ) (ts : List Tree) (ps : handles.Parts) → IsPartsBelow h n ps → parts_in g ts ps ≡ parts_in h ts ps

@@ -11,8 +11,8 @@ use Rattle.cxx_tree.specs.declared.arena.PushError.{PushError}
 use Rattle.cxx_tree.specs.declared.arena.PushError.TheVariants.{Memory, Limit}
 use Rattle.cxx_tree.specs.Tree.{Tree, phrase}
 use Rattle.cxx_tree.specs.Grows.{Grows, Makes}
-use Rattle.cxx_tree.specs.Stored.{Held, Store, forest, size, tree_at, text_at, list_at, parts_at, parts_of, parts_in, trees_at, IsRange, IsText, IsPartBelow, IsPartsBelow}
-use Rattle.cxx_tree.proofs.Forest.{parts_of-more, parts_of-same, all_parts-more, text_at-more, IsText-more}
+use Rattle.cxx_tree.specs.Stored.{Held, Store, forest, size, tree_at, text_at, list_at, parts_at, parts_of, parts_in, trees_at, trees_in, IsListBelow, IsRange, IsText, IsPartBelow, IsPartsBelow}
+use Rattle.cxx_tree.proofs.Forest.{parts_of-more, parts_of-same, all_parts-more, text_at-more, IsText-more, trees_in-more, IsListBelow-more}
 use Rattle.cxx_tree.proofs.Grown.{Makes-after, Makes-refused}
 
 -- parts of a grown arena
@@ -44,5 +44,12 @@ text_at-grows a b t g i = text_at-more a.held b.held g.extends t i
 
 pub IsText-grows : (a b : Store) (t : Text) → Grows a b → IsText a.held t → IsText b.held t
 IsText-grows a b t g i = IsText-more a.held b.held g.extends t i
+
+-- lists of a grown arena
+pub list-grows : (a b : Store) (n : ℕ) (l : handle.List) → Grows a b → IsListBelow a.held n l → IsListBelow b.held n l
+list-grows a b n l g i = IsListBelow-more a.held b.held g.extends n n (omega arith) l i
+
+pub trees_in-grows : (a b : Store) (n : ℕ) (ts : List Tree) (l : handle.List) → Grows a b → IsListBelow a.held n l → trees_in b.held ts l ≡ trees_in a.held ts l
+trees_in-grows a b n ts l g i = trees_in-more a.held b.held g.extends n ts l i
 
 pub ruleset making = (Makes-memory, Makes-after, parts_of-grows, text_at-grows, IsText-grows)

@@ -323,11 +323,15 @@ named_cast w t e =
 abbrev pub call : Tree → Trees → Tree
 call callee args = phrase (expression 0 Postfix) (tree Callee callee · parens args · no_parts)
 
-abbrev pub new_word : Bool → Bool → Parts → Parts
-new_word false false = styled "new" "new "
-new_word false true = styled "new[]" "new "
-new_word true false = styled "::new" "::new "
-new_word true true = styled "::new[]" "::new "
+abbrev pub new_llvm : Bool → Bool → List ℕ
+new_llvm false false = codes "new"
+new_llvm false true = codes "new[]"
+new_llvm true false = codes "::new"
+new_llvm true true = codes "::new[]"
+
+abbrev pub new_gnu : Bool → List ℕ
+new_gnu false = codes "new "
+new_gnu true = codes "::new "
 
 abbrev pub placed : Trees → Parts → Parts
 placed no_trees behind = styled " " "" · behind
@@ -336,7 +340,8 @@ placed (more_trees t ts) behind = parens (more_trees t ts) · fixed " " · behin
 abbrev pub new_expression : Trees → Tree → Trees → Bool → Bool → Tree
 new_expression placement t inits is_global is_array =
     phrase (expression 0 Unary)
-        (new_word is_global is_array · placed placement · whole t · parens_if_any inits · no_parts)
+        (text (new_llvm is_global is_array) (new_gnu is_global) · placed placement · whole t · parens_if_any inits
+        · no_parts)
 
 abbrev pub conversion : Tree → Trees → Prec → Tree
 conversion t (more_trees e no_trees) p =
@@ -361,19 +366,20 @@ abbrev pub designated_range : Tree → Tree → Tree → Tree
 designated_range a b e =
     phrase designator (fixed "[" · whole a · fixed " ... " · whole b · fixed "]" · tree Value e · no_parts)
 
-abbrev pub folded : Tree → Parts → Parts
-folded t = tree Folded t
+-- two operands, with the symbol at both sides of the dots
+abbrev pub fold_between : List ℕ → Manner → Tree → Manner → Tree → Parts
+fold_between symbol m a n b =
+    fixed "(" · tree m a · styled " " "" · held symbol · styled " ... " "..." · held symbol · styled " " "" · tree n b
+    · fixed ")" · no_parts
 
 -- the flag says that the pack is at the right of the dots
 abbrev pub fold_parts : Bool → List ℕ → Tree → Option Tree → Parts
-fold_parts true symbol t None = styled "(... " "(..." · held symbol · styled " " "" · folded t · fixed ")" · no_parts
-fold_parts false symbol t None = fixed "(" · folded t · styled " " "" · held symbol · styled " ...)" "...)" · no_parts
-fold_parts true symbol t (Some init) =
-    fixed "(" · loose Cast init · styled " " "" · held symbol · styled " ... " "..." · held symbol · styled " " ""
-    · folded t · fixed ")" · no_parts
-fold_parts false symbol t (Some init) =
-    fixed "(" · folded t · styled " " "" · held symbol · styled " ... " "..." · held symbol · styled " " ""
-    · loose Cast init · fixed ")" · no_parts
+fold_parts true symbol t None =
+    styled "(... " "(..." · held symbol · styled " " "" · tree Folded t · fixed ")" · no_parts
+fold_parts false symbol t None =
+    fixed "(" · tree Folded t · styled " " "" · held symbol · styled " ...)" "...)" · no_parts
+fold_parts true symbol t (Some init) = fold_between symbol (Operand Cast true) init Folded t
+fold_parts false symbol t (Some init) = fold_between symbol Folded t (Operand Cast true) init
 
 abbrev pub fold : Bool → List ℕ → Tree → Option Tree → Tree
 fold is_left symbol t init =
