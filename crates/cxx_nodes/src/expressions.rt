@@ -338,16 +338,17 @@ pub fn new_expression(
     let (places, values) = lists(arena, placement, inits)?;
     let places = Part::Trees(Listing::Parens, places);
     let values = Part::Trees(Listing::Parens, values);
-    match (placement.is_empty(), inits.is_empty()) {
-        (true, true) => phrase(arena, attributes, &[front, blank, whole(t)]),
-        (true, false) => phrase(arena, attributes, &[front, blank, whole(t), values]),
-        (false, true) => phrase(arena, attributes, &[front, places, fixed(b" "), whole(t)]),
-        (false, false) => phrase(
-            arena,
-            attributes,
-            &[front, places, fixed(b" "), whole(t), values],
-        ),
+    if placement.is_empty() {
+        if inits.is_empty() {
+            return phrase(arena, attributes, &[front, blank, whole(t)]);
+        }
+        return phrase(arena, attributes, &[front, blank, whole(t), values]);
     }
+    let blank = fixed(b" ");
+    if inits.is_empty() {
+        return phrase(arena, attributes, &[front, places, blank, whole(t)]);
+    }
+    phrase(arena, attributes, &[front, places, blank, whole(t), values])
 }
 
 /// Makes `(TYPE)(ES)`, in GNU's style `(TYPE)E` if there is one.

@@ -21,5 +21,5 @@ pub use crate::names::{
     name, unnamed, word,
 };
 pub use crate::types::{
-    array, suffixed, vector,
+    Rest, array, encoding, function, suffixed, template_param, vector, vendor_qualified,
 };

@@ -175,7 +175,7 @@ parts_of-more h g e n ts (part.Trees listing l ∷ ps) b =
 pub trees_in-more : (h g : Held) → Extends h g → (n : ℕ) (ts : List Tree) (l : handle.List) → IsListBelow h n l → trees_in g ts l ≡ trees_in h ts l
 trees_in-more h g e n ts l b = ap (trees_at ts) (list_at-more h g e l b.0)
 
-parts_in-more : (h g : Held) → Extends h g → (n : ℕ) (ts : List Tree) (ps : handles.Parts) → IsPartsBelow h n ps → parts_in g ts ps ≡ parts_in h ts ps
+pub parts_in-more : (h g : Held) → Extends h g → (n : ℕ) (ts : List Tree) (ps : handles.Parts) → IsPartsBelow h n ps → parts_in g ts ps ≡ parts_in h ts ps
 parts_in-more h g e n ts ps b = ap (parts_of g ts) (parts_at-more h g e ps b.0) ∙ parts_of-more h g e n ts (parts_at h ps) b.1
 
 plain_tree-more : (h g : Held) → Extends h g → (n : ℕ) (ts : List Tree) (p : Plain) → IsPlainBelow h n p → plain_tree g ts p ≡ plain_tree h ts p

@@ -11,8 +11,10 @@ use Rattle.cxx_tree.specs.declared.arena.PushError.{PushError}
 use Rattle.cxx_tree.specs.declared.arena.PushError.TheVariants.{Memory, Limit}
 use Rattle.cxx_tree.specs.Tree.{Tree, phrase}
 use Rattle.cxx_tree.specs.Grows.{Grows, Makes}
-use Rattle.cxx_tree.specs.Stored.{Held, Store, forest, size, tree_at, text_at, list_at, parts_at, parts_of, parts_in, trees_at, trees_in, IsListBelow, IsRange, IsText, IsPartBelow, IsPartsBelow}
-use Rattle.cxx_tree.proofs.Forest.{parts_of-more, parts_of-same, all_parts-more, text_at-more, IsText-more, trees_in-more, IsListBelow-more}
+use Rattle.cxx_tree.specs.Stored.{Held, Store, forest, size, tree_at, option_at, text_at, list_at, parts_at, parts_of, parts_in, trees_at, trees_in, IsListBelow, IsRange, IsText, IsPartBelow, IsPartsBelow}
+use Rattle.cxx_tree.proofs.Forest.{parts_of-more, parts_of-same, all_parts-more, text_at-more, IsText-more, trees_in-more, IsListBelow-more, IsPartsBelow-more, parts_in-more}
+use Rattle.std.specs.Prelude.{option_map}
+use Rattle.cxx_tree.specs.Rows.{at_most_one}
 use Rattle.cxx_tree.proofs.Grown.{Makes-after, Makes-refused}
 
 -- parts of a grown arena
@@ -51,5 +53,17 @@ list-grows a b n l g i = IsListBelow-more a.held b.held g.extends n n (omega ari
 
 pub trees_in-grows : (a b : Store) (n : ℕ) (ts : List Tree) (l : handle.List) → Grows a b → IsListBelow a.held n l → trees_in b.held ts l ≡ trees_in a.held ts l
 trees_in-grows a b n ts l g i = trees_in-more a.held b.held g.extends n ts l i
+
+-- parts of a grown arena that were copied
+pub IsPartsBelow-grows : (a b : Store) (n : ℕ) (l : handles.Parts) → Grows a b → IsPartsBelow a.held n l → IsPartsBelow b.held n l
+IsPartsBelow-grows a b n l g i = IsPartsBelow-more a.held b.held g.extends n n (omega arith) l i
+
+pub parts_in-grows : (a b : Store) (n : ℕ) (ts : List Tree) (l : handles.Parts) → Grows a b → IsPartsBelow a.held n l → parts_in b.held ts l ≡ parts_in a.held ts l
+parts_in-grows a b n ts l g i = parts_in-more a.held b.held g.extends n ts l i
+
+-- no return type or one
+pub at_most_one-at : (ts : List Tree) (o : Option ℕ) → at_most_one (option_map (tree_at ts) o) ≡ option_at ts o
+at_most_one-at ts None = refl
+at_most_one-at ts (Some i) = refl
 
 pub ruleset making = (Makes-memory, Makes-after, parts_of-grows, text_at-grows, IsText-grows)
