@@ -66,4 +66,10 @@ pub at_most_one-at : (ts : List Tree) (o : Option ℕ) → at_most_one (option_m
 at_most_one-at ts None = refl
 at_most_one-at ts (Some i) = refl
 
+-- a list that was copied after parts
+pub both-below : (a b c : Store) (l : handle.List) (ps : handles.Parts) → size b ≡ size a → size c ≡ size b → Grows b c → IsPartsBelow b.held (size a) ps → IsListBelow c.held (size b) l → IsListBelow c.held (size c) l × IsPartsBelow c.held (size c) ps
+both-below a b c l ps e f g i j =
+    let h : size a ≤ size c = omega (arith, e, f) in
+    (subst (λ (n : ℕ). IsListBelow c.held n l) (sym f) j, IsPartsBelow-more b.held c.held g.extends (size a) (size c) h ps i)
+
 pub ruleset making = (Makes-memory, Makes-after, parts_of-grows, text_at-grows, IsText-grows)
