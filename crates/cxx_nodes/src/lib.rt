@@ -6,6 +6,7 @@
 #![tactic(auto, using(cxx_tree::proofs::Making::making), unfolding(cxx_tree::specs::Stored::IsBelow, cxx_tree::specs::Stored::IsPlainBelow, cxx_tree::specs::Stored::IsDeclarationBelow, cxx_tree::specs::Stored::tree_of, cxx_tree::specs::Stored::plain_tree, cxx_tree::specs::Stored::declaration_tree))]
 
 mod expressions;
+mod lambdas;
 mod names;
 mod parts;
 mod types;
@@ -16,6 +17,7 @@ pub use crate::expressions::{
     prefixed, requirement, requires_expression, string_literal, subobject, subscript,
     typed_literal,
 };
+pub use crate::lambdas::{Signature, closure, lambda};
 pub use crate::names::{
     bindings, ctor_dtor, ctor_vtable, default_arg, dtor_name, lambda_param, literal, module_name,
     name, unnamed, word,
