@@ -21,7 +21,7 @@ phrase-requires c =
     let back : List Part = c.styled-3.result ∷ part.Text (text.Fixed _) c.args.ordinal ∷ c.styled-4.result ∷ [] in
     let signed = c.in_ok-push_signature.ensures.below b.held (size a) (lists.below, c.requires.before, lists.below_second, c.requires.behind) in
     let all = between-below b.held (size a) c.new-parts.result.items front _ _ back _ c.new-parts.ensures.items c.in_ok-extend_from_slice.ensures.items signed c.in_ok-extend_from_slice-2.ensures.items
-        (simp (c.styled.ensures.value, c.styled-2.ensures.value, c.styled-3.ensures.value, c.styled-4.ensures.value) ((tt, tt), (IsText-grows a b c.args.count lists.grows c.requires.count, tt), (tt, tt), tt)) (simp (c.styled.ensures.value, c.styled-2.ensures.value, c.styled-3.ensures.value, c.styled-4.ensures.value) ((tt, tt), (tt, IsText-grows a b c.args.ordinal lists.grows c.requires.ordinal), (tt, tt), tt)) in
+        (simp (c.styled.ensures.value, c.styled-2.ensures.value, c.styled-3.ensures.value, c.styled-4.ensures.value) ((tt, tt), ((IsText-grows a b c.args.count lists.grows c.requires.count, tt), ((tt, tt), tt)))) (simp (c.styled.ensures.value, c.styled-2.ensures.value, c.styled-3.ensures.value, c.styled-4.ensures.value) ((tt, tt), ((tt, IsText-grows a b c.args.ordinal lists.grows c.requires.ordinal), ((tt, tt), tt)))) in
     record { below = simp (c.deref.ensures.value, lists.size) all }
 
 pub returns : goal.returns
