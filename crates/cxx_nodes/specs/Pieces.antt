@@ -22,7 +22,8 @@ put h ts (p ∷ ps) behind = part_of h ts p (put h ts ps behind)
 
 -- a piece is added at the end
 abbrev pub Adds : List Part → List Part → (Held → List Tree → Parts → Parts) → Type 0
-Adds old new piece = (h : Held) (ts : List Tree) (behind : Parts) → put h ts new behind ≡ put h ts old (piece h ts behind)
+Adds old new piece =
+    (h : Held) (ts : List Tree) (behind : Parts) → put h ts new behind ≡ put h ts old (piece h ts behind)
 
 -- the parts that are added are in the arena and stand before an index, if a condition holds
 abbrev pub AddsBelow : List Part → List Part → (Held → ℕ → Type 0) → Type 0
@@ -38,8 +39,8 @@ declared_if false ts behind = behind
 abbrev pub signature_at : Held → List Tree → Bool → handle.List → Option ℕ → handle.List → Option ℕ → Parts → Parts
 signature_at h ts any declarations before params after behind =
     declared_if any (trees_in h ts declarations)
-        (constrained_before (option_map (tree_at ts) before)
-            (parens (trees_in h ts params) (constrained (option_map (tree_at ts) after) behind)))
+    (constrained_before (option_map (tree_at ts) before)
+    (parens (trees_in h ts params) (constrained (option_map (tree_at ts) after) behind)))
 
 abbrev pub IsSignatureBelow : Held → ℕ → handle.List → Option ℕ → handle.List → Option ℕ → Type 0
 IsSignatureBelow h n declarations before params after =

@@ -11,9 +11,7 @@ use crate::parts::{
     enclosed, expression, fixed, gnu_operand, held, is_text, length, list, lists, loose, open,
     phrase, primary, styled, tight, whole,
 };
-use cxx_tree::{
-    Arena, Context, Guard, Listing, Manner, Part, Phrase, Prec, PushError, Role, Text,
-};
+use cxx_tree::{Arena, Context, Guard, Listing, Manner, Part, Phrase, Prec, PushError, Role, Text};
 
 // How the operand of a prefix is printed.
 fn prefixed_manner(prec: Prec) -> Manner
@@ -113,13 +111,7 @@ fn right_manner(prec: Prec) -> Manner
 }
 
 /// Makes `A SYMBOL B`, in GNU's style without blanks. Before a comma there is no blank either.
-pub fn binary(
-    arena: &mut Arena,
-    a: u32,
-    symbol: Text,
-    b: u32,
-    prec: Prec,
-) -> Result<u32, PushError>
+pub fn binary(arena: &mut Arena, a: u32, symbol: Text, b: u32, prec: Prec) -> Result<u32, PushError>
     requires a { a < size arena.old }
     requires symbol { IsText arena.old.held symbol }
     requires b { b < size arena.old }
@@ -201,13 +193,7 @@ pub fn conditional(arena: &mut Arena, a: u32, b: u32, c: u32) -> Result<u32, Pus
 }
 
 /// Makes `A`, `SYMBOL` and `B` in a row: a member of an object.
-pub fn member(
-    arena: &mut Arena,
-    a: u32,
-    symbol: Text,
-    b: u32,
-    prec: Prec,
-) -> Result<u32, PushError>
+pub fn member(arena: &mut Arena, a: u32, symbol: Text, b: u32, prec: Prec) -> Result<u32, PushError>
     requires a { a < size arena.old }
     requires symbol { IsText arena.old.held symbol }
     requires b { b < size arena.old }
@@ -427,12 +413,7 @@ pub fn designated(arena: &mut Arena, d: u32, e: u32, is_index: bool) -> Result<u
 }
 
 /// Makes `[FIRST ... LAST] = E`.
-pub fn designated_range(
-    arena: &mut Arena,
-    first: u32,
-    last: u32,
-    e: u32,
-) -> Result<u32, PushError>
+pub fn designated_range(arena: &mut Arena, first: u32, last: u32, e: u32) -> Result<u32, PushError>
     requires first { first < size arena.old }
     requires last { last < size arena.old }
     requires e { e < size arena.old }
@@ -523,10 +504,22 @@ pub fn fold(
             phrase(arena, attributes, &parts)
         }
         (Some(i), true) => {
-            fold_between(arena, attributes, symbol, (loose, i), (Manner::Folded, pack))
+            fold_between(
+                arena,
+                attributes,
+                symbol,
+                (loose, i),
+                (Manner::Folded, pack),
+            )
         }
         (Some(i), false) => {
-            fold_between(arena, attributes, symbol, (Manner::Folded, pack), (loose, i))
+            fold_between(
+                arena,
+                attributes,
+                symbol,
+                (Manner::Folded, pack),
+                (loose, i),
+            )
         }
     }
 }
@@ -612,7 +605,13 @@ pub fn expr_requirement(
         (true, Some(t)) => phrase(
             arena,
             primary(0),
-            &[front, enclosed(e), fixed(b"} noexcept -> "), whole(t), fixed(b";")],
+            &[
+                front,
+                enclosed(e),
+                fixed(b"} noexcept -> "),
+                whole(t),
+                fixed(b";"),
+            ],
         ),
     }
 }

@@ -3,7 +3,8 @@
 ghost use Rattle.std.specs.Prelude.{◌≡◌, ℕ, ◌+◌, ◌<◌, ◌≤◌, length, true, false, option_map, OnOk};
 ghost use Rattle.std.specs.List.{AllByRecursion};
 ghost use Rattle.cxx_tree.specs.Grows.{Makes};
-ghost use Rattle.cxx_tree.specs.Stored.{forest, size, tree_at, trees_at, text_at, trees_in, IsText, IsListBelow, IsOptionBelow};
+ghost use Rattle.cxx_tree.specs.Stored.{forest, size, tree_at, trees_at};
+ghost use Rattle.cxx_tree.specs.Stored.{text_at, trees_in, IsText, IsListBelow, IsOptionBelow};
 ghost use Rattle.cxx_tree.specs.Rows as rows;
 ghost use Rattle.cxx_nodes.specs.Pieces.{Adds, AddsBelow, declared_if, signature_at, IsSignatureBelow};
 
@@ -128,11 +129,7 @@ pub fn closure(
 }
 
 /// Makes `[]SIGNATURE{...}`.
-pub fn lambda(
-    arena: &mut Arena,
-    alloc: Global,
-    signature: &Signature,
-) -> Result<u32, PushError>
+pub fn lambda(arena: &mut Arena, alloc: Global, signature: &Signature) -> Result<u32, PushError>
     requires declarations { AllByRecursion (λ t. t < size arena.old) signature.now.declarations.now }
     requires before { IsOptionBelow (size arena.old) signature.now.before }
     requires params { AllByRecursion (λ t. t < size arena.old) signature.now.params.now }

@@ -49,17 +49,13 @@ pub fn lambda_param(arena: &mut Arena, llvm: Text, gnu: Text) -> Result<u32, Pus
 }
 
 /// Makes a default argument: the scope `E`, and in GNU's style `::{default arg#ORDINAL}` behind it.
-pub fn default_arg(
-    arena: &mut Arena,
-    e: u32,
-    count: Text,
-    ordinal: Text,
-) -> Result<u32, PushError>
+pub fn default_arg(arena: &mut Arena, e: u32, count: Text, ordinal: Text) -> Result<u32, PushError>
     requires e { e < size arena.old }
     requires count { IsText arena.old.held count }
     requires ordinal { IsText arena.old.held ordinal }
     ensures makes { Makes result arena.old arena.new
-        (rows.default_arg (tree_at (forest arena.old) e) (text_at arena.old.held count) (text_at arena.old.held ordinal)) }
+        (rows.default_arg (tree_at (forest arena.old) e) (text_at arena.old.held count)
+        (text_at arena.old.held ordinal)) }
 {
     let attributes = primary(length(arena, count));
     let parts = [
@@ -80,8 +76,8 @@ pub fn module_name(
 ) -> Result<u32, PushError>
     requires parent { IsOptionBelow (size arena.old) parent }
     requires n { n < size arena.old }
-    ensures makes { Makes result arena.old arena.new
-        (rows.module_name (option_map (tree_at (forest arena.old)) parent) (tree_at (forest arena.old) n) is_partition) }
+    ensures makes { Makes result arena.old arena.new (rows.module_name
+        (option_map (tree_at (forest arena.old)) parent) (tree_at (forest arena.old) n) is_partition) }
 {
     let attributes = Phrase {
         role: Role::Module,

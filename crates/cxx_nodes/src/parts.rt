@@ -3,7 +3,8 @@
 ghost use Rattle.std.specs.Prelude.{◌≡◌, ℕ, ◌+◌, ◌<◌, ◌≤◌, length, true, false, IfOk, bytes_eq};
 ghost use Rattle.std.specs.List.{AllByRecursion};
 ghost use Rattle.cxx_tree.specs.Grows.{Grows, Makes};
-ghost use Rattle.cxx_tree.specs.Stored.{forest, size, trees_at, text_at, parts_of, trees_in, parts_in, IsText, IsPartBelow, IsListBelow, IsPartsBelow};
+ghost use Rattle.cxx_tree.specs.Stored.{forest, size, trees_at, text_at, parts_of};
+ghost use Rattle.cxx_tree.specs.Stored.{trees_in, parts_in, IsText, IsPartBelow, IsListBelow, IsPartsBelow};
 ghost use Rattle.cxx_tree.specs.Rows as rows;
 ghost use Rattle.cxx_tree.specs.Tree as tree;
 ghost use Rattle.cxx_tree.specs.declared.node.Part.TheVariants as part;

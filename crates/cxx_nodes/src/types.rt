@@ -3,13 +3,16 @@
 ghost use Rattle.std.specs.Prelude.{◌≡◌, ℕ, ◌+◌, ◌<◌, ◌≤◌, length, true, false, option_map, IfOk, Some};
 ghost use Rattle.std.specs.List.{AllByRecursion};
 ghost use Rattle.cxx_tree.specs.Grows.{Makes, Grows};
-ghost use Rattle.cxx_tree.specs.Stored.{forest, size, tree_at, trees_at, text_at, parts_in, IsText, IsOptionBelow, IsPartsBelow};
+ghost use Rattle.cxx_tree.specs.Stored.{forest, size, tree_at, trees_at};
+ghost use Rattle.cxx_tree.specs.Stored.{text_at, parts_in, IsText, IsOptionBelow, IsPartsBelow};
 ghost use Rattle.cxx_tree.specs.Tree.{no_parts};
 ghost use Rattle.cxx_tree.specs.Rows as rows;
 ghost use Rattle.cxx_nodes.specs.Lists.{lists_at, AreBelowIfAny};
 
 use crate::parts::{fixed, held, length, list, open, parts, phrase, primary, styled, whole};
-use cxx_tree::{Arena, Cv, Declaration, Listing, Node, Part, Parts, Phrase, Prec, PushError, RefQual, Text};
+use cxx_tree::{
+    Arena, Cv, Declaration, Listing, Node, Part, Parts, Phrase, Prec, PushError, RefQual, Text,
+};
 use std::alloc::AllocError;
 
 /// Makes `TYPE` and `LLVM` behind it, in GNU's style `GNU`.
@@ -219,10 +222,7 @@ fn enabled_parts(
     let front = fixed(b" [enable_if:");
     match constraint {
         None => parts(arena, &[front, conditions, fixed(b"]")]),
-        Some(r) => parts(
-            arena,
-            &[front, conditions, fixed(b"] requires "), whole(r)],
-        ),
+        Some(r) => parts(arena, &[front, conditions, fixed(b"] requires "), whole(r)]),
     }
 }
 

@@ -14,22 +14,23 @@ use Rattle.cxx_tree.specs.declared.kinds.Cv.{Cv}
 use Rattle.cxx_tree.specs.declared.kinds.RefQual.{RefQual}
 use Rattle.cxx_tree.specs.declared.kinds.Phrase.{Phrase}
 use Rattle.cxx_tree.specs.declared.kinds.Prec.{Prec}
-use Rattle.cxx_tree.specs.declared.kinds.Prec.TheVariants.{Primary, Postfix, Unary, Cast, OrIf, Conditional, Assign, Comma}
+use Rattle.cxx_tree.specs.declared.kinds.Prec.TheVariants.{Primary, Postfix, Unary, Cast, OrIf}
+use Rattle.cxx_tree.specs.declared.kinds.Prec.TheVariants.{Conditional, Assign, Comma}
 use Rattle.cxx_tree.specs.declared.kinds.Role.TheVariants.{Ordinary, Simple, Designator, Module}
 use Rattle.cxx_tree.specs.declared.kinds.Guard.{Guard}
 use Rattle.cxx_tree.specs.declared.kinds.Guard.TheVariants as guarded
 use Rattle.cxx_tree.specs.declared.kinds.Context.TheVariants.{Same, Enclosed, Angle}
 use Rattle.cxx_tree.specs.declared.kinds.Manner.{Manner}
-use Rattle.cxx_tree.specs.declared.kinds.Manner.TheVariants.{Whole, Operand, Scope, Callee, Address, Value, Argument, Count, Folded}
+use Rattle.cxx_tree.specs.declared.kinds.Manner.TheVariants.{Whole, Operand, Scope, Callee, Address, Value}
+use Rattle.cxx_tree.specs.declared.kinds.Manner.TheVariants.{Argument, Count, Folded}
 use Rattle.cxx_tree.specs.declared.kinds.Listing.TheVariants as listing
 use Rattle.cxx_tree.specs.Tree.{Tree, Trees, Parts, leaf, phrase, template_param, array, function, encoding}
 use Rattle.cxx_tree.specs.Tree.{no_trees, more_trees, no_parts, text, tree, trees}
 
 -- Pieces: each puts a part, a few or none in front of the parts behind it.
 
-infixr 20 ◌·◌
-
 -- a piece, and the parts behind it
+infixr 20 ◌·◌
 abbrev pub ◌·◌ : (Parts → Parts) → Parts → Parts
 piece · behind = piece behind
 
@@ -120,7 +121,8 @@ lambda_param llvm gnu = leaf false llvm gnu
 -- the ordinal of a count is given beside it
 abbrev pub default_arg : Tree → List ℕ → List ℕ → Tree
 default_arg e count ordinal =
-    phrase (primary (length count)) (tree Scope e · styled "" "::{default arg#" · text [] ordinal · styled "" "}" · no_parts)
+    phrase (primary (length count))
+    (tree Scope e · styled "" "::{default arg#" · text [] ordinal · styled "" "}" · no_parts)
 
 -- what stands in front of the name of a module
 abbrev pub module_front : Option Tree → Bool → Parts → Parts
@@ -145,7 +147,8 @@ dtor_name t = phrase (ending (primary 0)) (fixed "~" · whole t · no_parts)
 
 abbrev pub unnamed : List ℕ → List ℕ → Tree
 unnamed count ordinal =
-    phrase (primary (length count)) (styled "'unnamed" "{unnamed type#" · text count ordinal · styled "'" "}" · no_parts)
+    phrase (primary (length count))
+    (styled "'unnamed" "{unnamed type#" · text count ordinal · styled "'" "}" · no_parts)
 
 -- the template parameters of a lambda, if there are any
 abbrev pub declared : Trees → Parts → Parts
@@ -165,8 +168,8 @@ signature declarations before params after behind =
 abbrev pub closure : Trees → Option Tree → Trees → Option Tree → List ℕ → List ℕ → Tree
 closure declarations before params after count ordinal =
     phrase (primary (length count))
-        (styled "'lambda" "{lambda" · text count [] · styled "'" "" · signature declarations before params after
-        · styled "" "#" · text [] ordinal · styled "" "}" · no_parts)
+    (styled "'lambda" "{lambda" · text count [] · styled "'" "" · signature declarations before params after
+    · styled "" "#" · text [] ordinal · styled "" "}" · no_parts)
 
 abbrev pub bindings : Trees → Tree
 bindings names =
@@ -198,15 +201,15 @@ vendor_qualified t qualifier None =
     phrase (primary (length qualifier)) (whole t · fixed " " · held qualifier · no_parts)
 vendor_qualified t qualifier (Some args) =
     phrase (ending (primary (length qualifier)))
-        (whole t · fixed " " · held qualifier · trees listing.Angles args · no_parts)
+    (whole t · fixed " " · held qualifier · trees listing.Angles args · no_parts)
 
 abbrev pub vector : Tree → Option Tree → Tree
 vector t None =
     phrase (record (primary 0) { is_closed = true })
-        (whole t · styled " vector[" " __vector(" · styled "]" ")" · no_parts)
+    (whole t · styled " vector[" " __vector(" · styled "]" ")" · no_parts)
 vector t (Some d) =
     phrase (record (primary 0) { is_closed = true })
-        (whole t · styled " vector[" " __vector(" · whole d · styled "]" ")" · no_parts)
+    (whole t · styled " vector[" " __vector(" · whole d · styled "]" ")" · no_parts)
 
 -- Declarations and encodings.
 
@@ -242,7 +245,8 @@ prefixed_manner Unary = Operand Comma true
 prefixed_manner p = Whole Same
 
 abbrev pub prefixed : List ℕ → List ℕ → Tree → Prec → Tree
-prefixed llvm gnu t p = phrase (ending (expression (length llvm) p)) (text llvm gnu · tree (prefixed_manner p) t · no_parts)
+prefixed llvm gnu t p =
+    phrase (ending (expression (length llvm) p)) (text llvm gnu · tree (prefixed_manner p) t · no_parts)
 
 abbrev pub enclosing : List ℕ → List ℕ → Tree → Prec → Tree
 enclosing llvm gnu t p =
@@ -266,6 +270,11 @@ guard_of symbol =
 abbrev pub blank_before : List ℕ → Parts → Parts
 blank_before symbol behind = if bytes_eq symbol (codes ",") then behind else (styled " " "" · behind)
 
+-- in GNU's style a `<` or a `>` at the end of `A>B` isn't one at the end of the text, since it stands in parentheses
+abbrev pub binary_phrase : List ℕ → Prec → Phrase
+binary_phrase symbol p =
+    record (expression (length symbol) p) { guard = guard_of symbol; is_open = not (bytes_eq symbol (codes ">")) }
+
 -- the operands of a binary operator. An assignment has the looser one at its right
 abbrev pub left_manner : Prec → Manner
 left_manner Assign = Operand OrIf false
@@ -277,8 +286,8 @@ right_manner p = Operand p false
 
 abbrev pub binary : Tree → List ℕ → Tree → Prec → Tree
 binary a symbol b p =
-    phrase (record (expression (length symbol) p) { guard = guard_of symbol; is_open = not (bytes_eq symbol (codes ">")) })
-        (tree (left_manner p) a · blank_before symbol · held symbol · styled " " "" · tree (right_manner p) b · no_parts)
+    phrase (binary_phrase symbol p)
+    (tree (left_manner p) a · blank_before symbol · held symbol · styled " " "" · tree (right_manner p) b · no_parts)
 
 abbrev pub subscript : Tree → Tree → Tree
 subscript a index =
@@ -298,7 +307,7 @@ prefix_op symbol a p =
 abbrev pub conditional : Tree → Tree → Tree → Tree
 conditional a b c =
     phrase (ending (expression 0 Conditional))
-        (tight Conditional a · styled " ? " "?" · gnu_operand b · fixed " : " · loose Assign c · no_parts)
+    (tight Conditional a · styled " ? " "?" · gnu_operand b · fixed " : " · loose Assign c · no_parts)
 
 abbrev pub member : Tree → List ℕ → Tree → Prec → Tree
 member a symbol b p =
@@ -313,12 +322,12 @@ offset_text (d ∷ ds) = d ∷ ds
 abbrev pub subobject : Tree → Tree → List ℕ → Tree
 subobject t e offset =
     phrase (record (ending (primary (length offset))) { is_reversed = true })
-        (whole e · fixed ".<" · whole t · fixed " at offset " · held (offset_text offset) · fixed ">" · no_parts)
+    (whole e · fixed ".<" · whole t · fixed " at offset " · held (offset_text offset) · fixed ">" · no_parts)
 
 abbrev pub named_cast : List ℕ → Tree → Tree → Tree
 named_cast w t e =
     phrase (expression (length w) Postfix)
-        (held w · fixed "<" · angled t · fixed ">(" · enclosed e · fixed ")" · no_parts)
+    (held w · fixed "<" · angled t · fixed ">(" · enclosed e · fixed ")" · no_parts)
 
 abbrev pub call : Tree → Trees → Tree
 call callee args = phrase (expression 0 Postfix) (tree Callee callee · parens args · no_parts)
@@ -340,8 +349,8 @@ placed (more_trees t ts) behind = parens (more_trees t ts) · fixed " " · behin
 abbrev pub new_expression : Trees → Tree → Trees → Bool → Bool → Tree
 new_expression placement t inits is_global is_array =
     phrase (expression 0 Unary)
-        (text (new_llvm is_global is_array) (new_gnu is_global) · placed placement · whole t · parens_if_any inits
-        · no_parts)
+    (text (new_llvm is_global is_array) (new_gnu is_global) · placed placement · whole t · parens_if_any inits
+    · no_parts)
 
 abbrev pub conversion : Tree → Trees → Prec → Tree
 conversion t (more_trees e no_trees) p =
@@ -353,7 +362,7 @@ init_list None es =
     phrase (record (primary 0) { role = Simple }) (fixed "{" · trees listing.Items es · fixed "}" · no_parts)
 init_list (Some t) es =
     phrase (record (primary 0) { role = Simple })
-        (whole t · fixed "{" · trees listing.Items es · fixed "}" · no_parts)
+    (whole t · fixed "{" · trees listing.Items es · fixed "}" · no_parts)
 
 abbrev pub designator : Phrase
 designator = record (primary 0) { role = Designator }
@@ -401,8 +410,8 @@ requires_expression no_trees requirements =
     phrase (primary 0) (fixed "requires {" · trees listing.Sequence requirements · fixed " }" · no_parts)
 requires_expression (more_trees p ps) requirements =
     phrase (primary 0)
-        (fixed "requires " · parens (more_trees p ps) · fixed " {" · trees listing.Sequence requirements · fixed " }"
-        · no_parts)
+    (fixed "requires " · parens (more_trees p ps) · fixed " {" · trees listing.Sequence requirements · fixed " }"
+    · no_parts)
 
 abbrev pub requirement_parts : Tree → Bool → Option Tree → Parts
 requirement_parts e false None = fixed " " · whole e · fixed ";" · no_parts

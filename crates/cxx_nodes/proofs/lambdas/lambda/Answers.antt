@@ -21,7 +21,7 @@ phrase-requires c =
     let back : List Part = c.fixed-2.result ∷ [] in
     let signed = c.in_ok-push_signature.ensures.below b.held (size a) (lists.below, c.requires.before, lists.below_second, c.requires.behind) in
     let all = between-below b.held (size a) c.new-parts.result.items front _ _ back _ c.new-parts.ensures.items c.in_ok-extend_from_slice.ensures.items signed c.in_ok-extend_from_slice-2.ensures.items
-        (simp (c.fixed.ensures.value, c.fixed-2.ensures.value) ((tt, tt), tt)) (simp (c.fixed.ensures.value, c.fixed-2.ensures.value) ((tt, tt), tt)) in
+    (simp (c.fixed.ensures.value, c.fixed-2.ensures.value) ((tt, tt), tt)) (simp (c.fixed.ensures.value, c.fixed-2.ensures.value) ((tt, tt), tt)) in
     record { below = simp (c.deref.ensures.value, lists.size) all }
 
 pub returns : goal.returns
@@ -37,8 +37,8 @@ returns c =
     let any : Bool = not c.is_empty.result in
     let made = simp lists.forest at c.phrase.ensures.makes in
     let parts = ap (parts_of b.held f) c.deref.ensures.value
-        ∙ between b.held f c.new-parts.result.items front _ _ back _ (signature_at b.held f any c.in_ok-declarations.declarations s.before c.in_ok-declarations.params s.behind)
-            c.new-parts.ensures.items c.in_ok-extend_from_slice.ensures.items (λ behind. c.in_ok-push_signature.ensures.adds b.held f behind) c.in_ok-extend_from_slice-2.ensures.items
-        ∙ ap (put b.held f front) (signature-as b.held f any s.declarations.now s.params.now c.in_ok-declarations.declarations c.in_ok-declarations.params s.before s.behind (put b.held f back no_parts) (ap not c.is_empty.ensures) lists.trees lists.trees_second) in
+    ∙ between b.held f c.new-parts.result.items front _ _ back _ (signature_at b.held f any c.in_ok-declarations.declarations s.before c.in_ok-declarations.params s.behind)
+    c.new-parts.ensures.items c.in_ok-extend_from_slice.ensures.items (λ behind. c.in_ok-push_signature.ensures.adds b.held f behind) c.in_ok-extend_from_slice-2.ensures.items
+    ∙ ap (put b.held f front) (signature-as b.held f any s.declarations.now s.params.now c.in_ok-declarations.declarations c.in_ok-declarations.params s.before s.behind (put b.held f back no_parts) (ap not c.is_empty.ensures) lists.trees lists.trees_second) in
     let row = subst (λ (ps : Parts). Makes c.phrase.result b d (phrase c.primary.result ps)) parts made in
     record { makes = Makes-after c.phrase.result a b d _ lists.grows (simp (c.primary.ensures.value, c.fixed.ensures.value, c.fixed-2.ensures.value) at row) }
