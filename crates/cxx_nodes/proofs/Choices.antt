@@ -3,9 +3,8 @@ use Rattle.std.proofs.Common.{ℕ, ◌≡◌, ◌==◌, true, false, Bool, List,
 use Rattle.std.proofs.lemmas.Bool.Decides.{nat_tests}
 use Rattle.cxx_tree.specs.declared.kinds.Prec.{Prec}
 use Rattle.cxx_tree.specs.declared.kinds.Prec.TheVariants.{Unary}
-use Rattle.cxx_tree.specs.declared.kinds.Manner.TheVariants.{Argument}
 use Rattle.cxx_tree.specs.declared.kinds.Listing.TheVariants as listing
-use Rattle.cxx_tree.specs.Tree.{Tree, Trees, Parts, phrase, no_parts, text, tree, trees}
+use Rattle.cxx_tree.specs.Tree.{Tree, Trees, Parts, phrase, no_parts, text, trees}
 use Rattle.cxx_tree.specs.Stored.{trees_at}
 use Rattle.cxx_tree.specs.Rows as rows
 use Rattle.cxx_tree.specs.Rows.{◌·◌, fixed, styled, whole, enclosed, parens, placed, parens_if_any, expression, primary}

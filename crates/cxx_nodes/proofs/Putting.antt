@@ -34,10 +34,6 @@ pub adds-below : (old more new : List Part) (P : Held → ℕ → Type 0) → ne
 adds-below old more new P e f h n p a =
     subst (AllByRecursion (IsPartBelow h n)) (sym e) (all-append h n old more a (f h n p))
 
--- a piece that is added behind another one
-pub adds-then : (a b c : List Part) (p q : Held → List Tree → Parts → Parts) → Adds a b p → Adds b c q → Adds a c (λ h ts behind. p h ts (q h ts behind))
-adds-then a b c p q f g h ts behind = g h ts behind ∙ f h ts (q h ts behind)
-
 -- what follows where a call appended
 pub on_ok : {A E X : Type 0} (r : Result A E) (new more old : List X) (Q : Type 0) → new ≡ (if is_ok r then more else old) → (new ≡ more → Q) → OnOk r Q
 on_ok (Ok x) new more old Q e f = f e

@@ -40,7 +40,7 @@ trees_from-old h ts (n ∷ ns) i b =
 abbrev pub Agree : ℕ → List Tree → List Tree → Type 0
 Agree n ts us = (i : ℕ) → i < n → tree_at ts i ≡ tree_at us i
 
-pub trees_at-same : (n : ℕ) (ts us : List Tree) → Agree n ts us → (is : List ℕ) → AllByRecursion (λ t. t < n) is → trees_at ts is ≡ trees_at us is
+trees_at-same : (n : ℕ) (ts us : List Tree) → Agree n ts us → (is : List ℕ) → AllByRecursion (λ t. t < n) is → trees_at ts is ≡ trees_at us is
 trees_at-same n ts us agree [] b = refl
 trees_at-same n ts us agree (i ∷ is) b =
     let one = agree i b.0 in let rest = trees_at-same n ts us agree is b.1 in cc
@@ -172,7 +172,7 @@ parts_of-more h g e n ts (part.Trees listing l ∷ ps) b =
     let rest = parts_of-more h g e n ts ps b.1 in
     cc
 
-pub trees_in-more : (h g : Held) → Extends h g → (n : ℕ) (ts : List Tree) (l : handle.List) → IsListBelow h n l → trees_in g ts l ≡ trees_in h ts l
+trees_in-more : (h g : Held) → Extends h g → (n : ℕ) (ts : List Tree) (l : handle.List) → IsListBelow h n l → trees_in g ts l ≡ trees_in h ts l
 trees_in-more h g e n ts l b = ap (trees_at ts) (list_at-more h g e l b.0)
 
 pub parts_in-more : (h g : Held) → Extends h g → (n : ℕ) (ts : List Tree) (ps : handles.Parts) → IsPartsBelow h n ps → parts_in g ts ps ≡ parts_in h ts ps
@@ -242,7 +242,7 @@ IsPartBelow-more h g e n m le (part.Text x y) b = (IsText-more h g e x b.0, IsTe
 IsPartBelow-more h g e n m le (part.Tree manner t) b = omega (arith, le, b)
 IsPartBelow-more h g e n m le (part.Trees listing l) b = IsListBelow-more h g e n m le l b
 
-pub all_parts-more : (h g : Held) → Extends h g → (n m : ℕ) → n ≤ m → (ps : List Part) → AllByRecursion (IsPartBelow h n) ps → AllByRecursion (IsPartBelow g m) ps
+all_parts-more : (h g : Held) → Extends h g → (n m : ℕ) → n ≤ m → (ps : List Part) → AllByRecursion (IsPartBelow h n) ps → AllByRecursion (IsPartBelow g m) ps
 all_parts-more h g e n m le [] b = b
 all_parts-more h g e n m le (p ∷ ps) b = (IsPartBelow-more h g e n m le p b.0, all_parts-more h g e n m le ps b.1)
 

@@ -1,18 +1,16 @@
--- What makes nodes: the texts, the lists and the parts of an arena stay right as it grows.
-use Rattle.std.proofs.Common.{ℕ, ◌≡◌, ◌+◌, ◌<◌, ◌≤◌, List, [], ◌∷◌, refl, sym, ap, ◌∙◌, arith, subst, Option, Some, None, false, Result, Ok, Err}
+-- Making nodes: texts and parts of an arena stay right as it grows.
+use Rattle.std.proofs.Common.{ℕ, ◌≡◌, ◌≤◌, List, refl, sym, ap, ◌∙◌, arith, subst, Option, Some, None, Result, Err}
 use Rattle.std.specs.List.{AllByRecursion}
 use Rattle.cxx_tree.specs.declared.node.Text.{Text}
 use Rattle.cxx_tree.specs.declared.node.List as handle
 use Rattle.cxx_tree.specs.declared.node.Parts as handles
 use Rattle.cxx_tree.specs.declared.node.Part.{Part}
-use Rattle.cxx_tree.specs.declared.node.Node.{Node}
-use Rattle.cxx_tree.specs.declared.kinds.Phrase.{Phrase}
 use Rattle.cxx_tree.specs.declared.arena.PushError.{PushError}
-use Rattle.cxx_tree.specs.declared.arena.PushError.TheVariants.{Memory, Limit}
-use Rattle.cxx_tree.specs.Tree.{Tree, phrase}
+use Rattle.cxx_tree.specs.declared.arena.PushError.TheVariants.{Memory}
+use Rattle.cxx_tree.specs.Tree.{Tree}
 use Rattle.cxx_tree.specs.Grows.{Grows, Makes}
-use Rattle.cxx_tree.specs.Stored.{Held, Store, forest, size, tree_at, option_at, text_at, list_at, parts_at, parts_of, parts_in, trees_at, trees_in, IsListBelow, IsRange, IsText, IsPartBelow, IsPartsBelow}
-use Rattle.cxx_tree.proofs.Forest.{parts_of-more, parts_of-same, all_parts-more, text_at-more, IsText-more, trees_in-more, IsListBelow-more, IsPartsBelow-more, parts_in-more}
+use Rattle.cxx_tree.specs.Stored.{Store, forest, size, tree_at, option_at, text_at, parts_of, parts_in, IsListBelow, IsText, IsPartBelow, IsPartsBelow}
+use Rattle.cxx_tree.proofs.Forest.{parts_of-more, parts_of-same, text_at-more, IsText-more, IsPartsBelow-more, parts_in-more}
 use Rattle.std.specs.Prelude.{option_map}
 use Rattle.cxx_tree.specs.Rows.{at_most_one}
 use Rattle.cxx_tree.proofs.Grown.{Makes-after, Makes-refused}
@@ -21,20 +19,6 @@ use Rattle.cxx_tree.proofs.Grown.{Makes-after, Makes-refused}
 pub parts_of-grows : (a b : Store) → Grows a b → (ps : List Part) → AllByRecursion (IsPartBelow a.held (size a)) ps → parts_of b.held (forest b) ps ≡ parts_of a.held (forest a) ps
 parts_of-grows a b g ps below =
     parts_of-more a.held b.held g.extends (size a) (forest b) ps below ∙ parts_of-same a.held (size a) (forest b) (forest a) g.same ps below
-
-pub parts-grow : (a b : Store) → Grows a b → (ps : List Part) → AllByRecursion (IsPartBelow a.held (size a)) ps → AllByRecursion (IsPartBelow b.held (size b)) ps
-parts-grow a b g ps below = all_parts-more a.held b.held g.extends (size a) (size b) g.longer ps below
-
--- parts that were copied
-pub parts_in-copied : (a b : Store) → Grows a b → (ps : List Part) → AllByRecursion (IsPartBelow a.held (size a)) ps → (l : handles.Parts) → parts_at b.held l ≡ ps → parts_in b.held (forest b) l ≡ parts_of a.held (forest a) ps
-parts_in-copied a b g ps below l e = ap (parts_of b.held (forest b)) e ∙ parts_of-grows a b g ps below
-
-pub parts-copied : (a b : Store) → Grows a b → (ps : List Part) → AllByRecursion (IsPartBelow a.held (size a)) ps → (l : handles.Parts) → parts_at b.held l ≡ ps → AllByRecursion (IsPartBelow b.held (size b)) (parts_at b.held l)
-parts-copied a b g ps below l e = subst (AllByRecursion (IsPartBelow b.held (size b))) (sym e) (parts-grow a b g ps below)
-
--- after what is held grew, over the same tree
-pub Makes-then : (r : Result ℕ PushError) (a b c : Store) (t u : Tree) → Grows a b → t ≡ u → Makes r b c t → Makes r a c u
-Makes-then r a b c t u g e m = Makes-after r a b c u g (subst (Makes r b c) e m)
 
 -- memory was refused
 pub Makes-memory : (r : Result ℕ PushError) (a b : Store) (t : Tree) → r ≡ Err Memory → Grows a b → Makes r a b t
@@ -47,17 +31,7 @@ text_at-grows a b t g i = text_at-more a.held b.held g.extends t i
 pub IsText-grows : (a b : Store) (t : Text) → Grows a b → IsText a.held t → IsText b.held t
 IsText-grows a b t g i = IsText-more a.held b.held g.extends t i
 
--- lists of a grown arena
-pub list-grows : (a b : Store) (n : ℕ) (l : handle.List) → Grows a b → IsListBelow a.held n l → IsListBelow b.held n l
-list-grows a b n l g i = IsListBelow-more a.held b.held g.extends n n (omega arith) l i
-
-pub trees_in-grows : (a b : Store) (n : ℕ) (ts : List Tree) (l : handle.List) → Grows a b → IsListBelow a.held n l → trees_in b.held ts l ≡ trees_in a.held ts l
-trees_in-grows a b n ts l g i = trees_in-more a.held b.held g.extends n ts l i
-
--- parts of a grown arena that were copied
-pub IsPartsBelow-grows : (a b : Store) (n : ℕ) (l : handles.Parts) → Grows a b → IsPartsBelow a.held n l → IsPartsBelow b.held n l
-IsPartsBelow-grows a b n l g i = IsPartsBelow-more a.held b.held g.extends n n (omega arith) l i
-
+-- parts that were copied before
 pub parts_in-grows : (a b : Store) (n : ℕ) (ts : List Tree) (l : handles.Parts) → Grows a b → IsPartsBelow a.held n l → parts_in b.held ts l ≡ parts_in a.held ts l
 parts_in-grows a b n ts l g i = parts_in-more a.held b.held g.extends n ts l i
 

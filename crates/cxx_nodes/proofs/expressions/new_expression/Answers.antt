@@ -1,9 +1,7 @@
-use Rattle.std.proofs.Common.{◌≡◌, ◌∙◌, ap, sym, subst}
-use Rattle.cxx_tree.specs.Tree.{Tree, Parts, no_parts, phrase, text}
+use Rattle.std.proofs.Common.{◌∙◌, sym, subst}
+use Rattle.cxx_tree.specs.Tree.{no_parts}
 use Rattle.cxx_tree.specs.Grows.{Makes}
-use Rattle.cxx_tree.specs.Stored.{forest, tree_at, trees_at}
-use Rattle.cxx_tree.specs.Rows.{◌·◌, whole, parens_if_any, new_expression, new_llvm, new_gnu, expression}
-use Rattle.cxx_tree.specs.declared.kinds.Prec.TheVariants.{Unary}
+use Rattle.cxx_tree.specs.Stored.{forest, tree_at}
 use Rattle.cxx_tree.proofs.Grown.{Makes-after}
 use Rattle.cxx_nodes.proofs.Choices.{placed-none, placed-some, parens-none, parens-some, new_expression-as}
 use Rattle.cxx_nodes.proofs.expressions.new_expression.Goals as goal

@@ -1,13 +1,10 @@
-use Rattle.std.proofs.Common.{ℕ, ◌≡◌, ◌<◌, ◌∙◌, ap, sym, subst, List, [], ◌∷◌, Bool}
+use Rattle.std.proofs.Common.{◌∙◌, ap, subst, List, [], ◌∷◌, Bool}
 use Rattle.std.specs.Prelude.{not}
 use Rattle.cxx_tree.specs.declared.node.Part.{Part}
-use Rattle.cxx_tree.specs.declared.node.Part.TheVariants as part
-use Rattle.cxx_tree.specs.declared.node.Text.TheVariants as text
 use Rattle.cxx_tree.specs.Tree.{Parts, phrase, no_parts}
 use Rattle.cxx_tree.specs.Grows.{Makes}
 use Rattle.cxx_tree.specs.Stored.{forest, size, parts_of}
 use Rattle.cxx_tree.proofs.Grown.{Makes-after}
-use Rattle.cxx_tree.proofs.Making.{text_at-grows, IsText-grows}
 use Rattle.cxx_nodes.specs.Pieces.{put, signature_at}
 use Rattle.cxx_nodes.proofs.Putting.{between, between-below, signature-as}
 use Rattle.cxx_nodes.proofs.lambdas.lambda.Goals as goal

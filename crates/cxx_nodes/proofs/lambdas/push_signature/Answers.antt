@@ -1,7 +1,6 @@
-use Rattle.std.proofs.Common.{ℕ, ◌≡◌, ◌∙◌, refl, List}
+use Rattle.std.proofs.Common.{◌∙◌, refl}
 use Rattle.std.specs.Prelude.{option_map}
-use Rattle.cxx_tree.specs.Tree.{Parts}
-use Rattle.cxx_tree.specs.Stored.{Held, tree_at, trees_in}
+use Rattle.cxx_tree.specs.Stored.{tree_at, trees_in}
 use Rattle.cxx_tree.specs.Rows.{constrained_before, constrained, parens}
 use Rattle.cxx_nodes.proofs.Putting.{adds, adds-below, ok_map}
 use Rattle.cxx_nodes.specs.Pieces.{IsSignatureBelow}

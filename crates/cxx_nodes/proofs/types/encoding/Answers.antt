@@ -1,4 +1,4 @@
-use Rattle.std.proofs.Common.{ℕ, ◌≡◌, ◌<◌, ◌∙◌, sym, subst, arith}
+use Rattle.std.proofs.Common.{◌∙◌, sym, arith}
 use Rattle.cxx_tree.specs.Stored.{forest, size, IsBelow, IsDeclarationBelow, tree_of, declaration_tree}
 use Rattle.cxx_tree.proofs.Grown.{Makes-after, Grows-trans}
 use Rattle.cxx_tree.proofs.Making.{both-below, parts_in-grows, at_most_one-at}

@@ -1,8 +1,7 @@
-use Rattle.std.proofs.Common.{ℕ, ◌≡◌, ◌<◌, ◌∙◌, sym, subst, arith}
+use Rattle.std.proofs.Common.{◌∙◌, arith}
 use Rattle.cxx_tree.specs.Stored.{forest, size, IsBelow, IsDeclarationBelow, tree_of, declaration_tree}
 use Rattle.cxx_tree.proofs.Grown.{Makes-after, Grows-trans}
-use Rattle.cxx_tree.proofs.Making.{both-below, parts_in-grows, at_most_one-at}
-use Rattle.cxx_tree.proofs.Forest.{IsOptionBelow-more}
+use Rattle.cxx_tree.proofs.Making.{both-below, parts_in-grows}
 use Rattle.cxx_nodes.proofs.types.function.Goals as goal
 
 pub push-requires : goal.push-requires
