@@ -37,7 +37,7 @@ trees_from-old h ts (n ∷ ns) i b =
     trees_from-old h (ts ++ tree_of h ts n ∷ []) ns i (grind (arith, common_steps)) ∙ get_or-append ts (tree_of h ts n ∷ []) (named []) i b
 
 -- two lists of trees that agree below n
-abbrev Agree : ℕ → List Tree → List Tree → Type 0
+abbrev pub Agree : ℕ → List Tree → List Tree → Type 0
 Agree n ts us = (i : ℕ) → i < n → tree_at ts i ≡ tree_at us i
 
 trees_at-same : (n : ℕ) (ts us : List Tree) → Agree n ts us → (is : List ℕ) → AllByRecursion (λ t. t < n) is → trees_at ts is ≡ trees_at us is
@@ -49,7 +49,7 @@ option_at-same : (n : ℕ) (ts us : List Tree) → Agree n ts us → (o : Option
 option_at-same n ts us agree None b = refl
 option_at-same n ts us agree (Some i) b = ap (λ (t : Tree). more_trees t no_trees) (agree i b)
 
-parts_of-same : (h : Held) (n : ℕ) (ts us : List Tree) → Agree n ts us → (ps : List Part) → AllByRecursion (IsPartBelow h n) ps → parts_of h ts ps ≡ parts_of h us ps
+pub parts_of-same : (h : Held) (n : ℕ) (ts us : List Tree) → Agree n ts us → (ps : List Part) → AllByRecursion (IsPartBelow h n) ps → parts_of h ts ps ≡ parts_of h us ps
 parts_of-same h n ts us agree [] b = refl
 parts_of-same h n ts us agree (part.Text x y ∷ ps) b = ap (text (text_at h x) (text_at h y)) (parts_of-same h n ts us agree ps b.1)
 parts_of-same h n ts us agree (part.Tree manner t ∷ ps) b =
@@ -149,7 +149,7 @@ stored-at h ns i d s b =
     subst (λ (j : ℕ). IsBelow h j (get_or ns i d)) e (AreStored-at h 0 ns i d s b)
 
 -- what is held grows at its ends
-text_at-more : (h g : Held) → Extends h g → (t : Text) → IsText h t → text_at g t ≡ text_at h t
+pub text_at-more : (h g : Held) → Extends h g → (t : Text) → IsText h t → text_at g t ≡ text_at h t
 text_at-more h g e (Fixed bytes) b = refl
 text_at-more h g e (Stored r) b = ap (λ (l : List ℕ). slice_range l r.from r.to) e.2.1 ∙ grind (arith, common_steps)
 
@@ -159,7 +159,7 @@ list_at-more h g e l b = ap (λ (is : List ℕ). slice_range is l.range.from l.r
 pub parts_at-more : (h g : Held) → Extends h g → (ps : handles.Parts) → IsRange (length h.parts) ps.range → parts_at g ps ≡ parts_at h ps
 parts_at-more h g e ps b = ap (λ (l : List Part). slice_range l ps.range.from ps.range.to) e.1.1 ∙ grind (arith, common_steps)
 
-parts_of-more : (h g : Held) → Extends h g → (n : ℕ) (ts : List Tree) (ps : List Part) → AllByRecursion (IsPartBelow h n) ps → parts_of g ts ps ≡ parts_of h ts ps
+pub parts_of-more : (h g : Held) → Extends h g → (n : ℕ) (ts : List Tree) (ps : List Part) → AllByRecursion (IsPartBelow h n) ps → parts_of g ts ps ≡ parts_of h ts ps
 parts_of-more h g e n ts [] b = refl
 parts_of-more h g e n ts (part.Text x y ∷ ps) b =
     let one = text_at-more h g e x b.0.0 in
@@ -175,7 +175,7 @@ parts_of-more h g e n ts (part.Trees listing l ∷ ps) b =
 trees_in-more : (h g : Held) → Extends h g → (n : ℕ) (ts : List Tree) (l : handle.List) → IsListBelow h n l → trees_in g ts l ≡ trees_in h ts l
 trees_in-more h g e n ts l b = ap (trees_at ts) (list_at-more h g e l b.0)
 
-parts_in-more : (h g : Held) → Extends h g → (n : ℕ) (ts : List Tree) (ps : handles.Parts) → IsPartsBelow h n ps → parts_in g ts ps ≡ parts_in h ts ps
+pub parts_in-more : (h g : Held) → Extends h g → (n : ℕ) (ts : List Tree) (ps : handles.Parts) → IsPartsBelow h n ps → parts_in g ts ps ≡ parts_in h ts ps
 parts_in-more h g e n ts ps b = ap (parts_of g ts) (parts_at-more h g e ps b.0) ∙ parts_of-more h g e n ts (parts_at h ps) b.1
 
 plain_tree-more : (h g : Held) → Extends h g → (n : ℕ) (ts : List Tree) (p : Plain) → IsPlainBelow h n p → plain_tree g ts p ≡ plain_tree h ts p

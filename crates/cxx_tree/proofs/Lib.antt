@@ -1,4 +1,5 @@
 pub mod Forest
 pub mod Measured
 pub mod Grown
+pub mod Making
 pub mod Decimals

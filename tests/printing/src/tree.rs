@@ -4,6 +4,7 @@
 use crate::extracted::cxx_printer::Symbol;
 use crate::extracted::cxx_nodes::{self as rows, Rest, Signature};
 use crate::extracted::cxx_tree::{Arena, Cv, Declaration, List, Node, Plain, Prec, PushError, RefQual, Std, Text};
+use crate::rattle::alloc::Global;
 use crate::value::Value;
 
 /// What stands before the function of a block.
@@ -217,7 +218,7 @@ impl Maker<'_> {
                 let (params, behind) = (self.nodes(params)?, self.option(behind)?);
                 let (count, ordinal) = self.count(count)?;
                 let signature = Signature { declarations: &declarations, before, params: &params, behind };
-                rows::closure(self.arena, &signature, count, ordinal)?
+                rows::closure(self.arena, Global, &signature, count, ordinal)?
             }
             ("Bindings", [names]) => {
                 let names = self.nodes(names)?;
@@ -403,7 +404,7 @@ impl Maker<'_> {
                 let (declarations, before) = (self.nodes(declarations)?, self.option(before)?);
                 let (params, behind) = (self.nodes(params)?, self.option(behind)?);
                 let signature = Signature { declarations: &declarations, before, params: &params, behind };
-                rows::lambda(self.arena, &signature)?
+                rows::lambda(self.arena, Global, &signature)?
             }
             ("TypedLiteral", [t, value]) => {
                 let (t, value) = (self.tree(t)?, self.text(value)?);
