@@ -13,7 +13,7 @@ use Rattle.cxx_tree.specs.Tree.{Tree, Trees, pack, qualified, pointer, reference
 use Rattle.cxx_tree.specs.Stored.{Held, tree_at, trees_at, plain_tree, declaration_tree, parts_of, IsPartBelow}
 use Rattle.cxx_printer.specs.Asked.{Refers, IsLeft, OneSided, ends_of_part}
 use Rattle.cxx_printer.specs.declared.env.Env.{Env}
-use Rattle.cxx_printer.specs.Words.{ending, ending_of_byte, closed}
+use Rattle.cxx_printer.specs.Words.{ending, ending_of_byte, opened, closed}
 use Rattle.cxx_printer.specs.declared.words.Form.{Form}
 use Rattle.cxx_printer.specs.Heads.{protocol_of}
 use Rattle.cxx_tree.specs.declared.kinds.Cv.{Cv}
@@ -259,5 +259,18 @@ unfolding OneSided print
 reference-one_sided u l t e h =
     λ env. subst (λ (v : Tree). IsLeft (print v env).text × IsLeft (print v env).base) (sym e)
     ((behind-left (print u env).base (h env).1, refl, refl), (h env).1)
+
+-- a reference to nothing
+pub refers-none : (o : Option ℕ) (i : ℕ) (b : Text) (f : ℕ → Printed) → o ≡ None → Refers o i b f → b ≡ simple []
+refers-none None i b f e r = r
+refers-none (Some j) i b f e r = absurd (true≢false (ap is_some e))
+
+pub left-none : (b : Text) (k : List ℕ) → b ≡ simple [] → b.left ++ (opened b.form ++ k) ≡ k
+unfolding opened
+left-none b k e = ap (λ (t : Text). t.left ++ (opened t.form ++ k)) e
+
+pub right-none : (b : Text) → b ≡ simple [] → closed b.form ++ right_behind false b ≡ []
+unfolding closed
+right-none b e = ap (λ (t : Text). closed t.form ++ right_behind false t) e
 
 pub ruleset packs = (below_at, ending-at, ending-none, last_ends-at, last_ends-none, parts-end-at, parts-end-none, in_parts)

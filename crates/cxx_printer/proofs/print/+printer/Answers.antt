@@ -2,6 +2,11 @@ use Rattle.std.proofs.Common.{ℕ, ◌≡◌, ◌+◌, ◌-◌, ◌<◌, ◌≤�
 use Rattle.cxx_tree.specs.Stored.{forest, tree_at, trees_at, parts_of}
 use Rattle.cxx_printer.specs.Printing.{item, items_of, print, print_parts, list_from, sequence, declarations, heads, repeated}
 use Rattle.cxx_printer.proofs.Turns.{so_far_step, so_far_end, list_step, list_end, sequence_step, sequence_end, declarations_step, declarations_end, heads_step, heads_end, repeated_step, repeated_end, parts_step, parts_end, whole-left}
+use Rattle.cxx_printer.specs.Printing.{collapsed}
+use Rattle.cxx_printer.specs.Prints.{Prints}
+use Rattle.cxx_printer.specs.Words.{mark}
+use Rattle.cxx_printer.proofs.Appended.{prints_nothing}
+use Rattle.cxx_printer.proofs.Packs.{refers-none, left-none, right-none}
 use Rattle.cxx_printer.proofs.print.+printer.Goals as goal
 
 pub print_list-loop-t-preserved : goal.print_list-loop-t-preserved
@@ -58,3 +63,18 @@ print_sides-returns-then-is_one_sided t c =
       prints = (c.in-Ok.ensures {u = tt}).prints
           ∙ ap (λ (l : List ℕ). c.args.out.now ++ l) (sym (whole-left (tree_at (forest c.args.arena.now) c.args.i) c.args.env (c.is_one_sided.ensures.value c.if-is_one_sided.true)));
     }
+
+pub left_reference-returns-in-None : goal.left_reference-returns-in-None
+left_reference-returns-in-None t c =
+    let p = print (tree_at (forest c.args.arena.now) c.args.t) c.args.env in
+    let none = refers-none c.referent_of-referent.result.base c.args.t p.base (λ j. print (tree_at (forest c.args.arena.now) j) c.args.env) c.in-None.is c.referent_of-referent.ensures.base in
+    let marked = c.mark.ensures.value ∙ ap mark c.referent_of-referent.ensures.kind in
+    record {
+      prints = subst (λ (l : List ℕ). Prints c.write.result c.args.out.now c.write.new.out l) (marked ∙ sym (left-none p.base (mark (collapsed c.args.is_lvalue p.kind)) none)) c.write.ensures.prints;
+    }
+
+pub right_reference-returns-in-None : goal.right_reference-returns-in-None
+right_reference-returns-in-None t c =
+    let p = print (tree_at (forest c.args.arena.now) c.args.t) c.args.env in
+    let none = refers-none c.referent_of.result.base c.args.t p.base (λ j. print (tree_at (forest c.args.arena.now) j) c.args.env) c.in-None.is c.referent_of.ensures.base in
+    record { prints = prints_nothing tt c.args.out.now _ (right-none p.base none) }
