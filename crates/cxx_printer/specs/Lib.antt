@@ -3,3 +3,4 @@ pub mod Heads
 pub mod Printing
 pub mod Prints
 pub mod Asked
+pub mod Symbol
