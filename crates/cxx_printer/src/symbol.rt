@@ -1,9 +1,9 @@
 //! The printings of a symbol.
-#![tactic(auto, using(crate::proofs::Appended::prints), unfolding(cxx_tree::specs::Stored::tree_of, cxx_tree::specs::Stored::IsBelow, crate::specs::Symbol::name_text, crate::specs::Symbol::signature_text, crate::specs::Symbol::mode_text, crate::specs::Symbol::block_text, crate::specs::Symbol::suffix_text, crate::specs::Symbol::symbol_text))]
+#![tactic(auto, using(crate::proofs::Appended::prints), unfolding(cxx_tree::specs::Stored::tree_of, cxx_tree::specs::Stored::IsBelow, crate::specs::Symbol::as_function, crate::specs::Symbol::mode_text, crate::specs::Symbol::block_text, crate::specs::Symbol::suffix_text, crate::specs::Symbol::symbol_in))]
 
 ghost use Rattle.std.specs.Prelude.{◌≡◌, ℕ, ◌+◌, ◌<◌, ◌≤◌, Bool, true, false, List, [], ◌∷◌, ◌++◌, drop, take, length, Option, Some, None};
 ghost use Rattle.cxx_tree.specs.Stored.{forest, size, tree_at, text_at};
-ghost use Rattle.cxx_printer.specs.Printing as printing;
+ghost use Rattle.cxx_printer.specs.declared.symbol.Mode.TheVariants as mode;
 ghost use Rattle.cxx_printer.specs.Prints.{Prints};
 ghost use Rattle.cxx_printer.specs.Symbol as spec;
 ghost use Rattle.cxx_printer.specs.Symbol.{IsSuffix};
@@ -56,7 +56,14 @@ pub fn print_symbol(
     requires suffix { IsSuffix arena.now.held symbol.suffix }
     ensures prints { Prints result out.old out.new (spec.symbol_text mode style (spec.symbol_at arena.now symbol)) }
 {
-    let env = Env::top(style);
+    print_symbol_in(arena, Env::top(style), symbol, mode, out)
+}
+
+fn print_symbol_in(arena: &Arena, env: Env, symbol: Symbol, mode: Mode, out: &mut Output) -> Result<(), AllocError>
+    requires within { symbol.tree < size arena.now }
+    requires suffix { IsSuffix arena.now.held symbol.suffix }
+    ensures prints { Prints result out.old out.new (spec.symbol_in env mode (spec.symbol_at arena.now symbol)) }
+{
     tri!(write_block(symbol.is_block, out));
     tri!(print_mode(arena, env, symbol.tree, mode, out));
     print_suffix(arena, env, symbol.suffix, out)
@@ -86,7 +93,7 @@ fn print_mode(arena: &Arena, env: Env, i: u32, mode: Mode, out: &mut Output) -> 
 // Appends the name of a function, or what any other tree prints.
 fn print_name(arena: &Arena, env: Env, i: u32, out: &mut Output) -> Result<(), AllocError>
     requires within { i < size arena.now }
-    ensures prints { Prints result out.old out.new (spec.name_text env (tree_at (forest arena.now) i)) }
+    ensures prints { Prints result out.old out.new (spec.mode_text mode.Name env (tree_at (forest arena.now) i)) }
 {
     match arena.node(i) {
         Node::Encoding(_, name, _, _, _, _) => print(arena, env, name, out),
@@ -97,7 +104,7 @@ fn print_name(arena: &Arena, env: Env, i: u32, out: &mut Output) -> Result<(), A
 // Appends a function without its return type, or what any other tree prints.
 fn print_without_return_type(arena: &Arena, env: Env, i: u32, out: &mut Output) -> Result<(), AllocError>
     requires within { i < size arena.now }
-    ensures prints { Prints result out.old out.new (spec.signature_text env (tree_at (forest arena.now) i)) }
+    ensures prints { Prints result out.old out.new (spec.mode_text mode.Signature env (tree_at (forest arena.now) i)) }
 {
     match arena.node(i) {
         Node::Encoding(_, name, params, cv, ref_qual, rest) => print_signature(
@@ -121,9 +128,15 @@ fn print_suffix(arena: &Arena, env: Env, suffix: Option<Text>, out: &mut Output)
 fn print_dotted(env: Env, suffix: &[u8], out: &mut Output) -> Result<(), AllocError>
     ensures prints { Prints result out.old out.new (spec.suffix_text env (Some suffix.now)) }
 {
-    if !env.is_llvm() {
-        return print_pieces(suffix, out);
+    if env.is_llvm() {
+        return print_in_parens(suffix, out);
     }
+    print_pieces(suffix, out)
+}
+
+fn print_in_parens(suffix: &[u8], out: &mut Output) -> Result<(), AllocError>
+    ensures prints { Prints result out.old out.new (spec.in_parens suffix.now) }
+{
     tri!(write(out, b" ("));
     tri!(write(out, suffix));
     write(out, b")")
