@@ -4,3 +4,4 @@ pub mod Printing
 pub mod Prints
 pub mod Asked
 pub mod Symbol
+pub mod Parts

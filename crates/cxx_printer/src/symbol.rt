@@ -1,5 +1,5 @@
 //! The printings of a symbol.
-#![tactic(auto, using(crate::proofs::Appended::prints), unfolding(cxx_tree::specs::Stored::tree_of, cxx_tree::specs::Stored::IsBelow, crate::specs::Symbol::as_function, crate::specs::Symbol::mode_text, crate::specs::Symbol::block_text, crate::specs::Symbol::suffix_text, crate::specs::Symbol::symbol_in))]
+#![tactic(auto, using(crate::proofs::Appended::prints), unfolding(cxx_tree::specs::Stored::tree_of, cxx_tree::specs::Stored::plain_tree, cxx_tree::specs::Stored::declaration_tree, cxx_tree::specs::Stored::IsBelow, crate::specs::Symbol::as_function, crate::specs::Symbol::mode_text, crate::specs::Symbol::block_text, crate::specs::Symbol::suffix_text, crate::specs::Symbol::symbol_in))]
 
 ghost use Rattle.std.specs.Prelude.{◌≡◌, ℕ, ◌+◌, ◌<◌, ◌≤◌, Bool, true, false, List, [], ◌∷◌, ◌++◌, drop, take, length, Option, Some, None};
 ghost use Rattle.cxx_tree.specs.Stored.{forest, size, tree_at, text_at};
@@ -36,9 +36,9 @@ pub struct Symbol {
     pub suffix: Option<Text>,
 }
 
-// Appends a text.
+/// Appends a text.
 #[tactic(auto, using(crate::proofs::Appended::prints_added))]
-fn write(out: &mut Output, text: &[u8]) -> Result<(), AllocError>
+pub fn write(out: &mut Output, text: &[u8]) -> Result<(), AllocError>
     ensures prints { Prints result out.old out.new text.now }
 {
     out.add(text)
