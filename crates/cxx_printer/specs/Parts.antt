@@ -4,7 +4,6 @@ use Rattle.std.specs.Prelude.{ℕ, Bool, true, false, List, [], ◌∷◌, ◌++
 use Rattle.cxx_tree.specs.Tree.{Tree, Trees, scoped, with_args, abi_tag, in_module, data_name, encoding, no_trees, more_trees}
 use Rattle.cxx_printer.specs.declared.env.Env.{Env}
 use Rattle.cxx_printer.specs.Printing.{whole, print, items_of, parens, scope_text}
-use Rattle.cxx_printer.specs.Symbol.{Function, as_function}
 
 -- the name of a function or of data
 unfoldable pub named_of : Tree → Option Tree
@@ -54,23 +53,17 @@ context_or_none env (Some name) = joined true env (scopes_of name)
 abbrev pub context_text : Env → Tree → List ℕ
 context_text env t = context_or_none env (named_of t)
 
-abbrev pub parameters_or_none : Env → Option Function → List ℕ
-parameters_or_none env None = []
-parameters_or_none env (Some f) = parens env (items_of f.params)
-
 -- the parameters, in parentheses
-abbrev pub parameters_text : Env → Tree → List ℕ
-parameters_text env t = parameters_or_none env (as_function t)
+unfoldable pub parameters_text : Env → Tree → List ℕ
+parameters_text env (encoding ret name params cv ref rest) = parens env (items_of params)
+parameters_text env t = []
 
 -- no return type, or one
 unfoldable pub ret_text : Env → Trees → List ℕ
 ret_text env no_trees = []
 ret_text env (more_trees t ts) = whole (print t env)
 
-abbrev pub return_type_or_none : Env → Option Function → List ℕ
-return_type_or_none env None = []
-return_type_or_none env (Some f) = ret_text env f.ret
-
 -- the return type
-abbrev pub return_type_text : Env → Tree → List ℕ
-return_type_text env t = return_type_or_none env (as_function t)
+unfoldable pub return_type_text : Env → Tree → List ℕ
+return_type_text env (encoding ret name params cv ref rest) = ret_text env ret
+return_type_text env t = []

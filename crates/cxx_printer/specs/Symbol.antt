@@ -1,9 +1,7 @@
 -- What a symbol prints.
 use Rattle.std.specs.Prelude.{ℕ, nat_eq, nat_le, Bool, true, false, ◌&&◌, not, List, [], ◌∷◌, ◌++◌, codes, if◌then◌else◌, Option, Some, None}
-use Rattle.cxx_tree.specs.declared.kinds.Cv.{Cv}
-use Rattle.cxx_tree.specs.declared.kinds.RefQual.{RefQual}
 use Rattle.cxx_tree.specs.declared.node.Text.{Text}
-use Rattle.cxx_tree.specs.Tree.{Tree, Trees, Parts, encoding}
+use Rattle.cxx_tree.specs.Tree.{Tree, encoding}
 use Rattle.cxx_tree.specs.Stored.{Held, Store, forest, tree_at, text_at, IsText}
 use Rattle.cxx_printer.specs.declared.env.Env.{Env}
 use Rattle.cxx_printer.specs.declared.env.Style.{Style}
@@ -37,36 +35,21 @@ abbrev pub IsSuffix : Held → Option Text → Type 0
 IsSuffix h None = Unit {0}
 IsSuffix h (Some t) = IsText h t
 
--- the parts of a function
-pub record Function : Type 0 where
-  -- no return type or one
-  pub ret : Trees
-  pub name : Tree
-  pub params : Trees
-  pub cv : Cv
-  pub ref : RefQual
-  pub rest : Parts
+-- of a function its name; any other tree whole
+unfoldable pub name_text : Env → Tree → List ℕ
+name_text env (encoding ret name params cv ref rest) = whole (print name env)
+name_text env t = whole (print t env)
 
-unfoldable pub as_function : Tree → Option Function
-as_function (encoding ret name params cv ref rest) =
-    Some (record { ret = ret; name = name; params = params; cv = cv; ref = ref; rest = rest })
-as_function t = None
-
--- the name of a function; or else these bytes
-abbrev pub name_or : Env → Option Function → List ℕ → List ℕ
-name_or env None bytes = bytes
-name_or env (Some f) bytes = whole (print f.name env)
-
--- a function without its return type; or else these bytes
-abbrev pub signature_or : Env → Option Function → List ℕ → List ℕ
-signature_or env None bytes = bytes
-signature_or env (Some f) bytes =
-    whole (print f.name env) ++ signature_right env [] (items_of f.params) f.cv f.ref (print_parts f.rest env)
+-- of a function all but its return type; any other tree whole
+unfoldable pub signature_text : Env → Tree → List ℕ
+signature_text env (encoding ret name params cv ref rest) =
+    whole (print name env) ++ signature_right env [] (items_of params) cv ref (print_parts rest env)
+signature_text env t = whole (print t env)
 
 -- what is printed of a tree
 unfoldable pub mode_text : Mode → Env → Tree → List ℕ
-mode_text Name env t = name_or env (as_function t) (whole (print t env))
-mode_text Signature env t = signature_or env (as_function t) (whole (print t env))
+mode_text Name env t = name_text env t
+mode_text Signature env t = signature_text env t
 mode_text Declaration env t = whole (print t env)
 
 -- what stands in front of a symbol of a block's function

@@ -1,6 +1,6 @@
 //! The parts of a symbol of a function or of data: the base of its name, the scopes around it, the parameters and the
 //! return type. Any other symbol has none, and then nothing is appended.
-#![tactic(auto, using(crate::proofs::Appended::prints), unfolding(cxx_tree::specs::Stored::tree_of, cxx_tree::specs::Stored::plain_tree, cxx_tree::specs::Stored::declaration_tree, cxx_tree::specs::Stored::IsBelow, cxx_tree::specs::Stored::IsPlainBelow, crate::specs::Symbol::as_function, crate::specs::Parts::named_of, crate::specs::Parts::base_of, crate::specs::Parts::scopes_of, crate::specs::Parts::colons, crate::specs::Parts::joined, crate::specs::Parts::ret_text))]
+#![tactic(auto, using(crate::proofs::Appended::prints), unfolding(cxx_tree::specs::Stored::tree_of, cxx_tree::specs::Stored::plain_tree, cxx_tree::specs::Stored::declaration_tree, cxx_tree::specs::Stored::IsBelow, cxx_tree::specs::Stored::IsPlainBelow, crate::specs::Parts::named_of, crate::specs::Parts::base_of, crate::specs::Parts::scopes_of, crate::specs::Parts::colons, crate::specs::Parts::joined, crate::specs::Parts::ret_text, crate::specs::Parts::parameters_text, crate::specs::Parts::return_type_text))]
 
 ghost use Rattle.std.specs.Prelude.{◌≡◌, ℕ, ◌<◌, ◌≤◌, Bool, true, false, List, [], ◌∷◌, ◌++◌, Option, Some, None, MatchOption, IfSome};
 ghost use Rattle.cxx_tree.specs.Stored.{forest, size, tree_at, option_at, plain_tree, IsOptionBelow, IsPlainBelow};

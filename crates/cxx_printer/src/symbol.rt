@@ -1,9 +1,8 @@
 //! The printings of a symbol.
-#![tactic(auto, using(crate::proofs::Appended::prints), unfolding(cxx_tree::specs::Stored::tree_of, cxx_tree::specs::Stored::plain_tree, cxx_tree::specs::Stored::declaration_tree, cxx_tree::specs::Stored::IsBelow, crate::specs::Symbol::as_function, crate::specs::Symbol::mode_text, crate::specs::Symbol::block_text, crate::specs::Symbol::suffix_text, crate::specs::Symbol::symbol_in))]
+#![tactic(auto, using(crate::proofs::Appended::prints), unfolding(cxx_tree::specs::Stored::tree_of, cxx_tree::specs::Stored::plain_tree, cxx_tree::specs::Stored::declaration_tree, cxx_tree::specs::Stored::IsBelow, crate::specs::Symbol::name_text, crate::specs::Symbol::signature_text, crate::specs::Symbol::mode_text, crate::specs::Symbol::block_text, crate::specs::Symbol::suffix_text, crate::specs::Symbol::symbol_in))]
 
 ghost use Rattle.std.specs.Prelude.{◌≡◌, ℕ, ◌+◌, ◌<◌, ◌≤◌, Bool, true, false, List, [], ◌∷◌, ◌++◌, drop, take, length, Option, Some, None};
 ghost use Rattle.cxx_tree.specs.Stored.{forest, size, tree_at, text_at};
-ghost use Rattle.cxx_printer.specs.declared.symbol.Mode.TheVariants as mode;
 ghost use Rattle.cxx_printer.specs.Prints.{Prints};
 ghost use Rattle.cxx_printer.specs.Symbol as spec;
 ghost use Rattle.cxx_printer.specs.Symbol.{IsSuffix};
@@ -93,7 +92,7 @@ fn print_mode(arena: &Arena, env: Env, i: u32, mode: Mode, out: &mut Output) -> 
 // Appends the name of a function, or what any other tree prints.
 fn print_name(arena: &Arena, env: Env, i: u32, out: &mut Output) -> Result<(), AllocError>
     requires within { i < size arena.now }
-    ensures prints { Prints result out.old out.new (spec.mode_text mode.Name env (tree_at (forest arena.now) i)) }
+    ensures prints { Prints result out.old out.new (spec.name_text env (tree_at (forest arena.now) i)) }
 {
     match arena.node(i) {
         Node::Encoding(_, name, _, _, _, _) => print(arena, env, name, out),
@@ -104,7 +103,7 @@ fn print_name(arena: &Arena, env: Env, i: u32, out: &mut Output) -> Result<(), A
 // Appends a function without its return type, or what any other tree prints.
 fn print_without_return_type(arena: &Arena, env: Env, i: u32, out: &mut Output) -> Result<(), AllocError>
     requires within { i < size arena.now }
-    ensures prints { Prints result out.old out.new (spec.mode_text mode.Signature env (tree_at (forest arena.now) i)) }
+    ensures prints { Prints result out.old out.new (spec.signature_text env (tree_at (forest arena.now) i)) }
 {
     match arena.node(i) {
         Node::Encoding(_, name, params, cv, ref_qual, rest) => print_signature(
