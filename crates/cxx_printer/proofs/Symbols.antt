@@ -1,5 +1,7 @@
 -- What a symbol prints.
-use Rattle.std.proofs.Common.{ℕ, ◌≡◌, ◌+◌, ◌<◌, ◌≤◌, List, [], ◌∷◌, ◌++◌, codes, length, take, drop, refl, sym, ap, ◌∙◌, arith, zero, suc, append_assoc, Result, Ok, Err}
+use Rattle.std.proofs.Common.{ℕ, zero, suc, ◌+◌, ◌<◌, ◌≤◌, Result, Ok, Err}
+use Rattle.std.proofs.Common.{List, [], ◌∷◌, ◌++◌, codes, length, take, drop}
+use Rattle.std.proofs.Common.{◌≡◌, refl, sym, ap, ◌∙◌, arith, append_assoc}
 use Rattle.std.specs.declared.alloc.AllocError.{AllocError}
 use Rattle.cxx_printer.specs.Prints.{Prints}
 use Rattle.cxx_printer.proofs.Appended.{prints_then}
@@ -41,8 +43,8 @@ pub so_far-step : (a b c all rest x more : List ℕ) → a ++ all ≡ b ++ rest 
 so_far-step a b c all rest x more h e k =
     h ∙ ap (λ (l : List ℕ). b ++ l) e ∙ sym (append_assoc b x more) ∙ ap (λ (l : List ℕ). l ++ more) (sym k)
 
-pub so_far-end : (r : Result (Unit {0}) AllocError) (a b c all rest x : List ℕ) → a ++ all ≡ b ++ rest → rest ≡ x
-    → Prints r b c x → Prints r a c all
+pub so_far-end : (r : Result (Unit {0}) AllocError) (a b c all rest x : List ℕ) → a ++ all ≡ b ++ rest
+    → rest ≡ x → Prints r b c x → Prints r a c all
 unfolding Prints
 so_far-end (Ok u) a b c all rest x h e k = k ∙ ap (λ (l : List ℕ). b ++ l) (sym e) ∙ sym h
 so_far-end (Err e) a b c all rest x h f k = tt

@@ -1,7 +1,8 @@
 -- The parts of a symbol of a function or of data: the base of its name, the scopes around it, the parameters and the
 -- return type.
 use Rattle.std.specs.Prelude.{ℕ, Bool, true, false, List, [], ◌∷◌, ◌++◌, codes, Option, Some, None}
-use Rattle.cxx_tree.specs.Tree.{Tree, Trees, scoped, with_args, abi_tag, in_module, data_name, encoding, no_trees, more_trees}
+use Rattle.cxx_tree.specs.Tree.{Tree, scoped, with_args, abi_tag, in_module, data_name, encoding}
+use Rattle.cxx_tree.specs.Tree.{Trees, no_trees, more_trees}
 use Rattle.cxx_printer.specs.declared.env.Env.{Env}
 use Rattle.cxx_printer.specs.Printing.{whole, print, items_of, parens, scope_text}
 

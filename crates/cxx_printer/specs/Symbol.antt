@@ -1,5 +1,6 @@
 -- What a symbol prints.
-use Rattle.std.specs.Prelude.{ℕ, nat_eq, nat_le, Bool, true, false, ◌&&◌, not, List, [], ◌∷◌, ◌++◌, codes, if◌then◌else◌, Option, Some, None}
+use Rattle.std.specs.Prelude.{ℕ, nat_eq, nat_le, Bool, true, false, ◌&&◌, not, if◌then◌else◌}
+use Rattle.std.specs.Prelude.{List, [], ◌∷◌, ◌++◌, codes, Option, Some, None}
 use Rattle.cxx_tree.specs.declared.node.Text.{Text}
 use Rattle.cxx_tree.specs.Tree.{Tree, encoding}
 use Rattle.cxx_tree.specs.Stored.{Held, Store, forest, tree_at, text_at, IsText}

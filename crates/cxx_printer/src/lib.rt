@@ -20,5 +20,5 @@ mod symbol;
 mod words;
 
 pub use crate::env::Style;
-pub use crate::parts::{print_base_name, print_context, print_parameters, print_return_type};
+pub use crate::parts::{print_base_name, print_context, print_return_type};
 pub use crate::symbol::{Mode, Symbol, print_symbol};

@@ -1,16 +1,15 @@
 //! The parts of a symbol of a function or of data: the base of its name, the scopes around it, the parameters and the
 //! return type. Any other symbol has none, and then nothing is appended.
-#![tactic(auto, using(crate::proofs::Appended::prints), unfolding(cxx_tree::specs::Stored::tree_of, cxx_tree::specs::Stored::plain_tree, cxx_tree::specs::Stored::declaration_tree, cxx_tree::specs::Stored::IsBelow, cxx_tree::specs::Stored::IsPlainBelow, crate::specs::Parts::named_of, crate::specs::Parts::base_of, crate::specs::Parts::scopes_of, crate::specs::Parts::colons, crate::specs::Parts::joined, crate::specs::Parts::ret_text, crate::specs::Parts::parameters_text, crate::specs::Parts::return_type_text))]
+#![tactic(auto, using(crate::proofs::Appended::prints), unfolding(cxx_tree::specs::Stored::tree_of, cxx_tree::specs::Stored::plain_tree, cxx_tree::specs::Stored::declaration_tree, cxx_tree::specs::Stored::IsBelow, cxx_tree::specs::Stored::IsPlainBelow, crate::specs::Parts::named_of, crate::specs::Parts::base_of, crate::specs::Parts::scopes_of, crate::specs::Parts::colons, crate::specs::Parts::joined, crate::specs::Parts::ret_text, crate::specs::Parts::return_type_text))]
 
-ghost use Rattle.std.specs.Prelude.{◌≡◌, ℕ, ◌<◌, ◌≤◌, Bool, true, false, List, [], ◌∷◌, ◌++◌, Option, Some, None, MatchOption, IfSome};
+ghost use Rattle.std.specs.Prelude.{◌≡◌, ◌<◌, ◌≤◌, ◌∷◌, Some, None, MatchOption, IfSome};
 ghost use Rattle.cxx_tree.specs.Stored.{forest, size, tree_at, option_at, plain_tree, IsOptionBelow, IsPlainBelow};
-ghost use Rattle.cxx_printer.specs.Printing as printing;
 ghost use Rattle.cxx_printer.specs.Prints.{Prints};
 ghost use Rattle.cxx_printer.specs.Words.{top};
 ghost use Rattle.cxx_printer.specs.Parts as spec;
 
 use crate::env::{Env, Style};
-use crate::print::{print, print_parens, print_scope};
+use crate::print::{print, print_scope};
 use crate::symbol::write;
 use cxx_tree::{Arena, Node, Plain};
 use growing_text::Text as Output;
@@ -18,7 +17,12 @@ use std::alloc::AllocError;
 
 /// Appends the base of the name of a function or of data: what is left without scopes, arguments, ABI tags and module.
 /// Of another tree it appends nothing.
-pub fn print_base_name(arena: &Arena, i: u32, style: Style, out: &mut Output) -> Result<(), AllocError>
+pub fn print_base_name(
+    arena: &Arena,
+    i: u32,
+    style: Style,
+    out: &mut Output,
+) -> Result<(), AllocError>
     requires within { i < size arena.now }
     ensures prints { Prints result out.old out.new (spec.base_name_text (top style) (tree_at (forest arena.now) i)) }
 {
@@ -30,7 +34,12 @@ pub fn print_base_name(arena: &Arena, i: u32, style: Style, out: &mut Output) ->
 
 /// Appends the scopes around the base of the name of a function or of data, from the outermost one, with `::` between.
 /// Of another tree it appends nothing.
-pub fn print_context(arena: &Arena, i: u32, style: Style, out: &mut Output) -> Result<(), AllocError>
+pub fn print_context(
+    arena: &Arena,
+    i: u32,
+    style: Style,
+    out: &mut Output,
+) -> Result<(), AllocError>
     requires within { i < size arena.now }
     ensures prints { Prints result out.old out.new (spec.context_text (top style) (tree_at (forest arena.now) i)) }
 {
@@ -40,19 +49,13 @@ pub fn print_context(arena: &Arena, i: u32, style: Style, out: &mut Output) -> R
     }
 }
 
-/// Appends the parameters of a function, in parentheses. Of another tree it appends nothing.
-pub fn print_parameters(arena: &Arena, i: u32, style: Style, out: &mut Output) -> Result<(), AllocError>
-    requires within { i < size arena.now }
-    ensures prints { Prints result out.old out.new (spec.parameters_text (top style) (tree_at (forest arena.now) i)) }
-{
-    match arena.node(i) {
-        Node::Encoding(_, _, params, _, _, _) => print_parens(arena, Env::top(style), i, params, out),
-        _ => Ok(()),
-    }
-}
-
 /// Appends the return type of a function, if it has one. Of another tree it appends nothing.
-pub fn print_return_type(arena: &Arena, i: u32, style: Style, out: &mut Output) -> Result<(), AllocError>
+pub fn print_return_type(
+    arena: &Arena,
+    i: u32,
+    style: Style,
+    out: &mut Output,
+) -> Result<(), AllocError>
     requires within { i < size arena.now }
     ensures prints { Prints result out.old out.new (spec.return_type_text (top style) (tree_at (forest arena.now) i)) }
 {
@@ -106,9 +109,16 @@ fn base_of(arena: &Arena, i: u32) -> u32
 
 // Appends the scopes around the base of a name, with `::` between.
 #[cycle(scopes)]
-fn print_scopes(arena: &Arena, env: Env, is_first: bool, i: u32, out: &mut Output) -> Result<(), AllocError>
+fn print_scopes(
+    arena: &Arena,
+    env: Env,
+    is_first: bool,
+    i: u32,
+    out: &mut Output,
+) -> Result<(), AllocError>
     requires within { i < size arena.now }
-    ensures prints { Prints result out.old out.new (spec.joined is_first env (spec.scopes_of (tree_at (forest arena.now) i))) }
+    ensures prints { Prints result out.old out.new
+        (spec.joined is_first env (spec.scopes_of (tree_at (forest arena.now) i))) }
 {
     match arena.node(i) {
         Node::Plain(plain) => scopes_of_plain(arena, env, is_first, i, plain, out),
@@ -127,7 +137,8 @@ fn scopes_of_plain(
 ) -> Result<(), AllocError>
     requires bound { bound ≤ size arena.now }
     requires below { IsPlainBelow arena.now.held bound plain }
-    ensures prints { Prints result out.old out.new (spec.joined is_first env (spec.scopes_of (plain_tree arena.now.held (forest arena.now) plain))) }
+    ensures prints { Prints result out.old out.new
+        (spec.joined is_first env (spec.scopes_of (plain_tree arena.now.held (forest arena.now) plain))) }
 {
     match plain {
         Plain::AbiTag(name, _) => print_scopes(arena, env, is_first, name, out),
@@ -150,7 +161,8 @@ fn print_from_scope(
 ) -> Result<(), AllocError>
     requires scope { scope < size arena.now }
     requires name { name < size arena.now }
-    ensures prints { Prints result out.old out.new (spec.joined is_first env (tree_at (forest arena.now) scope ∷ spec.scopes_of (tree_at (forest arena.now) name))) }
+    ensures prints { Prints result out.old out.new (spec.joined is_first env
+        (tree_at (forest arena.now) scope ∷ spec.scopes_of (tree_at (forest arena.now) name))) }
 {
     tri!(write_colons(is_first, out));
     tri!(print_scope(arena, env, scope, out));

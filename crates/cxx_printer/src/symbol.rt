@@ -1,8 +1,8 @@
 //! The printings of a symbol.
 #![tactic(auto, using(crate::proofs::Appended::prints), unfolding(cxx_tree::specs::Stored::tree_of, cxx_tree::specs::Stored::plain_tree, cxx_tree::specs::Stored::declaration_tree, cxx_tree::specs::Stored::IsBelow, crate::specs::Symbol::name_text, crate::specs::Symbol::signature_text, crate::specs::Symbol::mode_text, crate::specs::Symbol::block_text, crate::specs::Symbol::suffix_text, crate::specs::Symbol::symbol_in))]
 
-ghost use Rattle.std.specs.Prelude.{◌≡◌, ℕ, ◌+◌, ◌<◌, ◌≤◌, Bool, true, false, List, [], ◌∷◌, ◌++◌, drop, take, length, Option, Some, None};
-ghost use Rattle.cxx_tree.specs.Stored.{forest, size, tree_at, text_at};
+ghost use Rattle.std.specs.Prelude.{◌≡◌, ◌<◌, ◌++◌, take, length, Some};
+ghost use Rattle.cxx_tree.specs.Stored.{forest, size, tree_at};
 ghost use Rattle.cxx_printer.specs.Prints.{Prints};
 ghost use Rattle.cxx_printer.specs.Symbol as spec;
 ghost use Rattle.cxx_printer.specs.Symbol.{IsSuffix};
@@ -58,7 +58,13 @@ pub fn print_symbol(
     print_symbol_in(arena, Env::top(style), symbol, mode, out)
 }
 
-fn print_symbol_in(arena: &Arena, env: Env, symbol: Symbol, mode: Mode, out: &mut Output) -> Result<(), AllocError>
+fn print_symbol_in(
+    arena: &Arena,
+    env: Env,
+    symbol: Symbol,
+    mode: Mode,
+    out: &mut Output,
+) -> Result<(), AllocError>
     requires within { symbol.tree < size arena.now }
     requires suffix { IsSuffix arena.now.held symbol.suffix }
     ensures prints { Prints result out.old out.new (spec.symbol_in env mode (spec.symbol_at arena.now symbol)) }
@@ -78,7 +84,13 @@ fn write_block(is_block: bool, out: &mut Output) -> Result<(), AllocError>
     Ok(())
 }
 
-fn print_mode(arena: &Arena, env: Env, i: u32, mode: Mode, out: &mut Output) -> Result<(), AllocError>
+fn print_mode(
+    arena: &Arena,
+    env: Env,
+    i: u32,
+    mode: Mode,
+    out: &mut Output,
+) -> Result<(), AllocError>
     requires within { i < size arena.now }
     ensures prints { Prints result out.old out.new (spec.mode_text mode env (tree_at (forest arena.now) i)) }
 {
@@ -101,7 +113,12 @@ fn print_name(arena: &Arena, env: Env, i: u32, out: &mut Output) -> Result<(), A
 }
 
 // Appends a function without its return type, or what any other tree prints.
-fn print_without_return_type(arena: &Arena, env: Env, i: u32, out: &mut Output) -> Result<(), AllocError>
+fn print_without_return_type(
+    arena: &Arena,
+    env: Env,
+    i: u32,
+    out: &mut Output,
+) -> Result<(), AllocError>
     requires within { i < size arena.now }
     ensures prints { Prints result out.old out.new (spec.signature_text env (tree_at (forest arena.now) i)) }
 {
@@ -114,7 +131,12 @@ fn print_without_return_type(arena: &Arena, env: Env, i: u32, out: &mut Output) 
 }
 
 // Appends what follows from a dot.
-fn print_suffix(arena: &Arena, env: Env, suffix: Option<Text>, out: &mut Output) -> Result<(), AllocError>
+fn print_suffix(
+    arena: &Arena,
+    env: Env,
+    suffix: Option<Text>,
+    out: &mut Output,
+) -> Result<(), AllocError>
     requires suffix { IsSuffix arena.now.held suffix }
     ensures prints { Prints result out.old out.new (spec.suffix_text env (spec.suffix_at arena.now.held suffix)) }
 {
