@@ -1,4 +1,4 @@
-use Rattle.std.proofs.Common.{ℕ, ◌+◌, ◌*◌}
+use Rattle.std.proofs.Common.{◌+◌, ◌*◌}
 use Rattle.cxx_printer.proofs.parts.+scopes.Given as goal
 
 abbrev pub decreases-print_scopes : goal.decreases-print_scopes

@@ -1,7 +1,7 @@
-use Rattle.std.proofs.Common.{ℕ, List, ◌++◌, codes, take, drop, subst}
+use Rattle.std.proofs.Common.{ℕ, List, codes, take, drop, subst}
 use Rattle.std.proofs.lemmas.List.{take_rest}
 use Rattle.cxx_printer.specs.Prints.{Prints}
-use Rattle.cxx_printer.specs.Symbol.{pieces_text, pieces_behind}
+use Rattle.cxx_printer.specs.Symbol.{pieces_behind}
 use Rattle.cxx_printer.proofs.Symbols.{pieces_text-some, prints_three}
 use Rattle.cxx_printer.proofs.symbol.print_pieces.Goals as goal
 
