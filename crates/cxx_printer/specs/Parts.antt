@@ -38,6 +38,10 @@ unfoldable pub joined : Bool → Env → List Tree → List ℕ
 joined first env [] = []
 joined first env (q ∷ qs) = colons first ++ (scope_text env (print q env) ++ joined false env qs)
 
+-- the scopes around the base of a name
+abbrev pub context_of : Env → Tree → List ℕ
+context_of env name = joined true env (scopes_of name)
+
 abbrev pub base_name_or_none : Env → Option Tree → List ℕ
 base_name_or_none env None = []
 base_name_or_none env (Some name) = whole (print (base_of name) env)
@@ -48,7 +52,7 @@ base_name_text env t = base_name_or_none env (named_of t)
 
 abbrev pub context_or_none : Env → Option Tree → List ℕ
 context_or_none env None = []
-context_or_none env (Some name) = joined true env (scopes_of name)
+context_or_none env (Some name) = context_of env name
 
 -- the scopes around the base of the name
 abbrev pub context_text : Env → Tree → List ℕ
