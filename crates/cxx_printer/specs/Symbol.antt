@@ -86,10 +86,12 @@ pieces_text (b ∷ bs) = codes " [clone " ++ (b ∷ pieces_behind bs)
 unfoldable pub in_parens : List ℕ → List ℕ
 in_parens bytes = codes " (" ++ (bytes ++ codes ")")
 
+-- no suffix, or one
 unfoldable pub suffix_text : Env → Option (List ℕ) → List ℕ
 suffix_text env None = []
 suffix_text env (Some bytes) = if is_llvm env then in_parens bytes else pieces_text bytes
 
+-- a symbol in an environment
 unfoldable pub symbol_in : Env → Mode → Symbol → List ℕ
 symbol_in env mode x = block_text x.is_block ++ (mode_text mode env x.tree ++ suffix_text env x.suffix)
 
