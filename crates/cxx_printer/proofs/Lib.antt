@@ -1,3 +1,4 @@
-pub mod Packs
 pub mod Appended
+pub mod Packs
+pub mod Symbols
 pub mod Turns

@@ -3,3 +3,5 @@ pub mod Heads
 pub mod Printing
 pub mod Prints
 pub mod Asked
+pub mod Symbol
+pub mod Parts

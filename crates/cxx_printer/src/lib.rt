@@ -13,10 +13,12 @@ macro_rules! tri {
 
 mod env;
 mod operands;
+mod parts;
 mod print;
 mod shapes;
 mod symbol;
 mod words;
 
 pub use crate::env::Style;
+pub use crate::parts::{print_base_name, print_context, print_parameters, print_return_type};
 pub use crate::symbol::{Mode, Symbol, print_symbol};

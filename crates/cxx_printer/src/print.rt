@@ -693,7 +693,7 @@ fn print_trees(arena: &Arena, env: Env, bound: u32, listing: Listing, list: List
 }
 
 #[cycle(printer)]
-fn print_parens(arena: &Arena, env: Env, bound: u32, list: List, out: &mut Output) -> Result<(), AllocError>
+pub fn print_parens(arena: &Arena, env: Env, bound: u32, list: List, out: &mut Output) -> Result<(), AllocError>
     requires bound { bound ≤ size arena.now }
     requires below { IsListBelow arena.now.held bound list }
     ensures prints { Prints result out.old out.new (spec.parens env (spec.items_of (trees_in arena.now.held (forest arena.now) list))) }

@@ -1,4 +1,11 @@
 //! The printings of a symbol.
+#![tactic(auto, using(crate::proofs::Appended::prints), unfolding(cxx_tree::specs::Stored::tree_of, cxx_tree::specs::Stored::plain_tree, cxx_tree::specs::Stored::declaration_tree, cxx_tree::specs::Stored::IsBelow, crate::specs::Symbol::name_text, crate::specs::Symbol::signature_text, crate::specs::Symbol::mode_text, crate::specs::Symbol::block_text, crate::specs::Symbol::suffix_text, crate::specs::Symbol::symbol_in))]
+
+ghost use Rattle.std.specs.Prelude.{◌≡◌, ◌<◌, ◌++◌, take, length, Some};
+ghost use Rattle.cxx_tree.specs.Stored.{forest, size, tree_at};
+ghost use Rattle.cxx_printer.specs.Prints.{Prints};
+ghost use Rattle.cxx_printer.specs.Symbol as spec;
+ghost use Rattle.cxx_printer.specs.Symbol.{IsSuffix};
 
 use crate::env::{Env, Style};
 use crate::print::{print, print_signature};
@@ -20,11 +27,20 @@ pub enum Mode {
 /// What a symbol is read as.
 #[derive(Clone, Copy)]
 pub struct Symbol {
+    /// The index of a node.
     pub tree: u32,
     /// The symbol is that of a block's function.
     pub is_block: bool,
     /// What follows from a dot.
     pub suffix: Option<Text>,
+}
+
+/// Appends a text.
+#[tactic(auto, using(crate::proofs::Appended::prints_added))]
+pub fn write(out: &mut Output, text: &[u8]) -> Result<(), AllocError>
+    ensures prints { Prints result out.old out.new text.now }
+{
+    out.add(text)
 }
 
 /// Appends what a symbol prints.
@@ -34,16 +50,38 @@ pub fn print_symbol(
     mode: Mode,
     style: Style,
     out: &mut Output,
-) -> Result<(), AllocError> {
-    let env = Env::top(style);
-    if symbol.is_block {
-        tri!(out.add(b"invocation function for block in "));
-    }
+) -> Result<(), AllocError>
+    requires within { symbol.tree < size arena.now }
+    requires suffix { IsSuffix arena.now.held symbol.suffix }
+    ensures prints { Prints result out.old out.new (spec.symbol_text mode style (spec.symbol_at arena.now symbol)) }
+{
+    print_symbol_in(arena, Env::top(style), symbol, mode, out)
+}
+
+fn print_symbol_in(
+    arena: &Arena,
+    env: Env,
+    symbol: Symbol,
+    mode: Mode,
+    out: &mut Output,
+) -> Result<(), AllocError>
+    requires within { symbol.tree < size arena.now }
+    requires suffix { IsSuffix arena.now.held symbol.suffix }
+    ensures prints { Prints result out.old out.new (spec.symbol_in env mode (spec.symbol_at arena.now symbol)) }
+{
+    tri!(write_block(symbol.is_block, out));
     tri!(print_mode(arena, env, symbol.tree, mode, out));
-    match symbol.suffix {
-        None => Ok(()),
-        Some(suffix) => print_suffix(env, arena.bytes(suffix), out),
+    print_suffix(arena, env, symbol.suffix, out)
+}
+
+// Appends what stands in front of a symbol of a block's function.
+fn write_block(is_block: bool, out: &mut Output) -> Result<(), AllocError>
+    ensures prints { Prints result out.old out.new (spec.block_text is_block) }
+{
+    if is_block {
+        return write(out, b"invocation function for block in ");
     }
+    Ok(())
 }
 
 fn print_mode(
@@ -52,56 +90,142 @@ fn print_mode(
     i: u32,
     mode: Mode,
     out: &mut Output,
-) -> Result<(), AllocError> {
+) -> Result<(), AllocError>
+    requires within { i < size arena.now }
+    ensures prints { Prints result out.old out.new (spec.mode_text mode env (tree_at (forest arena.now) i)) }
+{
+    match mode {
+        Mode::Name => print_name(arena, env, i, out),
+        Mode::Signature => print_without_return_type(arena, env, i, out),
+        Mode::Declaration => print(arena, env, i, out),
+    }
+}
+
+// Appends the name of a function, or what any other tree prints.
+fn print_name(arena: &Arena, env: Env, i: u32, out: &mut Output) -> Result<(), AllocError>
+    requires within { i < size arena.now }
+    ensures prints { Prints result out.old out.new (spec.name_text env (tree_at (forest arena.now) i)) }
+{
     match arena.node(i) {
-        Node::Encoding(_, name, params, cv, ref_qual, rest) => match mode {
-            Mode::Name => print(arena, env, name, out),
-            Mode::Signature => print_signature(arena, env, i, name, params, cv, ref_qual, rest, out),
-            Mode::Declaration => print(arena, env, i, out),
-        },
+        Node::Encoding(_, name, _, _, _, _) => print(arena, env, name, out),
+        _ => print(arena, env, i, out),
+    }
+}
+
+// Appends a function without its return type, or what any other tree prints.
+fn print_without_return_type(
+    arena: &Arena,
+    env: Env,
+    i: u32,
+    out: &mut Output,
+) -> Result<(), AllocError>
+    requires within { i < size arena.now }
+    ensures prints { Prints result out.old out.new (spec.signature_text env (tree_at (forest arena.now) i)) }
+{
+    match arena.node(i) {
+        Node::Encoding(_, name, params, cv, ref_qual, rest) => print_signature(
+            arena, env, i, name, params, cv, ref_qual, rest, out,
+        ),
         _ => print(arena, env, i, out),
     }
 }
 
 // Appends what follows from a dot.
-fn print_suffix(env: Env, suffix: &[u8], out: &mut Output) -> Result<(), AllocError> {
-    if !env.is_llvm() {
-        return print_pieces(suffix, out);
+fn print_suffix(
+    arena: &Arena,
+    env: Env,
+    suffix: Option<Text>,
+    out: &mut Output,
+) -> Result<(), AllocError>
+    requires suffix { IsSuffix arena.now.held suffix }
+    ensures prints { Prints result out.old out.new (spec.suffix_text env (spec.suffix_at arena.now.held suffix)) }
+{
+    match suffix {
+        None => Ok(()),
+        Some(suffix) => print_dotted(env, arena.bytes(suffix), out),
     }
-    tri!(out.add(b" ("));
-    tri!(out.add(suffix));
-    out.add(b")")
 }
 
-// Appends each piece of a suffix. A piece begins at each dot that no digit follows.
-fn print_pieces(suffix: &[u8], out: &mut Output) -> Result<(), AllocError> {
-    let mut rest = suffix;
-    while !rest.is_empty() {
-        let len = piece_len(rest);
-        tri!(out.add(b" [clone "));
-        tri!(out.add(&rest[..len]));
-        tri!(out.add(b"]"));
-        rest = &rest[len..];
+fn print_dotted(env: Env, suffix: &[u8], out: &mut Output) -> Result<(), AllocError>
+    ensures prints { Prints result out.old out.new (spec.suffix_text env (Some suffix.now)) }
+{
+    if env.is_llvm() {
+        return print_in_parens(suffix, out);
+    }
+    print_pieces(suffix, out)
+}
+
+fn print_in_parens(suffix: &[u8], out: &mut Output) -> Result<(), AllocError>
+    ensures prints { Prints result out.old out.new (spec.in_parens suffix.now) }
+{
+    tri!(write(out, b" ("));
+    tri!(write(out, suffix));
+    write(out, b")")
+}
+
+// Appends a suffix in pieces. The first one begins where the suffix does.
+#[tactic(auto, using(crate::proofs::Appended::prints), unfolding(crate::specs::Symbol::pieces_text))]
+fn print_pieces(suffix: &[u8], out: &mut Output) -> Result<(), AllocError>
+    ensures prints { Prints result out.old out.new (spec.pieces_text suffix.now) }
+{
+    match suffix {
+        [] => Ok(()),
+        [_, behind @ ..] => {
+            tri!(write(out, b" [clone "));
+            tri!(write(out, &suffix[..1]));
+            print_behind(behind, out)
+        }
+    }
+}
+
+// Appends the bytes of a suffix behind its first one.
+fn print_behind(behind: &[u8], out: &mut Output) -> Result<(), AllocError>
+    ensures prints { Prints result out.old out.new (spec.pieces_behind behind.now) }
+{
+    for k in 0..behind.len() {
+        tri!(print_byte(&behind[k..], out));
+    }
+    write(out, b"]")
+}
+
+// Appends the first byte of what is left of a suffix, behind what stands between two pieces if it begins one.
+fn print_byte(rest: &[u8], out: &mut Output) -> Result<(), AllocError>
+    requires some { 0 < length rest.now }
+    ensures prints { Prints result out.old out.new (spec.between rest.now ++ take 1 rest.now) }
+{
+    tri!(write_between(rest, out));
+    write(out, &rest[..1])
+}
+
+// Appends what stands between two pieces, if what is left of a suffix begins one.
+#[tactic(auto, using(crate::proofs::Appended::prints), unfolding(crate::specs::Symbol::between))]
+fn write_between(rest: &[u8], out: &mut Output) -> Result<(), AllocError>
+    ensures prints { Prints result out.old out.new (spec.between rest.now) }
+{
+    if is_piece(rest) {
+        return write(out, b"] [clone ");
     }
     Ok(())
 }
 
-// The length of the first piece of a suffix that isn't empty.
-fn piece_len(suffix: &[u8]) -> usize {
-    let mut k = 1;
-    while k < suffix.len() {
-        if begins_piece(&suffix[k..]) {
-            return k;
-        }
-        k += 1;
+// Whether a piece begins here: with a dot that no digit follows.
+#[tactic(auto, unfolding(crate::specs::Symbol::is_piece))]
+fn is_piece(bytes: &[u8]) -> bool
+    ensures value { result ≡ spec.is_piece bytes.now }
+{
+    match bytes {
+        [byte, behind @ ..] => *byte == b'.' && !is_digit_first(behind),
+        [] => false,
     }
-    k
 }
 
-fn begins_piece(bytes: &[u8]) -> bool {
+// Whether the first byte, if there is one, is a digit.
+#[tactic(auto, unfolding(crate::specs::Symbol::is_digit_first))]
+fn is_digit_first(bytes: &[u8]) -> bool
+    ensures value { result ≡ spec.is_digit_first bytes.now }
+{
     match bytes {
-        [b'.', b'0'..=b'9', ..] => false,
-        [b'.', ..] => true,
-        _ => false,
+        [byte, ..] => b'0' <= *byte && *byte <= b'9',
+        [] => false,
     }
 }

@@ -1,0 +1,202 @@
+//! The parts of a symbol of a function or of data: the base of its name, the scopes around it, the parameters and the
+//! return type. Any other symbol has none, and then nothing is appended.
+#![tactic(auto, using(crate::proofs::Appended::prints), unfolding(cxx_tree::specs::Stored::tree_of, cxx_tree::specs::Stored::plain_tree, cxx_tree::specs::Stored::declaration_tree, cxx_tree::specs::Stored::IsBelow, cxx_tree::specs::Stored::IsPlainBelow, crate::specs::Parts::named_of, crate::specs::Parts::base_of, crate::specs::Parts::scopes_of, crate::specs::Parts::colons, crate::specs::Parts::joined, crate::specs::Parts::ret_text, crate::specs::Parts::return_type_text, crate::specs::Parts::parameters_text))]
+
+ghost use Rattle.std.specs.Prelude.{◌≡◌, ◌<◌, ◌≤◌, ◌∷◌, Some, None, MatchOption, IfSome};
+ghost use Rattle.cxx_tree.specs.Stored.{forest, size, tree_at, option_at, plain_tree, IsOptionBelow, IsPlainBelow};
+ghost use Rattle.cxx_printer.specs.Prints.{Prints};
+ghost use Rattle.cxx_printer.specs.Words.{top};
+ghost use Rattle.cxx_printer.specs.Parts as spec;
+
+use crate::env::{Env, Style};
+use crate::print::{print, print_parens, print_scope};
+use crate::symbol::write;
+use cxx_tree::{Arena, Node, Plain};
+use growing_text::Text as Output;
+use std::alloc::AllocError;
+
+/// Appends the base of the name of a function or of data: what is left without scopes, arguments, ABI tags and module.
+/// Of another tree it appends nothing.
+pub fn print_base_name(
+    arena: &Arena,
+    i: u32,
+    style: Style,
+    out: &mut Output,
+) -> Result<(), AllocError>
+    requires within { i < size arena.now }
+    ensures prints { Prints result out.old out.new (spec.base_name_text (top style) (tree_at (forest arena.now) i)) }
+{
+    match named_of(arena, i) {
+        None => Ok(()),
+        Some(name) => print(arena, Env::top(style), base_of(arena, name), out),
+    }
+}
+
+/// Appends the scopes around the base of the name of a function or of data, from the outermost one, with `::` between.
+/// Of another tree it appends nothing.
+pub fn print_context(
+    arena: &Arena,
+    i: u32,
+    style: Style,
+    out: &mut Output,
+) -> Result<(), AllocError>
+    requires within { i < size arena.now }
+    ensures prints { Prints result out.old out.new (spec.context_text (top style) (tree_at (forest arena.now) i)) }
+{
+    match named_of(arena, i) {
+        None => Ok(()),
+        Some(name) => print_scopes(arena, Env::top(style), true, name, out),
+    }
+}
+
+/// Appends the parameters of a function, in parentheses. Of another tree it appends nothing.
+pub fn print_parameters(
+    arena: &Arena,
+    i: u32,
+    style: Style,
+    out: &mut Output,
+) -> Result<(), AllocError>
+    requires within { i < size arena.now }
+    ensures prints { Prints result out.old out.new (spec.parameters_text (top style) (tree_at (forest arena.now) i)) }
+{
+    match arena.node(i) {
+        Node::Encoding(_, _, params, _, _, _) => print_parens(
+            arena,
+            Env::top(style),
+            i,
+            params,
+            out,
+        ),
+        _ => Ok(()),
+    }
+}
+
+/// Appends the return type of a function, if it has one. Of another tree it appends nothing.
+pub fn print_return_type(
+    arena: &Arena,
+    i: u32,
+    style: Style,
+    out: &mut Output,
+) -> Result<(), AllocError>
+    requires within { i < size arena.now }
+    ensures prints { Prints result out.old out.new (spec.return_type_text (top style) (tree_at (forest arena.now) i)) }
+{
+    match arena.node(i) {
+        Node::Encoding(ret, _, _, _, _, _) => print_ret(arena, Env::top(style), ret, out),
+        _ => Ok(()),
+    }
+}
+
+fn print_ret(arena: &Arena, env: Env, ret: Option<u32>, out: &mut Output) -> Result<(), AllocError>
+    requires below { IsOptionBelow (size arena.now) ret }
+    ensures prints { Prints result out.old out.new (spec.ret_text env (option_at (forest arena.now) ret)) }
+{
+    match ret {
+        None => Ok(()),
+        Some(t) => print(arena, env, t, out),
+    }
+}
+
+// The name of a function or of data.
+fn named_of(arena: &Arena, i: u32) -> Option<u32>
+    requires within { i < size arena.now }
+    ensures value { MatchOption result (spec.named_of (tree_at (forest arena.now) i) ≡ None)
+        (λ name. spec.named_of (tree_at (forest arena.now) i) ≡ Some (tree_at (forest arena.now) name)) }
+    ensures within { IfSome result (λ name. name < size arena.now) }
+{
+    match arena.node(i) {
+        Node::Encoding(_, name, _, _, _, _) => Some(name),
+        Node::Plain(Plain::Data(name)) => Some(name),
+        _ => None,
+    }
+}
+
+// The base of a name.
+fn base_of(arena: &Arena, i: u32) -> u32
+    requires within { i < size arena.now }
+    ensures value { tree_at (forest arena.now) result ≡ spec.base_of (tree_at (forest arena.now) i) }
+    ensures within { result < size arena.now }
+{
+    match arena.node(i) {
+        Node::Plain(plain) => match plain {
+            Plain::AbiTag(name, _) => base_of(arena, name),
+            Plain::InModule(name, _) => base_of(arena, name),
+            Plain::WithArgs(name, _) => base_of(arena, name),
+            Plain::Scoped(_, _, name) => base_of(arena, name),
+            _ => i,
+        },
+        _ => i,
+    }
+}
+
+// Appends the scopes around the base of a name, with `::` between.
+#[cycle(scopes)]
+fn print_scopes(
+    arena: &Arena,
+    env: Env,
+    is_first: bool,
+    i: u32,
+    out: &mut Output,
+) -> Result<(), AllocError>
+    requires within { i < size arena.now }
+    ensures prints { Prints result out.old out.new
+        (spec.joined is_first env (spec.scopes_of (tree_at (forest arena.now) i))) }
+{
+    match arena.node(i) {
+        Node::Plain(plain) => scopes_of_plain(arena, env, is_first, i, plain, out),
+        _ => Ok(()),
+    }
+}
+
+#[cycle(scopes)]
+fn scopes_of_plain(
+    arena: &Arena,
+    env: Env,
+    is_first: bool,
+    bound: u32,
+    plain: Plain,
+    out: &mut Output,
+) -> Result<(), AllocError>
+    requires bound { bound ≤ size arena.now }
+    requires below { IsPlainBelow arena.now.held bound plain }
+    ensures prints { Prints result out.old out.new
+        (spec.joined is_first env (spec.scopes_of (plain_tree arena.now.held (forest arena.now) plain))) }
+{
+    match plain {
+        Plain::AbiTag(name, _) => print_scopes(arena, env, is_first, name, out),
+        Plain::InModule(name, _) => print_scopes(arena, env, is_first, name, out),
+        Plain::WithArgs(name, _) => print_scopes(arena, env, is_first, name, out),
+        Plain::Scoped(_, scope, name) => print_from_scope(arena, env, is_first, scope, name, out),
+        _ => Ok(()),
+    }
+}
+
+// Appends a scope, and those that are passed in the name.
+#[cycle(scopes)]
+fn print_from_scope(
+    arena: &Arena,
+    env: Env,
+    is_first: bool,
+    scope: u32,
+    name: u32,
+    out: &mut Output,
+) -> Result<(), AllocError>
+    requires scope { scope < size arena.now }
+    requires name { name < size arena.now }
+    ensures prints { Prints result out.old out.new (spec.joined is_first env
+        (tree_at (forest arena.now) scope ∷ spec.scopes_of (tree_at (forest arena.now) name))) }
+{
+    tri!(write_colons(is_first, out));
+    tri!(print_scope(arena, env, scope, out));
+    print_scopes(arena, env, false, name, out)
+}
+
+// Appends what stands before a scope.
+fn write_colons(is_first: bool, out: &mut Output) -> Result<(), AllocError>
+    ensures prints { Prints result out.old out.new (spec.colons is_first) }
+{
+    if is_first {
+        return Ok(());
+    }
+    write(out, b"::")
+}
