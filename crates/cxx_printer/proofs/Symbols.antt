@@ -45,6 +45,5 @@ so_far-step a b c all rest x more h e k =
 
 pub so_far-end : (r : Result (Unit {0}) AllocError) (a b c all rest x : List ℕ) → a ++ all ≡ b ++ rest
     → rest ≡ x → Prints r b c x → Prints r a c all
-unfolding Prints
 so_far-end (Ok u) a b c all rest x h e k = k ∙ ap (λ (l : List ℕ). b ++ l) (sym e) ∙ sym h
 so_far-end (Err e) a b c all rest x h f k = tt

@@ -7,7 +7,7 @@ use Rattle.cxx_printer.proofs.Symbols.{prints_three}
 use Rattle.cxx_printer.proofs.parts.+scopes.Goals as goal
 
 pub print_from_scope-returns : goal.print_from_scope-returns
-unfolding Prints joined
+unfolding joined
 print_from_scope-returns t c =
     let env = c.args.env in
     let ts = forest c.args.arena.now in

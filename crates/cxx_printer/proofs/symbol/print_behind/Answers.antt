@@ -6,7 +6,6 @@ use Rattle.cxx_printer.proofs.Symbols.{pieces_behind-step, pieces_behind-end, so
 use Rattle.cxx_printer.proofs.symbol.print_behind.Goals as goal
 
 pub loop-k-preserved : goal.loop-k-preserved
-unfolding Prints
 loop-k-preserved c =
     let bs = c.args.behind.now in
     let k = c.loop-k.k in

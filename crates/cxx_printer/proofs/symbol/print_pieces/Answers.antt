@@ -6,7 +6,6 @@ use Rattle.cxx_printer.proofs.Symbols.{pieces_text-some, prints_three}
 use Rattle.cxx_printer.proofs.symbol.print_pieces.Goals as goal
 
 pub returns-in-Ok-write : goal.returns-in-Ok-write
-unfolding Prints
 returns-in-Ok-write c =
     let bs = c.args.suffix.now in
     let r = c.print_behind.result in

@@ -5,7 +5,7 @@ use Rattle.cxx_printer.proofs.Symbols.{prints_three}
 use Rattle.cxx_printer.proofs.symbol.print_symbol_in.Goals as goal
 
 pub returns : goal.returns
-unfolding Prints symbol_in
+unfolding symbol_in
 returns c =
     let env = c.args.env in
     let x = c.args.symbol in
