@@ -37,19 +37,19 @@ trees_from-old h ts (n ∷ ns) i b =
     trees_from-old h (ts ++ tree_of h ts n ∷ []) ns i (grind (arith, common_steps)) ∙ get_or-append ts (tree_of h ts n ∷ []) (named []) i b
 
 -- two lists of trees that agree below n
-abbrev Agree : ℕ → List Tree → List Tree → Type 0
+abbrev pub Agree : ℕ → List Tree → List Tree → Type 0
 Agree n ts us = (i : ℕ) → i < n → tree_at ts i ≡ tree_at us i
 
-trees_at-same : (n : ℕ) (ts us : List Tree) → Agree n ts us → (is : List ℕ) → AllByRecursion (λ t. t < n) is → trees_at ts is ≡ trees_at us is
+pub trees_at-same : (n : ℕ) (ts us : List Tree) → Agree n ts us → (is : List ℕ) → AllByRecursion (λ t. t < n) is → trees_at ts is ≡ trees_at us is
 trees_at-same n ts us agree [] b = refl
 trees_at-same n ts us agree (i ∷ is) b =
     let one = agree i b.0 in let rest = trees_at-same n ts us agree is b.1 in cc
 
-option_at-same : (n : ℕ) (ts us : List Tree) → Agree n ts us → (o : Option ℕ) → IsOptionBelow n o → option_at ts o ≡ option_at us o
+pub option_at-same : (n : ℕ) (ts us : List Tree) → Agree n ts us → (o : Option ℕ) → IsOptionBelow n o → option_at ts o ≡ option_at us o
 option_at-same n ts us agree None b = refl
 option_at-same n ts us agree (Some i) b = ap (λ (t : Tree). more_trees t no_trees) (agree i b)
 
-parts_of-same : (h : Held) (n : ℕ) (ts us : List Tree) → Agree n ts us → (ps : List Part) → AllByRecursion (IsPartBelow h n) ps → parts_of h ts ps ≡ parts_of h us ps
+pub parts_of-same : (h : Held) (n : ℕ) (ts us : List Tree) → Agree n ts us → (ps : List Part) → AllByRecursion (IsPartBelow h n) ps → parts_of h ts ps ≡ parts_of h us ps
 parts_of-same h n ts us agree [] b = refl
 parts_of-same h n ts us agree (part.Text x y ∷ ps) b = ap (text (text_at h x) (text_at h y)) (parts_of-same h n ts us agree ps b.1)
 parts_of-same h n ts us agree (part.Tree manner t ∷ ps) b =
@@ -159,7 +159,7 @@ list_at-more h g e l b = ap (λ (is : List ℕ). slice_range is l.range.from l.r
 pub parts_at-more : (h g : Held) → Extends h g → (ps : handles.Parts) → IsRange (length h.parts) ps.range → parts_at g ps ≡ parts_at h ps
 parts_at-more h g e ps b = ap (λ (l : List Part). slice_range l ps.range.from ps.range.to) e.1.1 ∙ grind (arith, common_steps)
 
-parts_of-more : (h g : Held) → Extends h g → (n : ℕ) (ts : List Tree) (ps : List Part) → AllByRecursion (IsPartBelow h n) ps → parts_of g ts ps ≡ parts_of h ts ps
+pub parts_of-more : (h g : Held) → Extends h g → (n : ℕ) (ts : List Tree) (ps : List Part) → AllByRecursion (IsPartBelow h n) ps → parts_of g ts ps ≡ parts_of h ts ps
 parts_of-more h g e n ts [] b = refl
 parts_of-more h g e n ts (part.Text x y ∷ ps) b =
     let one = text_at-more h g e x b.0.0 in
@@ -172,10 +172,10 @@ parts_of-more h g e n ts (part.Trees listing l ∷ ps) b =
     let rest = parts_of-more h g e n ts ps b.1 in
     cc
 
-trees_in-more : (h g : Held) → Extends h g → (n : ℕ) (ts : List Tree) (l : handle.List) → IsListBelow h n l → trees_in g ts l ≡ trees_in h ts l
+pub trees_in-more : (h g : Held) → Extends h g → (n : ℕ) (ts : List Tree) (l : handle.List) → IsListBelow h n l → trees_in g ts l ≡ trees_in h ts l
 trees_in-more h g e n ts l b = ap (trees_at ts) (list_at-more h g e l b.0)
 
-parts_in-more : (h g : Held) → Extends h g → (n : ℕ) (ts : List Tree) (ps : handles.Parts) → IsPartsBelow h n ps → parts_in g ts ps ≡ parts_in h ts ps
+pub parts_in-more : (h g : Held) → Extends h g → (n : ℕ) (ts : List Tree) (ps : handles.Parts) → IsPartsBelow h n ps → parts_in g ts ps ≡ parts_in h ts ps
 parts_in-more h g e n ts ps b = ap (parts_of g ts) (parts_at-more h g e ps b.0) ∙ parts_of-more h g e n ts (parts_at h ps) b.1
 
 plain_tree-more : (h g : Held) → Extends h g → (n : ℕ) (ts : List Tree) (p : Plain) → IsPlainBelow h n p → plain_tree g ts p ≡ plain_tree h ts p
@@ -217,10 +217,10 @@ tree_of-more h g e n ts (node.Encoding ret name params cv ref rest) b =
     let one = trees_in-more h g e n ts params b.2 in let two = parts_in-more h g e n ts rest b.3 in cc
 tree_of-more h g e n ts (node.Pack items) b = ap pack (trees_in-more h g e n ts items b)
 
-IsRange-more : (n m : ℕ) (r : Range) → n ≤ m → IsRange n r → IsRange m r
+pub IsRange-more : (n m : ℕ) (r : Range) → n ≤ m → IsRange n r → IsRange m r
 IsRange-more n m r h b = (b.0, omega (arith, h, b.1))
 
-length-more : (A : Type 0) (xs ys : List A) → Begins A xs ys → length xs ≤ length ys
+pub length-more : (A : Type 0) (xs ys : List A) → Begins A xs ys → length xs ≤ length ys
 length-more A xs ys e = omega (arith, ap length e.1, length-append xs e.0)
 
 pub IsText-more : (h g : Held) → Extends h g → (t : Text) → IsText h t → IsText g t
@@ -242,7 +242,7 @@ IsPartBelow-more h g e n m le (part.Text x y) b = (IsText-more h g e x b.0, IsTe
 IsPartBelow-more h g e n m le (part.Tree manner t) b = omega (arith, le, b)
 IsPartBelow-more h g e n m le (part.Trees listing l) b = IsListBelow-more h g e n m le l b
 
-all_parts-more : (h g : Held) → Extends h g → (n m : ℕ) → n ≤ m → (ps : List Part) → AllByRecursion (IsPartBelow h n) ps → AllByRecursion (IsPartBelow g m) ps
+pub all_parts-more : (h g : Held) → Extends h g → (n m : ℕ) → n ≤ m → (ps : List Part) → AllByRecursion (IsPartBelow h n) ps → AllByRecursion (IsPartBelow g m) ps
 all_parts-more h g e n m le [] b = b
 all_parts-more h g e n m le (p ∷ ps) b = (IsPartBelow-more h g e n m le p b.0, all_parts-more h g e n m le ps b.1)
 

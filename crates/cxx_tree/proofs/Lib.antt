@@ -1,3 +1,5 @@
 pub mod Forest
 pub mod Measured
 pub mod Grown
+pub mod Replaced
+pub mod Decimals

@@ -4,3 +4,4 @@ pub mod Stored
 pub mod Counts
 pub mod Grows
 pub mod View
+pub mod Bind

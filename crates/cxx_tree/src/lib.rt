@@ -2,12 +2,15 @@
 #![tactic(auto)]
 
 mod arena;
+mod bind;
 mod counts;
+mod digits;
 mod kinds;
 mod measuring;
 mod node;
 
 pub use crate::arena::{Arena, PushError};
+pub use crate::bind::{Binding, Rest};
 pub use crate::counts::Measure;
 pub use crate::kinds::{Context, Cv, Guard, Listing, Manner, Phrase, Prec, RefQual, Role, Std};
 pub use crate::node::{Declaration, List, Node, Part, Parts, Plain, Range, Text};

@@ -1,0 +1,69 @@
+use Rattle.std.proofs.Common.{ℕ, ◌≡◌, ◌+◌, ◌*◌, ◌<◌, ◌≤◌, drop, Bool}
+use Rattle.std.specs.List.{AllByRecursion}
+use Rattle.cxx_tree.specs.Measure.{measure_each, measure_parts}
+use Rattle.cxx_tree.specs.Stored.{forest, size, trees_at, parts_of, IsPartBelow}
+use Rattle.cxx_tree.specs.Grows.{Grows}
+use Rattle.cxx_tree.specs.Bind.{bind_each, bind_parts, binding_at}
+use Rattle.cxx_tree.proofs.Replaced.{joined_trees, joined_parts}
+use Rattle.cxx_tree.proofs.bind.+binding.Given as goal
+
+abbrev pub decreases-bind : goal.decreases-bind
+decreases-bind l = 8 * l.i + 7
+
+abbrev pub decreases-bind_node : goal.decreases-bind_node
+decreases-bind_node l = 8 * l.i + 6
+
+abbrev pub decreases-bind_plain : goal.decreases-bind_plain
+decreases-bind_plain l = 8 * l.i + 5
+
+abbrev pub decreases-bind_declaration : goal.decreases-bind_declaration
+decreases-bind_declaration l = 8 * l.i + 5
+
+abbrev pub decreases-bind_four : goal.decreases-bind_four
+decreases-bind_four l = 8 * l.i + 4
+
+abbrev pub decreases-bind_three : goal.decreases-bind_three
+decreases-bind_three l = 8 * l.i + 3
+
+abbrev pub decreases-bind_with_list : goal.decreases-bind_with_list
+decreases-bind_with_list l = 8 * l.i + 3
+
+abbrev pub decreases-bind_with_parts : goal.decreases-bind_with_parts
+decreases-bind_with_parts l = 8 * l.i + 3
+
+abbrev pub decreases-bind_pair : goal.decreases-bind_pair
+decreases-bind_pair l = 8 * l.i + 3
+
+abbrev pub decreases-bind_option : goal.decreases-bind_option
+decreases-bind_option l = 8 * l.i + 3
+
+abbrev pub decreases-bind_parts : goal.decreases-bind_parts
+decreases-bind_parts l = 8 * l.i + 2
+
+abbrev pub decreases-bind_part : goal.decreases-bind_part
+decreases-bind_part l = 8 * l.i + 1
+
+abbrev pub decreases-bind_list : goal.decreases-bind_list
+decreases-bind_list l = 8 * l.i
+
+abbrev pub invariant-bind_list-loop-t : goal.invariant-bind_list-loop-t
+invariant-bind_list-loop-t l = record {
+  grows : Grows l.fn.arena l.arena;
+  few : size l.arena + (measure_each (trees_at (forest l.fn.arena) (drop l.t-index l.old))).params
+      ≤ size l.fn.arena + (measure_each (trees_at (forest l.fn.arena) l.old)).params;
+  below : AllByRecursion (λ t. t < size l.arena) l.items;
+  bound : joined_trees (trees_at (forest l.arena) l.items)
+      (bind_each (binding_at l.fn.arena l.binding) (trees_at (forest l.fn.arena) (drop l.t-index l.old)))
+      ≡ bind_each (binding_at l.fn.arena l.binding) (trees_at (forest l.fn.arena) l.old);
+}
+
+abbrev pub invariant-bind_parts-loop-part : goal.invariant-bind_parts-loop-part
+invariant-bind_parts-loop-part l = record {
+  grows : Grows l.fn.arena l.arena;
+  few : (reversed : Bool) → size l.arena + (measure_parts reversed (parts_of l.fn.arena.held (forest l.fn.arena) (drop l.part-index l.old))).params
+      ≤ size l.fn.arena + (measure_parts reversed (parts_of l.fn.arena.held (forest l.fn.arena) l.old)).params;
+  below : AllByRecursion (IsPartBelow l.arena.held (size l.arena)) l.items;
+  bound : joined_parts (parts_of l.arena.held (forest l.arena) l.items)
+      (bind_parts (binding_at l.fn.arena l.binding) (parts_of l.fn.arena.held (forest l.fn.arena) (drop l.part-index l.old)))
+      ≡ bind_parts (binding_at l.fn.arena l.binding) (parts_of l.fn.arena.held (forest l.fn.arena) l.old);
+}
