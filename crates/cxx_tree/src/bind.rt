@@ -88,6 +88,32 @@ fn auto_node(arena: &mut Arena, alloc: Global, index: u64) -> Result<u32, PushEr
     arena.push(Node::Plain(Plain::Leaf(false, Text::Fixed(b"auto"), text)))
 }
 
+// Makes what becomes of the template parameter that is node `i`, if it has no name.
+fn without_name(
+    arena: &mut Arena,
+    alloc: Global,
+    binding: &Binding,
+    i: u32,
+    level: u64,
+    index: u64,
+) -> Result<u32, PushError>
+    requires within { i < size arena.old }
+    requires param { tree_at (forest arena.old) i ≡ param level index }
+    ensures makes { Makes result arena.old arena.new (spec.other binding.now.rest binding.now.level level index) }
+    ensures few { size arena.new ≤ size arena.old + 1 }
+{
+    match binding.rest {
+        Rest::Keep => Ok(i),
+        Rest::Auto => {
+            if level < binding.level {
+                return Ok(i);
+            }
+            auto_node(arena, alloc, index)
+        }
+        Rest::Written => written_node(arena, alloc, level, index),
+    }
+}
+
 // Makes what becomes of the template parameter that is node `i`.
 fn replaced(
     arena: &mut Arena,
@@ -106,16 +132,7 @@ fn replaced(
     if level == binding.level && index < binding.names.len() as u64 {
         return Ok(binding.names[index as usize]);
     }
-    match binding.rest {
-        Rest::Keep => Ok(i),
-        Rest::Auto => {
-            if level < binding.level {
-                return Ok(i);
-            }
-            auto_node(arena, alloc, index)
-        }
-        Rest::Written => written_node(arena, alloc, level, index),
-    }
+    without_name(arena, alloc, binding, i, level, index)
 }
 
 // The level and the index of a template parameter. Returns nothing for another node.
@@ -369,8 +386,7 @@ fn bind_three(
         && ((measure_each (bound_list arena.old binding.now list)).fits
         && (measure_parts false (bound_parts arena.old binding.now parts)).fits) ≡ false }
 {
-    let first = tri!(bind(arena, alloc, binding, a));
-    let second = tri!(bind_list(arena, alloc, binding, i, list));
+    let (first, second) = tri!(bind_with_list(arena, alloc, binding, i, a, list));
     let third = tri!(bind_parts(arena, alloc, binding, i, parts));
     Ok((first, second, third))
 }

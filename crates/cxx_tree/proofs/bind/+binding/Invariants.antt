@@ -20,10 +20,10 @@ abbrev pub decreases-bind_declaration : goal.decreases-bind_declaration
 decreases-bind_declaration l = 8 * l.i + 5
 
 abbrev pub decreases-bind_four : goal.decreases-bind_four
-decreases-bind_four l = 8 * l.i + 4
+decreases-bind_four l = 8 * l.i + 5
 
 abbrev pub decreases-bind_three : goal.decreases-bind_three
-decreases-bind_three l = 8 * l.i + 3
+decreases-bind_three l = 8 * l.i + 4
 
 abbrev pub decreases-bind_with_list : goal.decreases-bind_with_list
 decreases-bind_with_list l = 8 * l.i + 3
@@ -49,21 +49,21 @@ decreases-bind_list l = 8 * l.i
 abbrev pub invariant-bind_list-loop-t : goal.invariant-bind_list-loop-t
 invariant-bind_list-loop-t l = record {
   grows : Grows l.fn.arena l.arena;
-  few : size l.arena + (measure_each (trees_at (forest l.fn.arena) (drop l.t-index l.old))).params
-      ≤ size l.fn.arena + (measure_each (trees_at (forest l.fn.arena) l.old)).params;
-  below : AllByRecursion (λ t. t < size l.arena) l.items;
-  bound : joined_trees (trees_at (forest l.arena) l.items)
-      (bind_each (binding_at l.fn.arena l.binding) (trees_at (forest l.fn.arena) (drop l.t-index l.old)))
-      ≡ bind_each (binding_at l.fn.arena l.binding) (trees_at (forest l.fn.arena) l.old);
+  few : size l.arena + (measure_each (trees_at (forest l.fn.arena) (drop l.t-index l.t-items))).params
+      ≤ size l.fn.arena + (measure_each (trees_at (forest l.fn.arena) l.t-items)).params;
+  below : AllByRecursion (λ t. t < size l.arena) l.items.items;
+  bound : joined_trees (trees_at (forest l.arena) l.items.items)
+      (bind_each (binding_at l.fn.arena l.binding) (trees_at (forest l.fn.arena) (drop l.t-index l.t-items)))
+      ≡ bind_each (binding_at l.fn.arena l.binding) (trees_at (forest l.fn.arena) l.t-items);
 }
 
 abbrev pub invariant-bind_parts-loop-part : goal.invariant-bind_parts-loop-part
 invariant-bind_parts-loop-part l = record {
   grows : Grows l.fn.arena l.arena;
-  few : (reversed : Bool) → size l.arena + (measure_parts reversed (parts_of l.fn.arena.held (forest l.fn.arena) (drop l.part-index l.old))).params
-      ≤ size l.fn.arena + (measure_parts reversed (parts_of l.fn.arena.held (forest l.fn.arena) l.old)).params;
-  below : AllByRecursion (IsPartBelow l.arena.held (size l.arena)) l.items;
-  bound : joined_parts (parts_of l.arena.held (forest l.arena) l.items)
-      (bind_parts (binding_at l.fn.arena l.binding) (parts_of l.fn.arena.held (forest l.fn.arena) (drop l.part-index l.old)))
-      ≡ bind_parts (binding_at l.fn.arena l.binding) (parts_of l.fn.arena.held (forest l.fn.arena) l.old);
+  few : (reversed : Bool) → size l.arena + (measure_parts reversed (parts_of l.fn.arena.held (forest l.fn.arena) (drop l.part-index l.part-items))).params
+      ≤ size l.fn.arena + (measure_parts reversed (parts_of l.fn.arena.held (forest l.fn.arena) l.part-items)).params;
+  below : AllByRecursion (IsPartBelow l.arena.held (size l.arena)) l.items.items;
+  bound : joined_parts (parts_of l.arena.held (forest l.arena) l.items.items)
+      (bind_parts (binding_at l.fn.arena l.binding) (parts_of l.fn.arena.held (forest l.fn.arena) (drop l.part-index l.part-items)))
+      ≡ bind_parts (binding_at l.fn.arena l.binding) (parts_of l.fn.arena.held (forest l.fn.arena) l.part-items);
 }
