@@ -1,5 +1,5 @@
 -- The trees of nodes, as nodes and what they refer to grow.
-use Rattle.std.proofs.Common.{ℕ, ◌≡◌, ◌+◌, ◌<◌, ◌≤◌, List, [], ◌∷◌, ◌++◌, length, map, refl, sym, ap, ◌∙◌, arith, append_assoc, subst, zero, suc, length-append, Option, Some, None, slice_range}
+use Rattle.std.proofs.Common.{ℕ, ◌≡◌, ◌+◌, ◌<◌, ◌≤◌, List, [], ◌∷◌, ◌++◌, length, refl, sym, ap, ◌∙◌, arith, subst, zero, suc, length-append, Option, Some, None, slice_range}
 use Rattle.std.proofs.Math.ListN.{get_or, get_or-append}
 use Rattle.std.proofs.Math.Seq.{get_or-append_seam}
 use Rattle.std.proofs.lemmas.Grind.{common_steps}
@@ -18,7 +18,7 @@ use Rattle.cxx_tree.specs.declared.node.Declaration.{Declaration}
 use Rattle.cxx_tree.specs.declared.node.Declaration.TheVariants as declaration
 use Rattle.cxx_tree.specs.declared.node.Node.{Node}
 use Rattle.cxx_tree.specs.declared.node.Node.TheVariants as node
-use Rattle.cxx_tree.specs.Tree.{Tree, Trees, Parts, named, leaf, std_name, phrase, scoped, with_args, abi_tag, in_module, data_name, objc_protocol, listed, expansion, param, type_param, non_type_param, template_param, pack_param, qualified, pointer, reference, member_pointer, array, function, encoding, pack, no_trees, more_trees, no_parts, text, tree, trees}
+use Rattle.cxx_tree.specs.Tree.{Tree, named, phrase, with_args, abi_tag, data_name, objc_protocol, listed, expansion, pack_param, qualified, pointer, reference, array, pack, no_trees, more_trees, text, tree}
 use Rattle.cxx_tree.specs.Stored.{Held, Store, text_at, list_at, parts_at, tree_at, trees_at, trees_in, option_at, parts_of, parts_in, plain_tree, declaration_tree, tree_of, IsRange, IsText, IsListBelow, IsPartBelow, IsPartsBelow, IsOptionBelow, IsPlainBelow, IsDeclarationBelow, IsBelow, trees_from, AreStored, IsStore, forest, size, Begins, Extends}
 
 -- a node at the end

@@ -1,5 +1,5 @@
 -- How template parameters are replaced.
-use Rattle.std.proofs.Common.{ℕ, ◌≡◌, ◌+◌, ◌-◌, ◌<◌, ◌≤◌, Bool, true, false, ◌&&◌, List, [], ◌∷◌, ◌++◌, length, map, drop, refl, sym, ap, ◌∙◌, arith, subst, zero, suc, Option, Some, None, Result, Ok, Err}
+use Rattle.std.proofs.Common.{ℕ, ◌≡◌, ◌+◌, ◌-◌, ◌<◌, ◌≤◌, Bool, true, false, ◌&&◌, List, [], ◌∷◌, ◌++◌, length, map, drop, refl, sym, ap, ◌∙◌, arith, subst, zero, suc, Option, Result, Ok, Err}
 use Rattle.std.proofs.Math.ListN.{get_or}
 use Rattle.std.proofs.lemmas.Grind.{common_steps}
 use Rattle.std.specs.List.{AllByRecursion}
@@ -19,13 +19,13 @@ use Rattle.cxx_tree.specs.declared.node.Parts as handles
 use Rattle.cxx_tree.specs.declared.node.Node.{Node}
 use Rattle.cxx_tree.specs.declared.bind.Binding as given
 use Rattle.cxx_tree.specs.Tree.{Tree, Trees, Parts, named, leaf, std_name, phrase, scoped, with_args, abi_tag, in_module, data_name, objc_protocol, listed, expansion, param, type_param, non_type_param, template_param, pack_param, qualified, pointer, reference, member_pointer, array, function, encoding, pack, no_trees, more_trees, no_parts, text, tree, trees}
-use Rattle.cxx_tree.specs.Measure.{Measure, measure, measure_each, measure_parts, part_measure, nothing, join, join_as, counted, repeated, count, within}
-use Rattle.cxx_tree.specs.Stored.{Held, Store, text_at, forest, size, tree_of, tree_at, trees_at, trees_from_list, trees_in, list_at, option_at, parts_of, parts_at, parts_in, IsBelow, IsRange, IsListBelow, IsPartBelow, IsPartsBelow, IsOptionBelow}
+use Rattle.cxx_tree.specs.Measure.{Measure, measure, measure_each, measure_parts, part_measure, nothing, join_as, counted}
+use Rattle.cxx_tree.specs.Stored.{Held, Store, text_at, forest, size, tree_at, trees_at, trees_in, list_at, option_at, parts_of, parts_at, parts_in, IsRange, IsListBelow, IsPartBelow, IsPartsBelow, IsOptionBelow}
 use Rattle.cxx_tree.specs.Grows.{Grows, Makes}
 use Rattle.cxx_tree.specs.declared.arena.PushError.{PushError}
 use Rattle.cxx_tree.specs.declared.arena.PushError.TheVariants.{Memory, Limit}
 use Rattle.cxx_tree.proofs.Grown.{Grows-trans, Makes-after, Makes-refused, Makes-limit, Grows-same, Extends-same, trees_at-grows, below-grows}
-use Rattle.cxx_tree.proofs.Forest.{Agree, trees_at-same, option_at-same, parts_of-same, parts_of-more, trees_in-more, parts_in-more, IsListBelow-more, IsPartsBelow-more, IsPartBelow-more, all_parts-more, list_at-more, parts_at-more}
+use Rattle.cxx_tree.proofs.Forest.{trees_at-same, option_at-same, parts_of-same, parts_of-more, trees_in-more, parts_in-more, IsListBelow-more, IsPartsBelow-more, IsPartBelow-more, all_parts-more}
 use Rattle.cxx_tree.specs.Bind.{Binding, bind, bind_each, bind_parts, binding_at, AreNamed, bound_at, bound_list, bound_parts, part_at, bound, has_name, other}
 
 -- what isn't within the limits makes the whole so
@@ -76,6 +76,7 @@ params-part Folded m = refl
 
 mutual
   unfolding measure bind
+
   pub bind-none : (b : Binding) (t : Tree) → (measure t).params ≡ 0 → bind b t ≡ t
   bind-none b (named bytes) e = refl
   bind-none b (leaf simple x y) e = refl

@@ -147,12 +147,7 @@ fn param_of(node: Node) -> Option<(u64, u64)>
 
 /// Makes the tree of a node with its template parameters replaced. A node without any stays.
 #[cycle(binding)]
-pub fn bind(
-    arena: &mut Arena,
-    alloc: Global,
-    binding: &Binding,
-    i: u32,
-) -> Result<u32, PushError>
+pub fn bind(arena: &mut Arena, alloc: Global, binding: &Binding, i: u32) -> Result<u32, PushError>
     requires within { i < size arena.old }
     requires named { AreNamed arena.old binding.now }
     ensures makes { Makes result arena.old arena.new (bound_at arena.old binding.now i) }
@@ -480,7 +475,9 @@ fn bind_plain(
         (measure (spec.bind (binding_at arena.old binding.now) (plain_at arena.old plain))).fits ≡ false }
 {
     match plain {
-        Plain::Name(_) | Plain::Leaf(_, _, _) | Plain::StdName(_, _) | Plain::Param(_, _) => Ok(plain),
+        Plain::Name(_) | Plain::Leaf(_, _, _) | Plain::StdName(_, _) | Plain::Param(_, _) => Ok(
+            plain,
+        ),
         Plain::Phrase(attributes, parts) => {
             let parts = tri!(bind_parts(arena, alloc, binding, i, parts));
             Ok(Plain::Phrase(attributes, parts))
@@ -550,7 +547,15 @@ fn bind_declaration(
             Ok(Declaration::NonTypeParam(name, t))
         }
         Declaration::TemplateParam(name, declarations, rest) => {
-            let (name, declarations, rest) = tri!(bind_three(arena, alloc, binding, i, name, declarations, rest));
+            let (name, declarations, rest) = tri!(bind_three(
+                arena,
+                alloc,
+                binding,
+                i,
+                name,
+                declarations,
+                rest
+            ));
             Ok(Declaration::TemplateParam(name, declarations, rest))
         }
         Declaration::PackParam(d) => {
@@ -607,15 +612,21 @@ fn bind_node(
             Ok(Node::MemberPointer(class, member))
         }
         Node::Array(element, dimension) => {
-            let (element, dimension) = tri!(bind_with_parts(arena, alloc, binding, i, element, dimension));
+            let (element, dimension) = tri!(bind_with_parts(
+                arena, alloc, binding, i, element, dimension
+            ));
             Ok(Node::Array(element, dimension))
         }
         Node::Function(ret, params, cv, ref_qual, exception) => {
-            let (ret, params, exception) = tri!(bind_three(arena, alloc, binding, i, ret, params, exception));
+            let (ret, params, exception) = tri!(bind_three(
+                arena, alloc, binding, i, ret, params, exception
+            ));
             Ok(Node::Function(ret, params, cv, ref_qual, exception))
         }
         Node::Encoding(ret, name, params, cv, ref_qual, rest) => {
-            let (ret, name, params, rest) = tri!(bind_four(arena, alloc, binding, i, ret, name, params, rest));
+            let (ret, name, params, rest) = tri!(bind_four(
+                arena, alloc, binding, i, ret, name, params, rest
+            ));
             Ok(Node::Encoding(ret, name, params, cv, ref_qual, rest))
         }
         Node::Pack(items) => {

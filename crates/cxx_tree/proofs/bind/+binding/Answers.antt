@@ -1,15 +1,13 @@
-use Rattle.std.proofs.Common.{ℕ, ◌≡◌, ◌+◌, ◌-◌, ◌<◌, ◌≤◌, ◌&&◌, Bool, false, List, [], ◌∷◌, ◌++◌, ◌∙◌, sym, subst, length, ap, arith, rules, drop, refl, Option, Some, None}
+use Rattle.std.proofs.Common.{ℕ, ◌≡◌, ◌<◌, false, List, ◌∙◌, sym, subst, length, ap, arith, rules, refl}
 use Rattle.std.proofs.Math.ListN.{get_or}
 use Rattle.std.specs.List.{AllByRecursion}
-use Rattle.cxx_tree.specs.declared.node.Node.{Node}
 use Rattle.cxx_tree.specs.declared.node.Part.{Part}
-use Rattle.cxx_tree.specs.Grows.{Grows, Makes}
 use Rattle.cxx_tree.specs.Tree.{Tree, Trees, Parts}
 use Rattle.cxx_tree.specs.Measure.{measure, measure_each, measure_parts}
-use Rattle.cxx_tree.specs.Stored.{Store, Held, forest, size, tree_at, trees_at, trees_in, parts_in, parts_of, option_at, tree_of, plain_tree, IsPartBelow}
-use Rattle.cxx_tree.specs.Bind.{Binding, bind, bind_each, bind_parts, bound, binding_at, bound_at, bound_list, bound_parts, bound_option, node_at, part_at}
+use Rattle.cxx_tree.specs.Stored.{forest, size, tree_at, trees_at, parts_of, tree_of, plain_tree, IsPartBelow}
+use Rattle.cxx_tree.specs.Bind.{bind, bind_each, bind_parts, bound, binding_at, bound_at, node_at}
 use Rattle.cxx_tree.proofs.Grown.{Makes-node, Grows-same, Grows-trans, below-grows}
-use Rattle.cxx_tree.proofs.Replaced.{stays, Makes-err, Makes-grows, Makes-below, Makes-tree, Makes-unfit, few-pushed, some-params, limit_second, limit_of, tree-after, list-after, parts-after, option_at-grows, trees_in-grows, parts_in-grows, AreNamed-grows, all-push, each-unfit, Listed, listed_below, list-few, list-bound, list-end, list-below, parts-unfit, Parted, parted_below, part-after, parts-few, parts-bound, parts-end, parts-below, all_parts-grows, IsPartBelow-grows, limit_third, IsListBelow-grows, IsPartsBelow-grows, list_below-grows, three_same, joined_trees, joined_parts}
+use Rattle.cxx_tree.proofs.Replaced.{stays, Makes-err, Makes-grows, Makes-below, Makes-tree, Makes-unfit, few-pushed, some-params, limit_second, limit_of, tree-after, list-after, parts-after, option_at-grows, trees_in-grows, AreNamed-grows, all-push, each-unfit, Listed, listed_below, list-few, list-bound, list-end, list-below, parts-unfit, Parted, parted_below, part-after, parts-few, parts-bound, parts-end, parts-below, all_parts-grows, IsPartBelow-grows, limit_third, IsListBelow-grows, IsPartsBelow-grows, list_below-grows, three_same, joined_trees, joined_parts}
 use Rattle.cxx_tree.proofs.bind.+binding.Goals as goal
 
 pub bind-returns-then-measure-eq0-clause-makes : goal.bind-returns-then-measure-eq0-clause-makes
@@ -169,8 +167,7 @@ pub bind_four-returns-clause-bound : goal.bind_four-returns-clause-bound
 bind_four-returns-clause-bound t c =
     let one = tree-after c.args.arena.now c.bind_option.new.arena c.args.binding.now c.args.a (c.in-Ok.ensures {u = tt}).grows c.requires.named (omega arith) in
     let two = list-after c.args.arena.now c.bind_option.new.arena c.args.binding.now c.args.i c.args.list (c.in-Ok.ensures {u = tt}).grows c.requires.named c.requires.within c.requires.below.2 in
-    let three = parts-after c.args.arena.now c.bind_option.new.arena c.args.binding.now c.args.i c.args.parts (c.in-Ok.ensures {u = tt}).grows c.requires.named c.requires.within c.requires.below.3 in
-    (
+    let three = parts-after c.args.arena.now c.bind_option.new.arena c.args.binding.now c.args.i c.args.parts (c.in-Ok.ensures {u = tt}).grows c.requires.named c.requires.within c.requires.below.3 in (
       option_at-grows c.bind_option.new.arena c.bind_three.new.arena (c.in-Ok-bind_three.ensures {u = tt}).grows c.in-Ok.value (c.in-Ok.ensures {u = tt}).below ∙ (c.in-Ok.ensures {u = tt}).bound,
       (c.in-Ok-bind_three.ensures {u = tt}).bound.0 ∙ one.1,
       (c.in-Ok-bind_three.ensures {u = tt}).bound.1 ∙ two.1,
@@ -223,7 +220,7 @@ bind_list-returns-in-Err-clause-limit t c =
     let same = tree-after c.args.arena.now c.loop-t.arena c.args.binding.now (get_or c.deref-t-items.result.now c.loop-t.t-index 0) c.loop-t.invariant.grows c.requires.named (omega (arith, low, c.requires.within)) in
     limit_of _ _ c.in-Err.error _ _ (c.in-Err.ensures {u = tt}).limit
     (λ f. subst (λ (js : List ℕ). (measure_each (bind_each (binding_at c.args.arena.now c.args.binding.now) (trees_at (forest c.args.arena.now) js))).fits ≡ false) is.same
-        (each-unfit (binding_at c.args.arena.now c.args.binding.now) (forest c.args.arena.now) c.deref-t-items.result.now c.loop-t.t-index 0 c.loop-t-test.true (ap (λ (u : Tree). (measure u).fits) (sym same.1) ∙ f)))
+    (each-unfit (binding_at c.args.arena.now c.args.binding.now) (forest c.args.arena.now) c.deref-t-items.result.now c.loop-t.t-index 0 c.loop-t-test.true (ap (λ (u : Tree). (measure u).fits) (sym same.1) ∙ f)))
 
 pub bind_list-returns-in_err-list-clause-few : goal.bind_list-returns-in_err-list-clause-few
 bind_list-returns-in_err-list-clause-few t c =
@@ -297,7 +294,7 @@ bind_parts-returns-in-Err-clause-limit t c =
     λ q reversed.
     limit_of _ _ c.in-Err.error _ _ (λ r. (c.in-Err.ensures {u = tt}).limit r reversed)
     (λ f. subst (λ (js : List Part). (measure_parts reversed (bind_parts (binding_at c.args.arena.now c.args.binding.now) (parts_of c.args.arena.now.held (forest c.args.arena.now) js))).fits ≡ false) is.same
-        (parts-unfit (binding_at c.args.arena.now c.args.binding.now) c.args.arena.now.held (forest c.args.arena.now) reversed c.deref-part-items.result.now c.loop-part.part-index _ c.loop-part-test.true (ap (λ (u : Parts). (measure_parts reversed u).fits) (sym same.1) ∙ f))) q
+    (parts-unfit (binding_at c.args.arena.now c.args.binding.now) c.args.arena.now.held (forest c.args.arena.now) reversed c.deref-part-items.result.now c.loop-part.part-index _ c.loop-part-test.true (ap (λ (u : Parts). (measure_parts reversed u).fits) (sym same.1) ∙ f))) q
 
 pub bind_parts-returns-in_err-parts-clause-few : goal.bind_parts-returns-in_err-parts-clause-few
 bind_parts-returns-in_err-parts-clause-few t c =
@@ -325,39 +322,78 @@ bind_parts-returns-clause-bound t c =
     record { within = c.requires.within; below = c.requires.below; same = c.deref-part-items.ensures.value ∙ (c.in_ok-old.ensures {u = tt}).items ∙ c.parts_of.ensures.value } in
     parts-end c.args.arena.now c.loop-part.arena c.parts.new.self c.args.binding.now c.args.i c.args.parts c.in_ok-parts.field-0 c.deref-part-items.result.now c.loop-part.items.items c.loop-part.part-index is c.loop-part-test.false c.loop-part.invariant.below c.loop-part.invariant.bound c.parts.ensures.grows ((c.in_ok-parts.ensures {u = tt}).list ∙ c.deref.ensures.value)
 
-pub bind_with_list-bind_list-requires-clause-below : goal.bind_with_list-bind_list-requires-clause-below
-bind_with_list-bind_list-requires-clause-below t c =
-    IsListBelow-grows c.args.arena.now c.bind.new.arena c.args.i c.args.list (c.in-Ok.ensures {u = tt}).grows c.requires.below.1
-
-pub bind_with_parts-bind_parts-requires-clause-below : goal.bind_with_parts-bind_parts-requires-clause-below
-bind_with_parts-bind_parts-requires-clause-below t c =
-    IsPartsBelow-grows c.args.arena.now c.bind.new.arena c.args.i c.args.parts (c.in-Ok.ensures {u = tt}).grows c.requires.below.1
-
-pub bind_three-bind_parts-requires-clause-below : goal.bind_three-bind_parts-requires-clause-below
-bind_three-bind_parts-requires-clause-below t c =
-    IsPartsBelow-grows c.args.arena.now c.bind_with_list.new.arena c.args.i c.args.parts (c.in-Ok.ensures {u = tt}).grows c.requires.below.2
-
-pub bind_four-bind_three-requires-clause-below : goal.bind_four-bind_three-requires-clause-below
-bind_four-bind_three-requires-clause-below t c =
+pub bind_with_list-bind_list-requires : goal.bind_with_list-bind_list-requires
+bind_with_list-bind_list-requires t c = (
+  search rules,
+  (
+    omega (arith, c.requires.within, (c.in-Ok.ensures {u = tt}).grows.longer),
     (
-      c.requires.below.1,
-      IsListBelow-grows c.args.arena.now c.bind_option.new.arena c.args.i c.args.list (c.in-Ok.ensures {u = tt}).grows c.requires.below.2,
-      IsPartsBelow-grows c.args.arena.now c.bind_option.new.arena c.args.i c.args.parts (c.in-Ok.ensures {u = tt}).grows c.requires.below.3,
-    )
+      AreNamed-grows c.args.arena.now c.bind.new.arena c.args.binding.now (c.in-Ok.ensures {u = tt}).grows c.requires.named,
+      IsListBelow-grows c.args.arena.now c.bind.new.arena c.args.i c.args.list (c.in-Ok.ensures {u = tt}).grows c.requires.below.1,
+    ),
+  ),
+)
+
+pub bind_with_parts-bind_parts-requires : goal.bind_with_parts-bind_parts-requires
+bind_with_parts-bind_parts-requires t c = (
+  search rules,
+  (
+    omega (arith, c.requires.within, (c.in-Ok.ensures {u = tt}).grows.longer),
+    (
+      AreNamed-grows c.args.arena.now c.bind.new.arena c.args.binding.now (c.in-Ok.ensures {u = tt}).grows c.requires.named,
+      IsPartsBelow-grows c.args.arena.now c.bind.new.arena c.args.i c.args.parts (c.in-Ok.ensures {u = tt}).grows c.requires.below.1,
+    ),
+  ),
+)
+
+pub bind_three-bind_parts-requires : goal.bind_three-bind_parts-requires
+bind_three-bind_parts-requires t c = (
+  search rules,
+  (
+    omega (arith, c.requires.within, (c.in-Ok.ensures {u = tt}).grows.longer),
+    (
+      AreNamed-grows c.args.arena.now c.bind_with_list.new.arena c.args.binding.now (c.in-Ok.ensures {u = tt}).grows c.requires.named,
+      IsPartsBelow-grows c.args.arena.now c.bind_with_list.new.arena c.args.i c.args.parts (c.in-Ok.ensures {u = tt}).grows c.requires.below.2,
+    ),
+  ),
+)
+
+pub bind_four-bind_three-requires : goal.bind_four-bind_three-requires
+bind_four-bind_three-requires t c = (
+  search rules,
+  (
+    omega (arith, c.requires.within, (c.in-Ok.ensures {u = tt}).grows.longer),
+    (
+      AreNamed-grows c.args.arena.now c.bind_option.new.arena c.args.binding.now (c.in-Ok.ensures {u = tt}).grows c.requires.named,
+      (
+        c.requires.below.1,
+        IsListBelow-grows c.args.arena.now c.bind_option.new.arena c.args.i c.args.list (c.in-Ok.ensures {u = tt}).grows c.requires.below.2,
+        IsPartsBelow-grows c.args.arena.now c.bind_option.new.arena c.args.i c.args.parts (c.in-Ok.ensures {u = tt}).grows c.requires.below.3,
+      ),
+    ),
+  ),
+)
 
 pub bind_three-returns-clause-below : goal.bind_three-returns-clause-below
-bind_three-returns-clause-below t c =
-    (
-      omega (arith, (c.in-Ok.ensures {u = tt}).below.0, (c.in-Ok-bind_parts.ensures {u = tt}).grows.longer),
-      list_below-grows c.bind_with_list.new.arena c.bind_parts.new.arena c.in-Ok.value.1 (c.in-Ok-bind_parts.ensures {u = tt}).grows (c.in-Ok.ensures {u = tt}).below.1,
-      (c.in-Ok-bind_parts.ensures {u = tt}).below,
-    )
+bind_three-returns-clause-below t c = (
+  omega (arith, (c.in-Ok.ensures {u = tt}).below.0, (c.in-Ok-bind_parts.ensures {u = tt}).grows.longer),
+  list_below-grows c.bind_with_list.new.arena c.bind_parts.new.arena c.in-Ok.value.1 (c.in-Ok-bind_parts.ensures {u = tt}).grows (c.in-Ok.ensures {u = tt}).below.1,
+  (c.in-Ok-bind_parts.ensures {u = tt}).below,
+)
 
-pub bind_parts-bind_part-requires-clause-below : goal.bind_parts-bind_part-requires-clause-below
-bind_parts-bind_part-requires-clause-below t c =
+pub bind_parts-bind_part-requires : goal.bind_parts-bind_part-requires
+bind_parts-bind_part-requires t c =
     let is : Parted c.args.arena.now c.args.i c.args.parts c.deref-part-items.result.now =
-    record { within = c.requires.within; below = c.requires.below; same = c.deref-part-items.ensures.value ∙ (c.in_ok-old.ensures {u = tt}).items ∙ c.parts_of.ensures.value } in
-    IsPartBelow-grows c.args.arena.now c.loop-part.arena c.args.i (get_or c.deref-part-items.result.now c.loop-part.part-index _) c.loop-part.invariant.grows (parted_below c.args.arena.now c.args.i c.args.parts c.deref-part-items.result.now c.loop-part.part-index _ is c.loop-part-test.true)
+    record { within = c.requires.within; below = c.requires.below; same = c.deref-part-items.ensures.value ∙ (c.in_ok-old.ensures {u = tt}).items ∙ c.parts_of.ensures.value } in (
+      search rules,
+      (
+        omega (arith, c.requires.within, c.loop-part.invariant.grows.longer),
+        (
+          AreNamed-grows c.args.arena.now c.loop-part.arena c.args.binding.now c.loop-part.invariant.grows c.requires.named,
+          IsPartBelow-grows c.args.arena.now c.loop-part.arena c.args.i (get_or c.deref-part-items.result.now c.loop-part.part-index _) c.loop-part.invariant.grows (parted_below c.args.arena.now c.args.i c.args.parts c.deref-part-items.result.now c.loop-part.part-index _ is c.loop-part-test.true),
+        ),
+      ),
+    )
 
 pub bind_list-returns-in-Err-clause-grows : goal.bind_list-returns-in-Err-clause-grows
 bind_list-returns-in-Err-clause-grows t c =

@@ -1,4 +1,4 @@
-use Rattle.std.proofs.Common.{ℕ, ◌≡◌, ◌+◌, ◌*◌, ◌<◌, ◌≤◌, drop, Bool}
+use Rattle.std.proofs.Common.{◌≡◌, ◌+◌, ◌*◌, ◌<◌, ◌≤◌, drop, Bool}
 use Rattle.std.specs.List.{AllByRecursion}
 use Rattle.cxx_tree.specs.Measure.{measure_each, measure_parts}
 use Rattle.cxx_tree.specs.Stored.{forest, size, trees_at, parts_of, IsPartBelow}

@@ -1,6 +1,6 @@
-use Rattle.std.proofs.Common.{ℕ, ◌≡◌, refl, arith}
+use Rattle.std.proofs.Common.{refl}
 use Rattle.std.proofs.Math.ListN.{get_or}
-use Rattle.cxx_tree.specs.Stored.{forest, size}
+use Rattle.cxx_tree.specs.Stored.{size}
 use Rattle.cxx_tree.specs.Bind.{bound, binding_at}
 use Rattle.cxx_tree.proofs.Grown.{Makes-node, Grows-same}
 use Rattle.cxx_tree.proofs.Measured.{in-list}
