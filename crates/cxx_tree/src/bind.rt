@@ -1,4 +1,4 @@
-//! Replaces template parameters when their binder is complete (Itanium C++ ABI 5.1.5).
+//! Replaces template parameters when their binder is complete.
 #![tactic(auto, using(crate::proofs::Replaced::binding), unfolding(crate::specs::Stored::tree_of, crate::specs::Stored::plain_tree, crate::specs::Stored::declaration_tree, crate::specs::Stored::IsBelow, crate::specs::Stored::IsPlainBelow, crate::specs::Stored::IsDeclarationBelow, crate::specs::Measure::measure, crate::specs::Bind::bind))]
 
 ghost use Rattle.std.specs.Prelude.{◌≡◌, ℕ, ◌+◌, ◌-◌, ◌<◌, ◌≤◌, ◌&&◌, [], ◌∷◌, ◌++◌, length, codes, decimal, false, IfOk, OnOk, IsErrOf, MatchOption, Bool};

@@ -60,10 +60,12 @@ invariant-bind_list-loop-t l = record {
 abbrev pub invariant-bind_parts-loop-part : goal.invariant-bind_parts-loop-part
 invariant-bind_parts-loop-part l = record {
   grows : Grows l.fn.arena l.arena;
-  few : (reversed : Bool) → size l.arena + (measure_parts reversed (parts_of l.fn.arena.held (forest l.fn.arena) (drop l.part-index l.part-items))).params
+  few : (reversed : Bool) → size l.arena
+      + (measure_parts reversed (parts_of l.fn.arena.held (forest l.fn.arena) (drop l.part-index l.part-items))).params
       ≤ size l.fn.arena + (measure_parts reversed (parts_of l.fn.arena.held (forest l.fn.arena) l.part-items)).params;
   below : AllByRecursion (IsPartBelow l.arena.held (size l.arena)) l.items.items;
   bound : joined_parts (parts_of l.arena.held (forest l.arena) l.items.items)
-      (bind_parts (binding_at l.fn.arena l.binding) (parts_of l.fn.arena.held (forest l.fn.arena) (drop l.part-index l.part-items)))
+      (bind_parts (binding_at l.fn.arena l.binding)
+      (parts_of l.fn.arena.held (forest l.fn.arena) (drop l.part-index l.part-items)))
       ≡ bind_parts (binding_at l.fn.arena l.binding) (parts_of l.fn.arena.held (forest l.fn.arena) l.part-items);
 }

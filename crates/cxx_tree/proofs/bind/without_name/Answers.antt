@@ -16,7 +16,8 @@ returns-in-Keep-clause-makes c =
 pub returns-then-level-binding-clause-makes : goal.returns-then-level-binding-clause-makes
 returns-then-level-binding-clause-makes c =
     let a = c.args.arena.now in
-    let no : nat_le c.args.binding.now.level c.args.level ≡ false = grind (arith, common_steps, c.if-level-binding.true) in
+    let no : nat_le c.args.binding.now.level c.args.level ≡ false =
+    grind (arith, common_steps, c.if-level-binding.true) in
     let kept = ap (λ (q : Bool). if q then auto_param c.args.index else param c.args.level c.args.index) (sym no) in
     let same = ap (λ (r : Rest). other r c.args.binding.now.level c.args.level c.args.index) (sym c.in-Auto.is) in
     Makes-node a a _ c.args.i c.requires.within (c.requires.param ∙ kept ∙ same) (Grows-same a a refl)
