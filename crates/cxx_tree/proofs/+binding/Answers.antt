@@ -8,40 +8,40 @@ use Rattle.cxx_tree.specs.Stored.{forest, size, tree_at, trees_at, parts_of, tre
 use Rattle.cxx_tree.specs.Bind.{bind, bind_each, bind_parts, bound, binding_at, bound_at, node_at}
 use Rattle.cxx_tree.proofs.Grown.{Makes-node, Grows-same, Grows-trans, below-grows}
 use Rattle.cxx_tree.proofs.Replaced.{stays, Makes-err, Makes-grows, Makes-below, Makes-tree, Makes-unfit, few-pushed, some-params, limit_second, limit_of, tree-after, list-after, parts-after, option_at-grows, trees_in-grows, AreNamed-grows, all-push, each-unfit, Listed, listed_below, list-few, list-bound, list-end, list-below, parts-unfit, Parted, parted_below, part-after, parts-few, parts-bound, parts-end, parts-below, all_parts-grows, IsPartBelow-grows, limit_third, IsListBelow-grows, IsPartsBelow-grows, list_below-grows, three_same, joined_trees, joined_parts}
-use Rattle.cxx_tree.proofs.bind.+binding.Goals as goal
+use Rattle.cxx_tree.proofs.+binding.Goals as goal
 
-pub bind-returns-then-measure-eq0-clause-makes : goal.bind-returns-then-measure-eq0-clause-makes
-bind-returns-then-measure-eq0-clause-makes t c =
+pub bind::bind-returns-then-measure-eq0-clause-makes : goal.bind::bind-returns-then-measure-eq0-clause-makes
+bind::bind-returns-then-measure-eq0-clause-makes t c =
     let a = c.args.arena.now in
     let same =
     stays c.measure.result (binding_at a c.args.binding.now) (tree_at (forest a) c.args.i) c.measure.ensures.counts
     c.if-measure-eq0.true in
     Makes-node a a (bound_at a c.args.binding.now c.args.i) c.args.i c.requires.within same (Grows-same a a refl)
 
-pub bind-returns-then-measure-eq0-clause-bound : goal.bind-returns-then-measure-eq0-clause-bound
-bind-returns-then-measure-eq0-clause-bound t c =
+pub bind::bind-returns-then-measure-eq0-clause-bound : goal.bind::bind-returns-then-measure-eq0-clause-bound
+bind::bind-returns-then-measure-eq0-clause-bound t c =
     stays c.measure.result (binding_at c.args.arena.now c.args.binding.now)
     (tree_at (forest c.args.arena.now) c.args.i) c.measure.ensures.counts c.if-measure-eq0.true
 
-pub bind-returns-in-Err-clause-makes : goal.bind-returns-in-Err-clause-makes
-bind-returns-in-Err-clause-makes t c =
+pub bind::bind-returns-in-Err-clause-makes : goal.bind::bind-returns-in-Err-clause-makes
+bind::bind-returns-in-Err-clause-makes t c =
     let a = c.args.arena.now in
     Makes-err c.in-Err.error a c.bind_node.new.arena
     (bind (binding_at a c.args.binding.now) (node_at a c.node-node.result)) (bound_at a c.args.binding.now c.args.i)
     (c.in-Err.ensures {u = tt}).grows (c.in-Err.ensures {u = tt}).limit
     (ap (bind (binding_at a c.args.binding.now)) (sym c.node-node.ensures.tree))
 
-pub bind-returns-in-Some-clause-grows : goal.bind-returns-in-Some-clause-grows
-bind-returns-in-Some-clause-grows t c =
+pub bind::bind-returns-in-Some-clause-grows : goal.bind::bind-returns-in-Some-clause-grows
+bind::bind-returns-in-Some-clause-grows t c =
     Makes-grows _ _ _ _ c.replaced.ensures.makes
 
-pub bind-returns-in-Some-clause-below : goal.bind-returns-in-Some-clause-below
-bind-returns-in-Some-clause-below t c =
+pub bind::bind-returns-in-Some-clause-below : goal.bind::bind-returns-in-Some-clause-below
+bind::bind-returns-in-Some-clause-below t c =
     Makes-below _ _ _ _ c.replaced.ensures.makes
 
-pub bind-returns-in-Some-clause-bound : goal.bind-returns-in-Some-clause-bound
+pub bind::bind-returns-in-Some-clause-bound : goal.bind::bind-returns-in-Some-clause-bound
 unfolding bind tree_of plain_tree
-bind-returns-in-Some-clause-bound t c =
+bind::bind-returns-in-Some-clause-bound t c =
     let a = c.args.arena.now in
     let is : tree_at (forest a) c.args.i ≡ tree_of a.held (forest a) c.node-node.result = c.node-node.ensures.tree in
     let e : bound (binding_at a c.args.binding.now) c.in-Some.level c.in-Some.index
@@ -50,9 +50,9 @@ bind-returns-in-Some-clause-bound t c =
     (is ∙ ap (tree_of a.held (forest a)) (c.in-Some.ensures {u = tt}).value)) in
     Makes-tree _ _ _ _ _ c.replaced.ensures.makes e
 
-pub bind-returns-in-Some-clause-limit : goal.bind-returns-in-Some-clause-limit
+pub bind::bind-returns-in-Some-clause-limit : goal.bind::bind-returns-in-Some-clause-limit
 unfolding bind tree_of plain_tree
-bind-returns-in-Some-clause-limit t c =
+bind::bind-returns-in-Some-clause-limit t c =
     let a = c.args.arena.now in
     let is : tree_at (forest a) c.args.i ≡ tree_of a.held (forest a) c.node-node.result = c.node-node.ensures.tree in
     let e : bound (binding_at a c.args.binding.now) c.in-Some.level c.in-Some.index
@@ -61,8 +61,8 @@ bind-returns-in-Some-clause-limit t c =
     (is ∙ ap (tree_of a.held (forest a)) (c.in-Some.ensures {u = tt}).value)) in
     Makes-unfit _ _ _ _ _ c.replaced.ensures.makes e
 
-pub bind-returns-in-Ok-clause-few : goal.bind-returns-in-Ok-clause-few
-bind-returns-in-Ok-clause-few t c =
+pub bind::bind-returns-in-Ok-clause-few : goal.bind::bind-returns-in-Ok-clause-few
+bind::bind-returns-in-Ok-clause-few t c =
     let a = c.args.arena.now in
     let some =
     some-params c.measure.result (measure (tree_at (forest a) c.args.i)) c.measure.ensures.counts
@@ -71,28 +71,28 @@ bind-returns-in-Ok-clause-few t c =
     let more = few-pushed c.push.result c.bind_node.new.arena c.push.new.self c.push.ensures.size c.push.ensures.err in
     omega (arith, some, same, more, (c.in-Ok.ensures {u = tt}).few)
 
-pub bind-returns-in-Ok-clause-grows : goal.bind-returns-in-Ok-clause-grows
-bind-returns-in-Ok-clause-grows t c =
+pub bind::bind-returns-in-Ok-clause-grows : goal.bind::bind-returns-in-Ok-clause-grows
+bind::bind-returns-in-Ok-clause-grows t c =
     Grows-trans c.args.arena.now c.bind_node.new.arena c.push.new.self (c.in-Ok.ensures {u = tt}).grows
     (Makes-grows _ _ _ _ c.push.ensures.makes)
 
-pub bind-returns-in-Ok-clause-bound : goal.bind-returns-in-Ok-clause-bound
-bind-returns-in-Ok-clause-bound t c =
+pub bind::bind-returns-in-Ok-clause-bound : goal.bind::bind-returns-in-Ok-clause-bound
+bind::bind-returns-in-Ok-clause-bound t c =
     let a = c.args.arena.now in
     Makes-tree _ _ _ _ _ c.push.ensures.makes
     ((c.in-Ok.ensures {u = tt}).bound
     ∙ ap (bind (binding_at a c.args.binding.now)) (sym c.node-node.ensures.tree))
 
-pub bind_pair-returns-in-Err-bind-clause-limit : goal.bind_pair-returns-in-Err-bind-clause-limit
-bind_pair-returns-in-Err-bind-clause-limit t c =
+pub children::bind_pair-returns-in-Err-bind-clause-limit : goal.children::bind_pair-returns-in-Err-bind-clause-limit
+children::bind_pair-returns-in-Err-bind-clause-limit t c =
     let same =
     tree-after c.args.arena.now c.bind.new.arena c.args.binding.now c.args.b (c.in-Ok.ensures {u = tt}).grows
     c.requires.named (omega arith) in
     limit_second _ _ c.in-Err-bind.error _ _ _ (c.in-Err-bind.ensures {u = tt}).limit
     (ap (λ (u : Tree). (measure u).fits) same.1)
 
-pub bind_pair-returns-clause-bound : goal.bind_pair-returns-clause-bound
-bind_pair-returns-clause-bound t c =
+pub children::bind_pair-returns-clause-bound : goal.children::bind_pair-returns-clause-bound
+children::bind_pair-returns-clause-bound t c =
     let same =
     tree-after c.args.arena.now c.bind.new.arena c.args.binding.now c.args.b (c.in-Ok.ensures {u = tt}).grows
     c.requires.named (omega arith) in (
@@ -101,8 +101,8 @@ bind_pair-returns-clause-bound t c =
       (c.in-Ok-bind.ensures {u = tt}).bound ∙ same.1,
     )
 
-pub bind_with_list-returns-in-Err-bind_list-clause-few : goal.bind_with_list-returns-in-Err-bind_list-clause-few
-bind_with_list-returns-in-Err-bind_list-clause-few t c =
+pub children::bind_with_list-returns-in-Err-bind_list-clause-few : goal.children::bind_with_list-returns-in-Err-bind_list-clause-few
+children::bind_with_list-returns-in-Err-bind_list-clause-few t c =
     let same =
     list-after c.args.arena.now c.bind.new.arena c.args.binding.now c.args.i c.args.list
     (c.in-Ok.ensures {u = tt}).grows c.requires.named c.requires.within c.requires.below.1 in
@@ -113,16 +113,16 @@ bind_with_list-returns-in-Err-bind_list-clause-few t c =
       (c.in-Err-bind_list.ensures {u = tt}).few,
     )
 
-pub bind_with_list-returns-in-Err-bind_list-clause-limit : goal.bind_with_list-returns-in-Err-bind_list-clause-limit
-bind_with_list-returns-in-Err-bind_list-clause-limit t c =
+pub children::bind_with_list-returns-in-Err-bind_list-clause-limit : goal.children::bind_with_list-returns-in-Err-bind_list-clause-limit
+children::bind_with_list-returns-in-Err-bind_list-clause-limit t c =
     let same =
     list-after c.args.arena.now c.bind.new.arena c.args.binding.now c.args.i c.args.list
     (c.in-Ok.ensures {u = tt}).grows c.requires.named c.requires.within c.requires.below.1 in
     limit_second _ _ c.in-Err-bind_list.error _ _ _ (c.in-Err-bind_list.ensures {u = tt}).limit
     (ap (λ (u : Trees). (measure_each u).fits) same.1)
 
-pub bind_with_list-returns-clause-few : goal.bind_with_list-returns-clause-few
-bind_with_list-returns-clause-few t c =
+pub children::bind_with_list-returns-clause-few : goal.children::bind_with_list-returns-clause-few
+children::bind_with_list-returns-clause-few t c =
     let same =
     list-after c.args.arena.now c.bind.new.arena c.args.binding.now c.args.i c.args.list
     (c.in-Ok.ensures {u = tt}).grows c.requires.named c.requires.within c.requires.below.1 in
@@ -133,8 +133,8 @@ bind_with_list-returns-clause-few t c =
       (c.in-Ok-bind_list.ensures {u = tt}).few,
     )
 
-pub bind_with_list-returns-clause-bound : goal.bind_with_list-returns-clause-bound
-bind_with_list-returns-clause-bound t c =
+pub children::bind_with_list-returns-clause-bound : goal.children::bind_with_list-returns-clause-bound
+children::bind_with_list-returns-clause-bound t c =
     let same =
     list-after c.args.arena.now c.bind.new.arena c.args.binding.now c.args.i c.args.list
     (c.in-Ok.ensures {u = tt}).grows c.requires.named c.requires.within c.requires.below.1 in (
@@ -143,8 +143,8 @@ bind_with_list-returns-clause-bound t c =
       (c.in-Ok-bind_list.ensures {u = tt}).bound ∙ same.1,
     )
 
-pub bind_with_parts-returns-in-Err-bind_parts-clause-few : goal.bind_with_parts-returns-in-Err-bind_parts-clause-few
-bind_with_parts-returns-in-Err-bind_parts-clause-few t c =
+pub children::bind_with_parts-returns-in-Err-bind_parts-clause-few : goal.children::bind_with_parts-returns-in-Err-bind_parts-clause-few
+children::bind_with_parts-returns-in-Err-bind_parts-clause-few t c =
     let same =
     parts-after c.args.arena.now c.bind.new.arena c.args.binding.now c.args.i c.args.parts
     (c.in-Ok.ensures {u = tt}).grows c.requires.named c.requires.within c.requires.below.1 in
@@ -155,16 +155,16 @@ bind_with_parts-returns-in-Err-bind_parts-clause-few t c =
       (c.in-Err-bind_parts.ensures {u = tt}).few false,
     )
 
-pub bind_with_parts-returns-in-Err-bind_parts-clause-limit : goal.bind_with_parts-returns-in-Err-bind_parts-clause-limit
-bind_with_parts-returns-in-Err-bind_parts-clause-limit t c =
+pub children::bind_with_parts-returns-in-Err-bind_parts-clause-limit : goal.children::bind_with_parts-returns-in-Err-bind_parts-clause-limit
+children::bind_with_parts-returns-in-Err-bind_parts-clause-limit t c =
     let same =
     parts-after c.args.arena.now c.bind.new.arena c.args.binding.now c.args.i c.args.parts
     (c.in-Ok.ensures {u = tt}).grows c.requires.named c.requires.within c.requires.below.1 in
     limit_second _ _ c.in-Err-bind_parts.error _ _ _ (λ q. (c.in-Err-bind_parts.ensures {u = tt}).limit q false)
     (ap (λ (u : Parts). (measure_parts false u).fits) same.1)
 
-pub bind_with_parts-returns-clause-few : goal.bind_with_parts-returns-clause-few
-bind_with_parts-returns-clause-few t c =
+pub children::bind_with_parts-returns-clause-few : goal.children::bind_with_parts-returns-clause-few
+children::bind_with_parts-returns-clause-few t c =
     let same =
     parts-after c.args.arena.now c.bind.new.arena c.args.binding.now c.args.i c.args.parts
     (c.in-Ok.ensures {u = tt}).grows c.requires.named c.requires.within c.requires.below.1 in
@@ -175,8 +175,8 @@ bind_with_parts-returns-clause-few t c =
       (c.in-Ok-bind_parts.ensures {u = tt}).few false,
     )
 
-pub bind_with_parts-returns-clause-bound : goal.bind_with_parts-returns-clause-bound
-bind_with_parts-returns-clause-bound t c =
+pub children::bind_with_parts-returns-clause-bound : goal.children::bind_with_parts-returns-clause-bound
+children::bind_with_parts-returns-clause-bound t c =
     let same =
     parts-after c.args.arena.now c.bind.new.arena c.args.binding.now c.args.i c.args.parts
     (c.in-Ok.ensures {u = tt}).grows c.requires.named c.requires.within c.requires.below.1 in (
@@ -185,8 +185,8 @@ bind_with_parts-returns-clause-bound t c =
       (c.in-Ok-bind_parts.ensures {u = tt}).bound ∙ same.1,
     )
 
-pub bind_three-returns-in-Err-bind_parts-clause-few : goal.bind_three-returns-in-Err-bind_parts-clause-few
-bind_three-returns-in-Err-bind_parts-clause-few t c =
+pub children::bind_three-returns-in-Err-bind_parts-clause-few : goal.children::bind_three-returns-in-Err-bind_parts-clause-few
+children::bind_three-returns-in-Err-bind_parts-clause-few t c =
     let same =
     parts-after c.args.arena.now c.bind_with_list.new.arena c.args.binding.now c.args.i c.args.parts
     (c.in-Ok.ensures {u = tt}).grows c.requires.named c.requires.within c.requires.below.2 in
@@ -197,16 +197,16 @@ bind_three-returns-in-Err-bind_parts-clause-few t c =
       (c.in-Err-bind_parts.ensures {u = tt}).few false,
     )
 
-pub bind_three-returns-in-Err-bind_parts-clause-limit : goal.bind_three-returns-in-Err-bind_parts-clause-limit
-bind_three-returns-in-Err-bind_parts-clause-limit t c =
+pub children::bind_three-returns-in-Err-bind_parts-clause-limit : goal.children::bind_three-returns-in-Err-bind_parts-clause-limit
+children::bind_three-returns-in-Err-bind_parts-clause-limit t c =
     let same =
     parts-after c.args.arena.now c.bind_with_list.new.arena c.args.binding.now c.args.i c.args.parts
     (c.in-Ok.ensures {u = tt}).grows c.requires.named c.requires.within c.requires.below.2 in
     limit_third _ _ c.in-Err-bind_parts.error _ _ _ _ (λ q. (c.in-Err-bind_parts.ensures {u = tt}).limit q false)
     (ap (λ (u : Parts). (measure_parts false u).fits) same.1)
 
-pub bind_three-returns-clause-few : goal.bind_three-returns-clause-few
-bind_three-returns-clause-few t c =
+pub children::bind_three-returns-clause-few : goal.children::bind_three-returns-clause-few
+children::bind_three-returns-clause-few t c =
     let same =
     parts-after c.args.arena.now c.bind_with_list.new.arena c.args.binding.now c.args.i c.args.parts
     (c.in-Ok.ensures {u = tt}).grows c.requires.named c.requires.within c.requires.below.2 in
@@ -217,8 +217,8 @@ bind_three-returns-clause-few t c =
       (c.in-Ok-bind_parts.ensures {u = tt}).few false,
     )
 
-pub bind_three-returns-clause-bound : goal.bind_three-returns-clause-bound
-bind_three-returns-clause-bound t c =
+pub children::bind_three-returns-clause-bound : goal.children::bind_three-returns-clause-bound
+children::bind_three-returns-clause-bound t c =
     let same =
     parts-after c.args.arena.now c.bind_with_list.new.arena c.args.binding.now c.args.i c.args.parts
     (c.in-Ok.ensures {u = tt}).grows c.requires.named c.requires.within c.requires.below.2 in (
@@ -229,8 +229,8 @@ bind_three-returns-clause-bound t c =
       (c.in-Ok-bind_parts.ensures {u = tt}).bound ∙ same.1,
     )
 
-pub bind_four-returns-in-Err-bind_three-clause-few : goal.bind_four-returns-in-Err-bind_three-clause-few
-bind_four-returns-in-Err-bind_three-clause-few t c =
+pub children::bind_four-returns-in-Err-bind_three-clause-few : goal.children::bind_four-returns-in-Err-bind_three-clause-few
+children::bind_four-returns-in-Err-bind_three-clause-few t c =
     let one =
     tree-after c.args.arena.now c.bind_option.new.arena c.args.binding.now c.args.a
     (c.in-Ok.ensures {u = tt}).grows c.requires.named (omega arith) in
@@ -250,8 +250,8 @@ bind_four-returns-in-Err-bind_three-clause-few t c =
       (c.in-Err-bind_three.ensures {u = tt}).few,
     )
 
-pub bind_four-returns-clause-few : goal.bind_four-returns-clause-few
-bind_four-returns-clause-few t c =
+pub children::bind_four-returns-clause-few : goal.children::bind_four-returns-clause-few
+children::bind_four-returns-clause-few t c =
     let one =
     tree-after c.args.arena.now c.bind_option.new.arena c.args.binding.now c.args.a
     (c.in-Ok.ensures {u = tt}).grows c.requires.named (omega arith) in
@@ -271,8 +271,8 @@ bind_four-returns-clause-few t c =
       (c.in-Ok-bind_three.ensures {u = tt}).few,
     )
 
-pub bind_four-returns-in-Err-bind_three-clause-limit : goal.bind_four-returns-in-Err-bind_three-clause-limit
-bind_four-returns-in-Err-bind_three-clause-limit t c =
+pub children::bind_four-returns-in-Err-bind_three-clause-limit : goal.children::bind_four-returns-in-Err-bind_three-clause-limit
+children::bind_four-returns-in-Err-bind_three-clause-limit t c =
     let one =
     tree-after c.args.arena.now c.bind_option.new.arena c.args.binding.now c.args.a
     (c.in-Ok.ensures {u = tt}).grows c.requires.named (omega arith) in
@@ -285,8 +285,8 @@ bind_four-returns-in-Err-bind_three-clause-limit t c =
     limit_second _ _ c.in-Err-bind_three.error _ _ _ (c.in-Err-bind_three.ensures {u = tt}).limit
     (three_same one.1 two.1 three.1)
 
-pub bind_four-returns-clause-bound : goal.bind_four-returns-clause-bound
-bind_four-returns-clause-bound t c =
+pub children::bind_four-returns-clause-bound : goal.children::bind_four-returns-clause-bound
+children::bind_four-returns-clause-bound t c =
     let one =
     tree-after c.args.arena.now c.bind_option.new.arena c.args.binding.now c.args.a
     (c.in-Ok.ensures {u = tt}).grows c.requires.named (omega arith) in
@@ -303,8 +303,8 @@ bind_four-returns-clause-bound t c =
       (c.in-Ok-bind_three.ensures {u = tt}).bound.2 ∙ three.1,
     )
 
-pub bind_list-loop-t-init : goal.bind_list-loop-t-init
-bind_list-loop-t-init t c =
+pub children::bind_list-loop-t-init : goal.children::bind_list-loop-t-init
+children::bind_list-loop-t-init t c =
     record {
       grows = Grows-same c.args.arena.now c.args.arena.now refl;
       few = omega arith;
@@ -315,8 +315,8 @@ bind_list-loop-t-init t c =
           (trees_at (forest c.args.arena.now) c.deref-t-items.result.now))) c.new-items.ensures.items;
     }
 
-pub bind_list-loop-t-preserved : goal.bind_list-loop-t-preserved
-bind_list-loop-t-preserved t c =
+pub children::bind_list-loop-t-preserved : goal.children::bind_list-loop-t-preserved
+children::bind_list-loop-t-preserved t c =
     let is : Listed c.args.arena.now c.args.i c.args.list c.deref-t-items.result.now =
     record {
       within = c.requires.within;
@@ -342,8 +342,8 @@ bind_list-loop-t-preserved t c =
           c.loop-t.invariant.bound made.bound ns;
     }
 
-pub bind_list-returns-in-Err-clause-few : goal.bind_list-returns-in-Err-clause-few
-bind_list-returns-in-Err-clause-few t c =
+pub children::bind_list-returns-in-Err-clause-few : goal.children::bind_list-returns-in-Err-clause-few
+children::bind_list-returns-in-Err-clause-few t c =
     let is : Listed c.args.arena.now c.args.i c.args.list c.deref-t-items.result.now =
     record {
       within = c.requires.within;
@@ -358,8 +358,8 @@ bind_list-returns-in-Err-clause-few t c =
     let all = ap (λ (js : List ℕ). (measure_each (trees_at (forest c.args.arena.now) js)).params) is.same in
     omega (arith, more, all)
 
-pub bind_list-returns-in-Err-push-clause-few : goal.bind_list-returns-in-Err-push-clause-few
-bind_list-returns-in-Err-push-clause-few t c =
+pub children::bind_list-returns-in-Err-push-clause-few : goal.children::bind_list-returns-in-Err-push-clause-few
+children::bind_list-returns-in-Err-push-clause-few t c =
     let is : Listed c.args.arena.now c.args.i c.args.list c.deref-t-items.result.now =
     record {
       within = c.requires.within;
@@ -374,8 +374,8 @@ bind_list-returns-in-Err-push-clause-few t c =
     let all = ap (λ (js : List ℕ). (measure_each (trees_at (forest c.args.arena.now) js)).params) is.same in
     omega (arith, more, all)
 
-pub bind_list-returns-in-Err-clause-limit : goal.bind_list-returns-in-Err-clause-limit
-bind_list-returns-in-Err-clause-limit t c =
+pub children::bind_list-returns-in-Err-clause-limit : goal.children::bind_list-returns-in-Err-clause-limit
+children::bind_list-returns-in-Err-clause-limit t c =
     let is : Listed c.args.arena.now c.args.i c.args.list c.deref-t-items.result.now =
     record {
       within = c.requires.within;
@@ -399,8 +399,8 @@ bind_list-returns-in-Err-clause-limit t c =
     (each-unfit (binding_at c.args.arena.now c.args.binding.now) (forest c.args.arena.now) c.deref-t-items.result.now
     c.loop-t.t-index 0 c.loop-t-test.true (ap (λ (u : Tree). (measure u).fits) (sym same.1) ∙ f)))
 
-pub bind_list-returns-in_err-list-clause-few : goal.bind_list-returns-in_err-list-clause-few
-bind_list-returns-in_err-list-clause-few t c =
+pub children::bind_list-returns-in_err-list-clause-few : goal.children::bind_list-returns-in_err-list-clause-few
+children::bind_list-returns-in_err-list-clause-few t c =
     let is : Listed c.args.arena.now c.args.i c.args.list c.deref-t-items.result.now =
     record {
       within = c.requires.within;
@@ -411,8 +411,8 @@ bind_list-returns-in_err-list-clause-few t c =
     let all = ap (λ (js : List ℕ). (measure_each (trees_at (forest c.args.arena.now) js)).params) is.same in
     omega (arith, all, c.loop-t.invariant.few, ap length c.list.ensures.nodes)
 
-pub bind_list-returns-clause-few : goal.bind_list-returns-clause-few
-bind_list-returns-clause-few t c =
+pub children::bind_list-returns-clause-few : goal.children::bind_list-returns-clause-few
+children::bind_list-returns-clause-few t c =
     let is : Listed c.args.arena.now c.args.i c.args.list c.deref-t-items.result.now =
     record {
       within = c.requires.within;
@@ -423,14 +423,14 @@ bind_list-returns-clause-few t c =
     let all = ap (λ (js : List ℕ). (measure_each (trees_at (forest c.args.arena.now) js)).params) is.same in
     omega (arith, all, c.loop-t.invariant.few, ap length c.list.ensures.nodes)
 
-pub bind_list-returns-clause-below : goal.bind_list-returns-clause-below
-bind_list-returns-clause-below t c =
+pub children::bind_list-returns-clause-below : goal.children::bind_list-returns-clause-below
+children::bind_list-returns-clause-below t c =
     list-below c.loop-t.arena c.list.new.self c.in_ok-list.field-0 c.loop-t.items.items c.loop-t.invariant.below
     (c.in_ok-list.ensures {u = tt}).within c.list.ensures.nodes
     ((c.in_ok-list.ensures {u = tt}).list ∙ c.deref.ensures.value)
 
-pub bind_list-returns-clause-bound : goal.bind_list-returns-clause-bound
-bind_list-returns-clause-bound t c =
+pub children::bind_list-returns-clause-bound : goal.children::bind_list-returns-clause-bound
+children::bind_list-returns-clause-bound t c =
     let is : Listed c.args.arena.now c.args.i c.args.list c.deref-t-items.result.now =
     record {
       within = c.requires.within;
@@ -443,8 +443,8 @@ bind_list-returns-clause-bound t c =
     c.loop-t.invariant.bound c.list.ensures.forest
     ((c.in_ok-list.ensures {u = tt}).list ∙ c.deref.ensures.value)
 
-pub bind_parts-loop-part-init : goal.bind_parts-loop-part-init
-bind_parts-loop-part-init t c =
+pub children::bind_parts-loop-part-init : goal.children::bind_parts-loop-part-init
+children::bind_parts-loop-part-init t c =
     record {
       grows = Grows-same c.args.arena.now c.args.arena.now refl;
       few = λ reversed. omega arith;
@@ -458,8 +458,8 @@ bind_parts-loop-part-init t c =
           c.new-items.ensures.items;
     }
 
-pub bind_parts-loop-part-preserved : goal.bind_parts-loop-part-preserved
-bind_parts-loop-part-preserved t c =
+pub children::bind_parts-loop-part-preserved : goal.children::bind_parts-loop-part-preserved
+children::bind_parts-loop-part-preserved t c =
     let is : Parted c.args.arena.now c.args.i c.args.parts c.deref-part-items.result.now =
     record {
       within = c.requires.within;
@@ -487,8 +487,8 @@ bind_parts-loop-part-preserved t c =
           c.loop-part.invariant.below c.loop-part.invariant.bound made.bound ns;
     }
 
-pub bind_parts-returns-in-Err-clause-few : goal.bind_parts-returns-in-Err-clause-few
-bind_parts-returns-in-Err-clause-few t c =
+pub children::bind_parts-returns-in-Err-clause-few : goal.children::bind_parts-returns-in-Err-clause-few
+children::bind_parts-returns-in-Err-clause-few t c =
     let is : Parted c.args.arena.now c.args.i c.args.parts c.deref-part-items.result.now =
     record {
       within = c.requires.within;
@@ -507,8 +507,8 @@ bind_parts-returns-in-Err-clause-few t c =
     (measure_parts reversed (parts_of c.args.arena.now.held (forest c.args.arena.now) js)).params) is.same in
     omega (arith, more, all)
 
-pub bind_parts-returns-in-Err-push-clause-few : goal.bind_parts-returns-in-Err-push-clause-few
-bind_parts-returns-in-Err-push-clause-few t c =
+pub children::bind_parts-returns-in-Err-push-clause-few : goal.children::bind_parts-returns-in-Err-push-clause-few
+children::bind_parts-returns-in-Err-push-clause-few t c =
     let is : Parted c.args.arena.now c.args.i c.args.parts c.deref-part-items.result.now =
     record {
       within = c.requires.within;
@@ -527,8 +527,8 @@ bind_parts-returns-in-Err-push-clause-few t c =
     (measure_parts reversed (parts_of c.args.arena.now.held (forest c.args.arena.now) js)).params) is.same in
     omega (arith, more, all)
 
-pub bind_parts-returns-in-Err-clause-limit : goal.bind_parts-returns-in-Err-clause-limit
-bind_parts-returns-in-Err-clause-limit t c =
+pub children::bind_parts-returns-in-Err-clause-limit : goal.children::bind_parts-returns-in-Err-clause-limit
+children::bind_parts-returns-in-Err-clause-limit t c =
     let is : Parted c.args.arena.now c.args.i c.args.parts c.deref-part-items.result.now =
     record {
       within = c.requires.within;
@@ -553,8 +553,8 @@ bind_parts-returns-in-Err-clause-limit t c =
     reversed c.deref-part-items.result.now c.loop-part.part-index _ c.loop-part-test.true
     (ap (λ (u : Parts). (measure_parts reversed u).fits) (sym same.1) ∙ f))) q
 
-pub bind_parts-returns-in_err-parts-clause-few : goal.bind_parts-returns-in_err-parts-clause-few
-bind_parts-returns-in_err-parts-clause-few t c =
+pub children::bind_parts-returns-in_err-parts-clause-few : goal.children::bind_parts-returns-in_err-parts-clause-few
+children::bind_parts-returns-in_err-parts-clause-few t c =
     let is : Parted c.args.arena.now c.args.i c.args.parts c.deref-part-items.result.now =
     record {
       within = c.requires.within;
@@ -568,8 +568,8 @@ bind_parts-returns-in_err-parts-clause-few t c =
     (measure_parts reversed (parts_of c.args.arena.now.held (forest c.args.arena.now) js)).params) is.same in
     omega (arith, all, c.loop-part.invariant.few reversed, ap length c.parts.ensures.nodes)
 
-pub bind_parts-returns-clause-few : goal.bind_parts-returns-clause-few
-bind_parts-returns-clause-few t c =
+pub children::bind_parts-returns-clause-few : goal.children::bind_parts-returns-clause-few
+children::bind_parts-returns-clause-few t c =
     let is : Parted c.args.arena.now c.args.i c.args.parts c.deref-part-items.result.now =
     record {
       within = c.requires.within;
@@ -583,14 +583,14 @@ bind_parts-returns-clause-few t c =
     (measure_parts reversed (parts_of c.args.arena.now.held (forest c.args.arena.now) js)).params) is.same in
     omega (arith, all, c.loop-part.invariant.few reversed, ap length c.parts.ensures.nodes)
 
-pub bind_parts-returns-clause-below : goal.bind_parts-returns-clause-below
-bind_parts-returns-clause-below t c =
+pub children::bind_parts-returns-clause-below : goal.children::bind_parts-returns-clause-below
+children::bind_parts-returns-clause-below t c =
     parts-below c.loop-part.arena c.parts.new.self c.in_ok-parts.field-0 c.loop-part.items.items
     c.loop-part.invariant.below (c.in_ok-parts.ensures {u = tt}).within c.parts.ensures.grows
     ((c.in_ok-parts.ensures {u = tt}).list ∙ c.deref.ensures.value)
 
-pub bind_parts-returns-clause-bound : goal.bind_parts-returns-clause-bound
-bind_parts-returns-clause-bound t c =
+pub children::bind_parts-returns-clause-bound : goal.children::bind_parts-returns-clause-bound
+children::bind_parts-returns-clause-bound t c =
     let is : Parted c.args.arena.now c.args.i c.args.parts c.deref-part-items.result.now =
     record {
       within = c.requires.within;
@@ -603,8 +603,8 @@ bind_parts-returns-clause-bound t c =
     c.loop-part-test.false c.loop-part.invariant.below c.loop-part.invariant.bound c.parts.ensures.grows
     ((c.in_ok-parts.ensures {u = tt}).list ∙ c.deref.ensures.value)
 
-pub bind_with_list-bind_list-requires : goal.bind_with_list-bind_list-requires
-bind_with_list-bind_list-requires t c = (
+pub children::bind_with_list-bind_list-requires : goal.children::bind_with_list-bind_list-requires
+children::bind_with_list-bind_list-requires t c = (
   search rules,
   (
     omega (arith, c.requires.within, (c.in-Ok.ensures {u = tt}).grows.longer),
@@ -617,8 +617,8 @@ bind_with_list-bind_list-requires t c = (
   ),
 )
 
-pub bind_with_parts-bind_parts-requires : goal.bind_with_parts-bind_parts-requires
-bind_with_parts-bind_parts-requires t c = (
+pub children::bind_with_parts-bind_parts-requires : goal.children::bind_with_parts-bind_parts-requires
+children::bind_with_parts-bind_parts-requires t c = (
   search rules,
   (
     omega (arith, c.requires.within, (c.in-Ok.ensures {u = tt}).grows.longer),
@@ -631,8 +631,8 @@ bind_with_parts-bind_parts-requires t c = (
   ),
 )
 
-pub bind_three-bind_parts-requires : goal.bind_three-bind_parts-requires
-bind_three-bind_parts-requires t c = (
+pub children::bind_three-bind_parts-requires : goal.children::bind_three-bind_parts-requires
+children::bind_three-bind_parts-requires t c = (
   search rules,
   (
     omega (arith, c.requires.within, (c.in-Ok.ensures {u = tt}).grows.longer),
@@ -645,8 +645,8 @@ bind_three-bind_parts-requires t c = (
   ),
 )
 
-pub bind_four-bind_three-requires : goal.bind_four-bind_three-requires
-bind_four-bind_three-requires t c = (
+pub children::bind_four-bind_three-requires : goal.children::bind_four-bind_three-requires
+children::bind_four-bind_three-requires t c = (
   search rules,
   (
     omega (arith, c.requires.within, (c.in-Ok.ensures {u = tt}).grows.longer),
@@ -664,16 +664,16 @@ bind_four-bind_three-requires t c = (
   ),
 )
 
-pub bind_three-returns-clause-below : goal.bind_three-returns-clause-below
-bind_three-returns-clause-below t c = (
+pub children::bind_three-returns-clause-below : goal.children::bind_three-returns-clause-below
+children::bind_three-returns-clause-below t c = (
   omega (arith, (c.in-Ok.ensures {u = tt}).below.0, (c.in-Ok-bind_parts.ensures {u = tt}).grows.longer),
   list_below-grows c.bind_with_list.new.arena c.bind_parts.new.arena c.in-Ok.value.1
       (c.in-Ok-bind_parts.ensures {u = tt}).grows (c.in-Ok.ensures {u = tt}).below.1,
   (c.in-Ok-bind_parts.ensures {u = tt}).below,
 )
 
-pub bind_parts-bind_part-requires : goal.bind_parts-bind_part-requires
-bind_parts-bind_part-requires t c =
+pub children::bind_parts-bind_part-requires : goal.children::bind_parts-bind_part-requires
+children::bind_parts-bind_part-requires t c =
     let is : Parted c.args.arena.now c.args.i c.args.parts c.deref-part-items.result.now =
     record {
       within = c.requires.within;
@@ -695,46 +695,46 @@ bind_parts-bind_part-requires t c =
       ),
     )
 
-pub bind_list-returns-in-Err-clause-grows : goal.bind_list-returns-in-Err-clause-grows
-bind_list-returns-in-Err-clause-grows t c =
+pub children::bind_list-returns-in-Err-clause-grows : goal.children::bind_list-returns-in-Err-clause-grows
+children::bind_list-returns-in-Err-clause-grows t c =
     Grows-trans c.args.arena.now c.loop-t.arena c.bind.new.arena c.loop-t.invariant.grows c.bind.ensures.grows
 
-pub bind_list-returns-in-Err-push-clause-grows : goal.bind_list-returns-in-Err-push-clause-grows
-bind_list-returns-in-Err-push-clause-grows t c =
+pub children::bind_list-returns-in-Err-push-clause-grows : goal.children::bind_list-returns-in-Err-push-clause-grows
+children::bind_list-returns-in-Err-push-clause-grows t c =
     Grows-trans c.args.arena.now c.loop-t.arena c.bind.new.arena c.loop-t.invariant.grows c.bind.ensures.grows
 
-pub bind_list-returns-in_err-list-clause-grows : goal.bind_list-returns-in_err-list-clause-grows
-bind_list-returns-in_err-list-clause-grows t c =
+pub children::bind_list-returns-in_err-list-clause-grows : goal.children::bind_list-returns-in_err-list-clause-grows
+children::bind_list-returns-in_err-list-clause-grows t c =
     Grows-trans c.args.arena.now c.loop-t.arena c.list.new.self c.loop-t.invariant.grows c.list.ensures.grows
 
-pub bind_list-returns-clause-grows : goal.bind_list-returns-clause-grows
-bind_list-returns-clause-grows t c =
+pub children::bind_list-returns-clause-grows : goal.children::bind_list-returns-clause-grows
+children::bind_list-returns-clause-grows t c =
     Grows-trans c.args.arena.now c.loop-t.arena c.list.new.self c.loop-t.invariant.grows c.list.ensures.grows
 
-pub bind_parts-returns-in-Err-clause-grows : goal.bind_parts-returns-in-Err-clause-grows
-bind_parts-returns-in-Err-clause-grows t c =
+pub children::bind_parts-returns-in-Err-clause-grows : goal.children::bind_parts-returns-in-Err-clause-grows
+children::bind_parts-returns-in-Err-clause-grows t c =
     Grows-trans c.args.arena.now c.loop-part.arena c.bind_part.new.arena c.loop-part.invariant.grows
     c.bind_part.ensures.grows
 
-pub bind_parts-returns-in-Err-push-clause-grows : goal.bind_parts-returns-in-Err-push-clause-grows
-bind_parts-returns-in-Err-push-clause-grows t c =
+pub children::bind_parts-returns-in-Err-push-clause-grows : goal.children::bind_parts-returns-in-Err-push-clause-grows
+children::bind_parts-returns-in-Err-push-clause-grows t c =
     Grows-trans c.args.arena.now c.loop-part.arena c.bind_part.new.arena c.loop-part.invariant.grows
     c.bind_part.ensures.grows
 
-pub bind_parts-returns-in_err-parts-clause-grows : goal.bind_parts-returns-in_err-parts-clause-grows
-bind_parts-returns-in_err-parts-clause-grows t c =
+pub children::bind_parts-returns-in_err-parts-clause-grows : goal.children::bind_parts-returns-in_err-parts-clause-grows
+children::bind_parts-returns-in_err-parts-clause-grows t c =
     Grows-trans c.args.arena.now c.loop-part.arena c.parts.new.self c.loop-part.invariant.grows c.parts.ensures.grows
 
-pub bind_parts-returns-clause-grows : goal.bind_parts-returns-clause-grows
-bind_parts-returns-clause-grows t c =
+pub children::bind_parts-returns-clause-grows : goal.children::bind_parts-returns-clause-grows
+children::bind_parts-returns-clause-grows t c =
     Grows-trans c.args.arena.now c.loop-part.arena c.parts.new.self c.loop-part.invariant.grows c.parts.ensures.grows
 
-pub bind_three-returns-in-Err-bind_parts-clause-grows : goal.bind_three-returns-in-Err-bind_parts-clause-grows
-bind_three-returns-in-Err-bind_parts-clause-grows t c =
+pub children::bind_three-returns-in-Err-bind_parts-clause-grows : goal.children::bind_three-returns-in-Err-bind_parts-clause-grows
+children::bind_three-returns-in-Err-bind_parts-clause-grows t c =
     Grows-trans c.args.arena.now c.bind_with_list.new.arena c.bind_parts.new.arena (c.in-Ok.ensures {u = tt}).grows
     (c.in-Err-bind_parts.ensures {u = tt}).grows
 
-pub bind_three-returns-clause-grows : goal.bind_three-returns-clause-grows
-bind_three-returns-clause-grows t c =
+pub children::bind_three-returns-clause-grows : goal.children::bind_three-returns-clause-grows
+children::bind_three-returns-clause-grows t c =
     Grows-trans c.args.arena.now c.bind_with_list.new.arena c.bind_parts.new.arena (c.in-Ok.ensures {u = tt}).grows
     (c.in-Ok-bind_parts.ensures {u = tt}).grows
