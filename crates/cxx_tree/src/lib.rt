@@ -12,7 +12,7 @@ macro_rules! tri {
 }
 
 mod arena;
-mod bind;
+pub mod bind;
 mod children;
 mod counts;
 mod digits;
@@ -21,7 +21,6 @@ mod measuring;
 mod node;
 
 pub use crate::arena::{Arena, PushError};
-pub use crate::bind::{Binding, Rest};
 pub use crate::counts::Measure;
 pub use crate::kinds::{Context, Cv, Guard, Listing, Manner, Phrase, Prec, RefQual, Role, Std};
 pub use crate::node::{Declaration, List, Node, Part, Parts, Plain, Range, Text};
