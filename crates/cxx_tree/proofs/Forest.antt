@@ -1,5 +1,5 @@
 -- The trees of nodes, as nodes and what they refer to grow.
-use Rattle.std.proofs.Common.{ℕ, ◌≡◌, ◌+◌, ◌<◌, ◌≤◌, List, [], ◌∷◌, ◌++◌, length, map, refl, sym, ap, ◌∙◌, arith, append_assoc, subst, zero, suc, length-append, Option, Some, None, slice_range}
+use Rattle.std.proofs.Common.{ℕ, ◌≡◌, ◌+◌, ◌<◌, ◌≤◌, List, [], ◌∷◌, ◌++◌, length, refl, sym, ap, ◌∙◌, arith, subst, zero, suc, length-append, Option, Some, None, slice_range}
 use Rattle.std.proofs.Math.ListN.{get_or, get_or-append}
 use Rattle.std.proofs.Math.Seq.{get_or-append_seam}
 use Rattle.std.proofs.lemmas.Grind.{common_steps}
@@ -18,7 +18,7 @@ use Rattle.cxx_tree.specs.declared.node.Declaration.{Declaration}
 use Rattle.cxx_tree.specs.declared.node.Declaration.TheVariants as declaration
 use Rattle.cxx_tree.specs.declared.node.Node.{Node}
 use Rattle.cxx_tree.specs.declared.node.Node.TheVariants as node
-use Rattle.cxx_tree.specs.Tree.{Tree, Trees, Parts, named, leaf, std_name, phrase, scoped, with_args, abi_tag, in_module, data_name, objc_protocol, listed, expansion, param, type_param, non_type_param, template_param, pack_param, qualified, pointer, reference, member_pointer, array, function, encoding, pack, no_trees, more_trees, no_parts, text, tree, trees}
+use Rattle.cxx_tree.specs.Tree.{Tree, named, phrase, with_args, abi_tag, data_name, objc_protocol, listed, expansion, pack_param, qualified, pointer, reference, array, pack, no_trees, more_trees, text, tree}
 use Rattle.cxx_tree.specs.Stored.{Held, Store, text_at, list_at, parts_at, tree_at, trees_at, trees_in, option_at, parts_of, parts_in, plain_tree, declaration_tree, tree_of, IsRange, IsText, IsListBelow, IsPartBelow, IsPartsBelow, IsOptionBelow, IsPlainBelow, IsDeclarationBelow, IsBelow, trees_from, AreStored, IsStore, forest, size, Begins, Extends}
 
 -- a node at the end
@@ -40,12 +40,12 @@ trees_from-old h ts (n ∷ ns) i b =
 abbrev pub Agree : ℕ → List Tree → List Tree → Type 0
 Agree n ts us = (i : ℕ) → i < n → tree_at ts i ≡ tree_at us i
 
-trees_at-same : (n : ℕ) (ts us : List Tree) → Agree n ts us → (is : List ℕ) → AllByRecursion (λ t. t < n) is → trees_at ts is ≡ trees_at us is
+pub trees_at-same : (n : ℕ) (ts us : List Tree) → Agree n ts us → (is : List ℕ) → AllByRecursion (λ t. t < n) is → trees_at ts is ≡ trees_at us is
 trees_at-same n ts us agree [] b = refl
 trees_at-same n ts us agree (i ∷ is) b =
     let one = agree i b.0 in let rest = trees_at-same n ts us agree is b.1 in cc
 
-option_at-same : (n : ℕ) (ts us : List Tree) → Agree n ts us → (o : Option ℕ) → IsOptionBelow n o → option_at ts o ≡ option_at us o
+pub option_at-same : (n : ℕ) (ts us : List Tree) → Agree n ts us → (o : Option ℕ) → IsOptionBelow n o → option_at ts o ≡ option_at us o
 option_at-same n ts us agree None b = refl
 option_at-same n ts us agree (Some i) b = ap (λ (t : Tree). more_trees t no_trees) (agree i b)
 
@@ -172,7 +172,7 @@ parts_of-more h g e n ts (part.Trees listing l ∷ ps) b =
     let rest = parts_of-more h g e n ts ps b.1 in
     cc
 
-trees_in-more : (h g : Held) → Extends h g → (n : ℕ) (ts : List Tree) (l : handle.List) → IsListBelow h n l → trees_in g ts l ≡ trees_in h ts l
+pub trees_in-more : (h g : Held) → Extends h g → (n : ℕ) (ts : List Tree) (l : handle.List) → IsListBelow h n l → trees_in g ts l ≡ trees_in h ts l
 trees_in-more h g e n ts l b = ap (trees_at ts) (list_at-more h g e l b.0)
 
 pub parts_in-more : (h g : Held) → Extends h g → (n : ℕ) (ts : List Tree) (ps : handles.Parts) → IsPartsBelow h n ps → parts_in g ts ps ≡ parts_in h ts ps
@@ -217,10 +217,10 @@ tree_of-more h g e n ts (node.Encoding ret name params cv ref rest) b =
     let one = trees_in-more h g e n ts params b.2 in let two = parts_in-more h g e n ts rest b.3 in cc
 tree_of-more h g e n ts (node.Pack items) b = ap pack (trees_in-more h g e n ts items b)
 
-IsRange-more : (n m : ℕ) (r : Range) → n ≤ m → IsRange n r → IsRange m r
+pub IsRange-more : (n m : ℕ) (r : Range) → n ≤ m → IsRange n r → IsRange m r
 IsRange-more n m r h b = (b.0, omega (arith, h, b.1))
 
-length-more : (A : Type 0) (xs ys : List A) → Begins A xs ys → length xs ≤ length ys
+pub length-more : (A : Type 0) (xs ys : List A) → Begins A xs ys → length xs ≤ length ys
 length-more A xs ys e = omega (arith, ap length e.1, length-append xs e.0)
 
 pub IsText-more : (h g : Held) → Extends h g → (t : Text) → IsText h t → IsText g t
@@ -242,7 +242,7 @@ IsPartBelow-more h g e n m le (part.Text x y) b = (IsText-more h g e x b.0, IsTe
 IsPartBelow-more h g e n m le (part.Tree manner t) b = omega (arith, le, b)
 IsPartBelow-more h g e n m le (part.Trees listing l) b = IsListBelow-more h g e n m le l b
 
-all_parts-more : (h g : Held) → Extends h g → (n m : ℕ) → n ≤ m → (ps : List Part) → AllByRecursion (IsPartBelow h n) ps → AllByRecursion (IsPartBelow g m) ps
+pub all_parts-more : (h g : Held) → Extends h g → (n m : ℕ) → n ≤ m → (ps : List Part) → AllByRecursion (IsPartBelow h n) ps → AllByRecursion (IsPartBelow g m) ps
 all_parts-more h g e n m le [] b = b
 all_parts-more h g e n m le (p ∷ ps) b = (IsPartBelow-more h g e n m le p b.0, all_parts-more h g e n m le ps b.1)
 

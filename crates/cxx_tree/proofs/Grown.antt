@@ -1,11 +1,10 @@
 -- How an arena grows.
-use Rattle.std.proofs.Common.{ℕ, ◌≡◌, ◌+◌, ◌<◌, ◌≤◌, List, [], ◌∷◌, ◌++◌, length, map, refl, sym, ap, ◌∙◌, arith, subst, append_assoc, Option, Some, None, false, Result, Ok, Err}
-use Rattle.std.proofs.Math.ListN.{get_or, get_or-append}
+use Rattle.std.proofs.Common.{ℕ, ◌≡◌, ◌+◌, ◌<◌, List, [], ◌∷◌, ◌++◌, length, refl, ap, ◌∙◌, arith, append_assoc, false, Result, Ok, Err}
+use Rattle.std.proofs.Math.ListN.{get_or-append}
 use Rattle.std.proofs.Math.Seq.{get_or-append_seam}
 use Rattle.std.specs.List.{AllByRecursion}
-use Rattle.std.proofs.lemmas.List.{append-nil}
-use Rattle.cxx_tree.specs.Tree.{Tree, Trees, named}
-use Rattle.cxx_tree.specs.Stored.{Held, Store, Begins, Extends, forest, size, tree_at, trees_at, option_at, IsOptionBelow}
+use Rattle.cxx_tree.specs.Tree.{Tree, named}
+use Rattle.cxx_tree.specs.Stored.{Held, Store, Begins, Extends, forest, size, tree_at, trees_at}
 use Rattle.cxx_tree.specs.Grows.{Grows, Makes}
 use Rattle.cxx_tree.specs.Measure.{measure}
 use Rattle.cxx_tree.specs.declared.arena.PushError.{PushError}

@@ -1,5 +1,6 @@
+pub mod Decimals
 pub mod Forest
-pub mod Measured
 pub mod Grown
 pub mod Making
-pub mod Decimals
+pub mod Measured
+pub mod Replaced

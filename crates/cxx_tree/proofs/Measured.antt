@@ -1,5 +1,5 @@
 -- The counts of nodes.
-use Rattle.std.proofs.Common.{ℕ, ◌≡◌, ◌+◌, ◌<◌, ◌≤◌, Bool, true, false, ◌&&◌, List, [], ◌∷◌, ◌++◌, length, drop, slice_range, ◌-◌, refl, sym, ap, ◌∙◌, arith, subst, zero, suc}
+use Rattle.std.proofs.Common.{ℕ, ◌≡◌, ◌+◌, ◌<◌, ◌≤◌, Bool, true, false, ◌&&◌, List, [], ◌∷◌, ◌++◌, length, drop, slice_range, ◌-◌, refl, sym, ap, ◌∙◌, arith, zero, suc}
 use Rattle.std.proofs.Math.ListN.{get_or}
 use Rattle.std.proofs.lemmas.Grind.{common_steps}
 use Rattle.std.proofs.lemmas.Bool.{leb-true}
@@ -11,7 +11,7 @@ use Rattle.cxx_tree.specs.declared.node.Range.{Range}
 use Rattle.cxx_tree.specs.declared.node.List as handle
 use Rattle.cxx_tree.specs.declared.node.Part.{Part}
 use Rattle.cxx_tree.specs.declared.node.Part.TheVariants as part
-use Rattle.cxx_tree.specs.Tree.{Tree, Trees, Parts}
+use Rattle.cxx_tree.specs.Tree.{Tree}
 use Rattle.cxx_tree.specs.Measure.{Measure, measure, measure_each, measure_parts, nothing, join, count, within}
 use Rattle.cxx_tree.specs.Counts.{Row, Tallied, AreExact, AreCounted, part_and}
 use Rattle.cxx_tree.specs.Stored.{Held, tree_at, trees_at, trees_in, list_at, parts_of, IsRange, IsListBelow, IsPartBelow}

@@ -1,5 +1,5 @@
 -- How an arena counts.
-use Rattle.std.specs.Prelude.{ℕ, ◌≡◌, ◌≤◌, min, Bool, true, List, [], ◌∷◌}
+use Rattle.std.specs.Prelude.{◌≡◌, ◌≤◌, min, Bool, true, List, [], ◌∷◌}
 use Rattle.cxx_tree.specs.declared.counts.Measure as stored
 use Rattle.cxx_tree.specs.Tree.{Tree}
 use Rattle.cxx_tree.specs.Measure.{Measure, measure, measure_each, part_measure, join_as, within}

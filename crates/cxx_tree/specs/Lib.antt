@@ -5,3 +5,4 @@ pub mod Counts
 pub mod Grows
 pub mod View
 pub mod Rows
+pub mod Bind

@@ -1,7 +1,19 @@
 //! Trees of demangled symbols, as nodes of an arena (Itanium C++ ABI 5.1).
 #![tactic(auto)]
 
+/// The value of a result. An error is returned as it is.
+macro_rules! tri {
+    ($result:expr) => {
+        match $result {
+            Ok(value) => value,
+            Err(error) => return Err(error),
+        }
+    };
+}
+
 mod arena;
+pub mod bind;
+mod children;
 mod counts;
 mod digits;
 mod kinds;

@@ -18,7 +18,9 @@ loop-left-preserved c =
     let l = c.loop-left in
     let some = some_digit l.left l.at (omega arith) l.invariant.fit in
     record {
-      digits = one_written c.args.number l.left l.at l.spare c.loop-left-test.true (omega arith) some l.invariant.within l.invariant.digits;
+      digits =
+          one_written c.args.number l.left l.at l.spare c.loop-left-test.true (omega arith) some l.invariant.within
+          l.invariant.digits;
       fit = one_fewer l.left l.at c.loop-left-test.true (omega arith) l.invariant.fit;
       within = omega (arith, length-set {A = ℕ});
     }
@@ -32,5 +34,6 @@ returns c =
     let all = drop (l.at - 1) (set l.spare (l.at - 1) (48 + l.left)) in
     record {
       value = take_all _ all (omega (arith, length-drop (l.at - 1) (set l.spare (l.at - 1) (48 + l.left))))
-          ∙ all_written c.args.number l.left l.at l.spare c.loop-left-test.false (some_digit l.left l.at (omega arith) l.invariant.fit) l.invariant.within l.invariant.digits;
+          ∙ all_written c.args.number l.left l.at l.spare c.loop-left-test.false
+          (some_digit l.left l.at (omega arith) l.invariant.fit) l.invariant.within l.invariant.digits;
     }

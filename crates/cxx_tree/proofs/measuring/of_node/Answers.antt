@@ -1,4 +1,4 @@
-use Rattle.std.proofs.Common.{ℕ, ◌≡◌, sym, subst}
+use Rattle.std.proofs.Common.{sym, subst}
 use Rattle.cxx_tree.specs.Measure.{measure}
 use Rattle.cxx_tree.specs.Counts.{Tallied}
 use Rattle.cxx_tree.specs.declared.node.Node.{Node}

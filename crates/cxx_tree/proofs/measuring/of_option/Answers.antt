@@ -1,4 +1,4 @@
-use Rattle.std.proofs.Common.{ℕ, ◌≡◌, Option, sym, subst}
+use Rattle.std.proofs.Common.{ℕ, Option, sym, subst}
 use Rattle.cxx_tree.specs.Measure.{measure, measure_each, nothing}
 use Rattle.cxx_tree.specs.Counts.{Row}
 use Rattle.cxx_tree.specs.Stored.{forest, option_at, tree_at}

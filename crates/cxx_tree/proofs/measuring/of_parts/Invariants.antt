@@ -1,4 +1,4 @@
-use Rattle.std.proofs.Common.{ℕ, ◌≤◌, length, drop}
+use Rattle.std.proofs.Common.{◌≤◌, length, drop}
 use Rattle.cxx_tree.specs.Measure.{measure_parts}
 use Rattle.cxx_tree.specs.Counts.{Row}
 use Rattle.cxx_tree.specs.Stored.{forest, parts_of}

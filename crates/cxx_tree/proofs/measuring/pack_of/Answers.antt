@@ -1,5 +1,5 @@
-use Rattle.std.proofs.Common.{ℕ, ◌≡◌, sym, subst}
-use Rattle.cxx_tree.specs.Measure.{measure_each, packed, count}
+use Rattle.std.proofs.Common.{ℕ, sym, subst}
+use Rattle.cxx_tree.specs.Measure.{measure_each, packed}
 use Rattle.cxx_tree.specs.Counts.{Tallied}
 use Rattle.cxx_tree.specs.Stored.{forest, size, trees_in}
 use Rattle.cxx_tree.proofs.Measured.{count-range}

@@ -1,4 +1,4 @@
-use Rattle.std.proofs.Common.{ℕ, ◌≡◌, ◌<◌, ◌∙◌, sym, subst, length, ap, arith}
+use Rattle.std.proofs.Common.{◌<◌, sym, subst, length, ap, arith}
 use Rattle.cxx_tree.specs.declared.counts.Measure as stored
 use Rattle.cxx_tree.specs.Measure.{measure}
 use Rattle.cxx_tree.specs.Counts.{Row, AreExact}

@@ -1,6 +1,6 @@
-use Rattle.std.proofs.Common.{ℕ, ◌≡◌, ◌<◌, List, [], ◌∙◌, sym, subst, length, ap, arith}
+use Rattle.std.proofs.Common.{◌≡◌, ◌<◌, [], ◌∙◌, sym, subst, length, ap, arith}
 use Rattle.cxx_tree.specs.declared.node.Node.{Node}
-use Rattle.cxx_tree.specs.Stored.{Store, Held, forest, trees_from, tree_of, tree_at, IsBelow}
+use Rattle.cxx_tree.specs.Stored.{Store, forest, trees_from, tree_of, tree_at, IsBelow}
 use Rattle.cxx_tree.specs.View.{store_of}
 use Rattle.cxx_tree.proofs.Forest.{forest-at, stored-at}
 use Rattle.cxx_tree.proofs.arena.Arena.node.Goals as goal

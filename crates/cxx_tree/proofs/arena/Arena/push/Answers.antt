@@ -1,9 +1,9 @@
-use Rattle.std.proofs.Common.{ℕ, ◌≡◌, Bool, true, List, [], ◌∷◌, ◌++◌, ◌∙◌, sym, subst, ap, refl, arith, false, ◌+◌, length, length-append}
+use Rattle.std.proofs.Common.{◌≡◌, true, List, [], ◌∷◌, ◌++◌, ◌∙◌, sym, subst, ap, refl, arith, false, ◌+◌, length, length-append}
 use Rattle.cxx_tree.specs.declared.node.Node.{Node}
 use Rattle.cxx_tree.specs.declared.counts.Measure as stored
 use Rattle.cxx_tree.specs.Tree.{Tree}
 use Rattle.cxx_tree.specs.Measure.{measure}
-use Rattle.cxx_tree.specs.Counts.{Row, Tallied, AreExact, AreCounted}
+use Rattle.cxx_tree.specs.Counts.{Tallied, AreCounted}
 use Rattle.cxx_tree.specs.Stored.{Store, Held, forest, size, tree_of, IsBelow, AreStored}
 use Rattle.cxx_tree.specs.View.{store_of}
 use Rattle.cxx_tree.proofs.Forest.{pushed-forest, stored-push}

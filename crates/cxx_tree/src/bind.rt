@@ -1,0 +1,162 @@
+//! Replaces template parameters when their binder is complete.
+#![tactic(auto, using(crate::proofs::Replaced::binding), unfolding(crate::specs::Stored::tree_of, crate::specs::Stored::plain_tree, crate::specs::Stored::declaration_tree, crate::specs::Stored::IsBelow, crate::specs::Stored::IsPlainBelow, crate::specs::Stored::IsDeclarationBelow, crate::specs::Measure::measure, crate::specs::Bind::bind))]
+
+ghost use Rattle.std.specs.Prelude.{◌≡◌, ℕ, ◌+◌, ◌-◌, ◌<◌, ◌≤◌, ◌&&◌, [], ◌∷◌, ◌++◌, length, codes, decimal, false, IfOk, OnOk, IsErrOf, MatchOption, Bool};
+ghost use Rattle.cxx_tree.specs.Measure.{measure, measure_each, measure_parts};
+ghost use Rattle.cxx_tree.specs.Grows.{Grows, Makes};
+ghost use Rattle.cxx_tree.specs.Bind as spec;
+ghost use Rattle.cxx_tree.specs.Tree.{named, param};
+ghost use Rattle.cxx_tree.specs.Bind.{AreNamed, binding_at, bound_at, bound_list, bound_parts, bound_option, part_at, plain_at, declaration_at, node_at, IsInner, IsInnerPlain};
+ghost use Rattle.cxx_tree.specs.declared.arena.PushError.TheVariants as PushError;
+ghost use Rattle.cxx_tree.specs.declared.node.Node.TheVariants as Node;
+ghost use Rattle.cxx_tree.specs.declared.node.Plain.TheVariants as Plain;
+ghost use Rattle.cxx_tree.specs.Stored.{forest, size, tree_of, plain_tree, declaration_tree, tree_at, option_at, trees_in, parts_in, parts_of, text_at, IsBelow, IsPlainBelow, IsDeclarationBelow, IsListBelow, IsPartsBelow, IsPartBelow, IsOptionBelow, IsText};
+
+use crate::arena::{Arena, PushError};
+use crate::children::bind_node;
+use crate::digits::push_number;
+use crate::node::{Node, Plain, Text};
+use std::alloc::{AllocError, Global};
+
+/// What becomes of a template parameter that has no name.
+#[derive(Clone, Copy, PartialEq)]
+pub enum Rest {
+    /// It stays.
+    Keep,
+    /// From the binder's level on, it is a parameter of a lambda that has no declaration.
+    Auto,
+    /// It is printed as it is mangled.
+    Written,
+}
+
+/// What becomes of template parameters.
+#[derive(Clone, Copy)]
+pub struct Binding<'a> {
+    /// The binder's level.
+    pub level: u64,
+    /// What the parameters of that level become, from the first on: nodes.
+    pub names: &'a [u32],
+    /// What the other parameters become.
+    pub rest: Rest,
+}
+
+// A parameter as it is mangled, without its last underscore.
+fn written(alloc: Global, level: u64, index: u64) -> Result<Vec<u8>, AllocError>
+    ensures value { IfOk result (λ v. v.items ≡ spec.written level index) }
+{
+    let mut bytes = Vec::new(alloc);
+    bytes.extend_from_slice(b"T")?;
+    if level > 0 {
+        bytes.extend_from_slice(b"L")?;
+        push_number(&mut bytes, (level - 1) as u128)?;
+        bytes.extend_from_slice(b"_")?;
+    }
+    if index > 0 {
+        push_number(&mut bytes, (index - 1) as u128)?;
+    }
+    Ok(bytes)
+}
+
+// Makes the name of a parameter as it is mangled.
+fn written_node(arena: &mut Arena, alloc: Global, level: u64, index: u64) -> Result<u32, PushError>
+    ensures makes { Makes result arena.old arena.new (named (spec.written level index)) }
+    ensures few { size arena.new ≤ size arena.old + 1 }
+{
+    let bytes = written(alloc, level, index)?;
+    let text = arena.text(&bytes)?;
+    arena.push(Node::Plain(Plain::Name(text)))
+}
+
+// Makes a parameter of a lambda that has no declaration.
+fn auto_node(arena: &mut Arena, alloc: Global, index: u64) -> Result<u32, PushError>
+    ensures makes { Makes result arena.old arena.new (spec.auto_param index) }
+    ensures few { size arena.new ≤ size arena.old + 1 }
+{
+    let mut bytes = Vec::new(alloc);
+    bytes.extend_from_slice(b"auto:")?;
+    push_number(&mut bytes, index as u128 + 1)?;
+    let text = arena.text(&bytes)?;
+    arena.push(Node::Plain(Plain::Leaf(false, Text::Fixed(b"auto"), text)))
+}
+
+// Makes what becomes of the template parameter that is node `i`, if it has no name.
+fn without_name(
+    arena: &mut Arena,
+    alloc: Global,
+    binding: &Binding,
+    i: u32,
+    level: u64,
+    index: u64,
+) -> Result<u32, PushError>
+    requires within { i < size arena.old }
+    requires param { tree_at (forest arena.old) i ≡ param level index }
+    ensures makes { Makes result arena.old arena.new (spec.other binding.now.rest binding.now.level level index) }
+    ensures few { size arena.new ≤ size arena.old + 1 }
+{
+    match binding.rest {
+        Rest::Keep => Ok(i),
+        Rest::Auto => {
+            if level < binding.level {
+                return Ok(i);
+            }
+            auto_node(arena, alloc, index)
+        }
+        Rest::Written => written_node(arena, alloc, level, index),
+    }
+}
+
+// Makes what becomes of the template parameter that is node `i`.
+fn replaced(
+    arena: &mut Arena,
+    alloc: Global,
+    binding: &Binding,
+    i: u32,
+    level: u64,
+    index: u64,
+) -> Result<u32, PushError>
+    requires within { i < size arena.old }
+    requires named { AreNamed arena.old binding.now }
+    requires param { tree_at (forest arena.old) i ≡ param level index }
+    ensures makes { Makes result arena.old arena.new (spec.bound (binding_at arena.old binding.now) level index) }
+    ensures few { size arena.new ≤ size arena.old + 1 }
+{
+    if level == binding.level && index < binding.names.len() as u64 {
+        return Ok(binding.names[index as usize]);
+    }
+    without_name(arena, alloc, binding, i, level, index)
+}
+
+// The level and the index of a template parameter. Returns nothing for another node.
+fn param_of(node: Node) -> Option<(u64, u64)>
+    ensures value { MatchOption result (IsInner node) (λ p. node ≡ Node.Plain (Plain.Param p.0 p.1)) }
+{
+    match node {
+        Node::Plain(Plain::Param(level, index)) => Some((level, index)),
+        _ => None,
+    }
+}
+
+/// Makes the tree of a node with its template parameters replaced. A node without any stays.
+#[cycle(binding)]
+pub fn bind(arena: &mut Arena, alloc: Global, binding: &Binding, i: u32) -> Result<u32, PushError>
+    requires within { i < size arena.old }
+    requires named { AreNamed arena.old binding.now }
+    ensures makes { Makes result arena.old arena.new (bound_at arena.old binding.now i) }
+    ensures few { size arena.new ≤ size arena.old + (measure (tree_at (forest arena.old) i)).params }
+    ensures grows { Grows arena.old arena.new }
+    ensures below { IfOk result (λ t. t < size arena.new) }
+    ensures bound { IfOk result (λ t. tree_at (forest arena.new) t ≡ bound_at arena.old binding.now i) }
+    ensures limit { IsErrOf result PushError.Limit → (measure (bound_at arena.old binding.now i)).fits ≡ false }
+{
+    if arena.measure(i).params == 0 {
+        return Ok(i);
+    }
+    let node = arena.node(i);
+    match param_of(node) {
+        Some((level, index)) => replaced(arena, alloc, binding, i, level, index),
+        None => {
+            let node = tri!(bind_node(arena, alloc, binding, i, node));
+            arena.push(node)
+        }
+    }
+}
