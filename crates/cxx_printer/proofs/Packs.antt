@@ -81,8 +81,6 @@ pack-past ts is us env k e f h =
     ∙ ap (λ (j : ℕ). element_of (printed_at (items_of (trees_at ts is)) j env)) (sym f)
     ∙ ap element_of (printed_at-past ts is env k h)
 
-
-
 -- what is no reference is its own base
 plain-own : (h : Held) (ts : List Tree) (p : Plain) (env : Env) → (print (plain_tree h ts p) env).base ≡ (print (plain_tree h ts p) env).text
 unfolding print plain_tree

@@ -531,8 +531,8 @@ called env ret params cv ref exception =
     (record {
       left = ret.text.left ++ function_blank env ret;
       right =
-        parens env params
-        ++ (if is_llvm env then right_behind false ret.text ++ (cv_text cv ++ (ref_text ref ++ exception.text))
+          parens env params
+          ++ (if is_llvm env then right_behind false ret.text ++ (cv_text cv ++ (ref_text ref ++ exception.text))
           else exception.text ++ (cv_text cv ++ (ref_text ref ++ right_behind false ret.text)));
       bracket = false;
       form = Callable;
@@ -552,14 +552,14 @@ abbrev pub signature_right : Env → List ℕ → List Item → Cv → RefQual �
 signature_right env ret params cv ref rest =
     parens env params
     ++ (if is_llvm env then ret ++ (cv_text cv ++ (ref_text ref ++ rest.text))
-      else cv_text cv ++ (ref_text ref ++ (ret ++ rest.text)))
+    else cv_text cv ++ (ref_text ref ++ (ret ++ rest.text)))
 
 abbrev pub named_function : Env → Bool → Item → List ℕ → Named
 named_function env address name right = record {
   scope = whole (name.printed env) ++ right;
   callee = operand env Comma true name;
   address =
-    if address then Some (record { text = whole (name.printed env); ends = (name.printed env).ends }) else None;
+      if address then Some (record { text = whole (name.printed env); ends = (name.printed env).ends }) else None;
 }
 
 abbrev pub signature : Env → Bool → List Item → Item → List Item → Cv → RefQual → Run → Printed
@@ -668,7 +668,7 @@ unfoldable mutual
   print_parts (tree manner t ps) env =
       run_of
       (part_text manner (is_designator t) (count_of t) (measure t).elements env
-        (record { prec = prec_of t; is_simple = is_simple t; printed = print t }))
+      (record { prec = prec_of t; is_simple = is_simple t; printed = print t }))
       (part_ends manner env (record { prec = prec_of t; is_simple = is_simple t; printed = print t }))
       (print_parts ps env)
   print_parts (trees listing ts ps) env =

@@ -21,11 +21,13 @@ use crate::operands::{
     count_of, is_designator, is_named_address, is_simple, is_tight, prec_of, protocol_of,
 };
 use crate::shapes::{
-    Ending, element, ending_of, ending_of_list, form_of, has_right, is_closed, is_one_sided, is_starred, referent_of,
+    Ending, element, ending_of, ending_of_list, form_of, has_right, is_closed, is_one_sided,
+    is_starred, referent_of,
 };
 use crate::words::{closed, cv_text, mark, member_opened, opened, ref_text, std_text};
 use cxx_tree::{
-    Arena, Cv, Declaration, List, Listing, Manner, Node, Part, Parts, Phrase, Plain, Prec, RefQual, Text, MOST_DIGITS, number_bytes,
+    Arena, Cv, Declaration, List, Listing, MOST_DIGITS, Manner, Node, Part, Parts, Phrase, Plain,
+    Prec, RefQual, Text, number_bytes,
 };
 use growing_text::Text as Output;
 use std::alloc::AllocError;
@@ -113,7 +115,13 @@ pub fn print_left(arena: &Arena, env: Env, i: u32, out: &mut Output) -> Result<(
 
 // Appends what a tree with one side prints.
 #[cycle(printer)]
-fn left_plain(arena: &Arena, env: Env, bound: u32, plain: Plain, out: &mut Output) -> Result<(), AllocError>
+fn left_plain(
+    arena: &Arena,
+    env: Env,
+    bound: u32,
+    plain: Plain,
+    out: &mut Output,
+) -> Result<(), AllocError>
     requires bound { bound ≤ size arena.now }
     requires below { IsPlainBelow arena.now.held bound plain }
     ensures prints { Prints result out.old out.new ((spec.print (plain_tree arena.now.held (forest arena.now) plain) env).text.left) }
@@ -140,7 +148,9 @@ pub fn print_right(
         Node::Pointer(t) => right_pointer(arena, env, t, out),
         Node::Reference(t, is_lvalue) => right_reference(arena, env, is_lvalue, t, out),
         Node::MemberPointer(_, member) => right_behind(arena, env, member, out),
-        Node::Array(element, dimension) => right_array(arena, env, i, element, dimension, joined, out),
+        Node::Array(element, dimension) => right_array(
+            arena, env, i, element, dimension, joined, out,
+        ),
         Node::Function(ret, params, cv, ref_qual, exception) => right_function(
             arena, env, i, ret, params, cv, ref_qual, exception, out,
         ),
@@ -162,16 +172,28 @@ fn right_plain(
     ensures prints { Prints result out.old out.new (spec.right_behind joined (spec.print (plain_tree arena.now.held (forest arena.now) plain) env).text) }
 {
     match plain {
-        Plain::Name(_) | Plain::Leaf(_, _, _) | Plain::StdName(_, _) | Plain::Phrase(_, _) => Ok(()),
+        Plain::Name(_) | Plain::Leaf(_, _, _) | Plain::StdName(_, _) | Plain::Phrase(_, _) => Ok(
+            (),
+        ),
         Plain::Scoped(is_friend, _, _) => if is_friend { Ok(()) } else { Ok(()) },
-        Plain::WithArgs(_, _) | Plain::AbiTag(_, _) | Plain::InModule(_, _) | Plain::Data(_) => Ok(()),
-        Plain::ObjcProtocol(_, _) | Plain::List(_) | Plain::Expansion(_) | Plain::Param(_, _) => Ok(()),
+        Plain::WithArgs(_, _) | Plain::AbiTag(_, _) | Plain::InModule(_, _) | Plain::Data(_) => Ok(
+            (),
+        ),
+        Plain::ObjcProtocol(_, _) | Plain::List(_) | Plain::Expansion(_) | Plain::Param(_, _) => Ok(
+            (),
+        ),
     }
 }
 
 // Appends what a tree with one side prints.
 #[cycle(printer)]
-fn print_plain(arena: &Arena, env: Env, bound: u32, plain: Plain, out: &mut Output) -> Result<(), AllocError>
+fn print_plain(
+    arena: &Arena,
+    env: Env,
+    bound: u32,
+    plain: Plain,
+    out: &mut Output,
+) -> Result<(), AllocError>
     requires bound { bound ≤ size arena.now }
     requires below { IsPlainBelow arena.now.held bound plain }
     ensures prints { Prints result out.old out.new ((spec.print (plain_tree arena.now.held (forest arena.now) plain) env).text.left) }
@@ -181,7 +203,9 @@ fn print_plain(arena: &Arena, env: Env, bound: u32, plain: Plain, out: &mut Outp
         Plain::Leaf(_, llvm, gnu) => write(out, env.text(arena, llvm, gnu)),
         Plain::StdName(std, is_expanded) => write(out, std_text(env.style, std, is_expanded)),
         Plain::Phrase(phrase, parts) => print_phrase(arena, env, bound, phrase, parts, out),
-        Plain::Scoped(is_friend, scope, name) => print_scoped(arena, env, is_friend, scope, name, out),
+        Plain::Scoped(is_friend, scope, name) => print_scoped(
+            arena, env, is_friend, scope, name, out,
+        ),
         Plain::WithArgs(name, args) => print_with_args(arena, env, bound, name, args, out),
         Plain::AbiTag(name, tag) => print_abi_tag(arena, env, name, tag, out),
         Plain::InModule(name, owner) => print_in_module(arena, env, name, owner, out),
@@ -215,7 +239,13 @@ fn print_scoped(
 }
 
 #[cycle(printer)]
-fn print_friend(arena: &Arena, env: Env, scope: u32, name: u32, out: &mut Output) -> Result<(), AllocError>
+fn print_friend(
+    arena: &Arena,
+    env: Env,
+    scope: u32,
+    name: u32,
+    out: &mut Output,
+) -> Result<(), AllocError>
     requires scope { scope < size arena.now }
     requires name { name < size arena.now }
     ensures prints { Prints result out.old out.new (spec.whole (spec.print (tree_at (forest arena.now) scope) env) ++ (codes "::friend " ++ spec.whole (spec.print (tree_at (forest arena.now) name) env))) }
@@ -245,7 +275,13 @@ pub fn print_scope(arena: &Arena, env: Env, i: u32, out: &mut Output) -> Result<
 
 // Appends what a tree with one side prints as a scope.
 #[cycle(printer)]
-fn scope_plain(arena: &Arena, env: Env, bound: u32, plain: Plain, out: &mut Output) -> Result<(), AllocError>
+fn scope_plain(
+    arena: &Arena,
+    env: Env,
+    bound: u32,
+    plain: Plain,
+    out: &mut Output,
+) -> Result<(), AllocError>
     requires bound { bound ≤ size arena.now }
     requires below { IsPlainBelow arena.now.held bound plain }
     ensures prints { Prints result out.old out.new (spec.scope_of (spec.print (plain_tree arena.now.held (forest arena.now) plain) env).function (spec.whole (spec.print (plain_tree arena.now.held (forest arena.now) plain) env))) }
@@ -310,7 +346,13 @@ fn blank_behind_less(arena: &Arena, env: Env, name: u32, out: &mut Output) -> Re
 }
 
 #[cycle(printer)]
-fn print_abi_tag(arena: &Arena, env: Env, name: u32, tag: Text, out: &mut Output) -> Result<(), AllocError>
+fn print_abi_tag(
+    arena: &Arena,
+    env: Env,
+    name: u32,
+    tag: Text,
+    out: &mut Output,
+) -> Result<(), AllocError>
     requires name { name < size arena.now }
     requires tag { IsText arena.now.held tag }
     ensures prints { Prints result out.old out.new ((spec.print (tree_at (forest arena.now) name) env).text.left ++ (codes "[abi:" ++ (text_at arena.now.held tag ++ codes "]"))) }
@@ -322,7 +364,13 @@ fn print_abi_tag(arena: &Arena, env: Env, name: u32, tag: Text, out: &mut Output
 }
 
 #[cycle(printer)]
-fn print_in_module(arena: &Arena, env: Env, name: u32, owner: u32, out: &mut Output) -> Result<(), AllocError>
+fn print_in_module(
+    arena: &Arena,
+    env: Env,
+    name: u32,
+    owner: u32,
+    out: &mut Output,
+) -> Result<(), AllocError>
     requires name { name < size arena.now }
     requires owner { owner < size arena.now }
     ensures prints { Prints result out.old out.new (spec.whole (spec.print (tree_at (forest arena.now) name) env) ++ (codes "@" ++ spec.whole (spec.print (tree_at (forest arena.now) owner) env))) }
@@ -333,7 +381,13 @@ fn print_in_module(arena: &Arena, env: Env, name: u32, owner: u32, out: &mut Out
 }
 
 #[cycle(printer)]
-fn print_protocol(arena: &Arena, env: Env, t: u32, protocol: Text, out: &mut Output) -> Result<(), AllocError>
+fn print_protocol(
+    arena: &Arena,
+    env: Env,
+    t: u32,
+    protocol: Text,
+    out: &mut Output,
+) -> Result<(), AllocError>
     requires within { t < size arena.now }
     requires protocol { IsText arena.now.held protocol }
     ensures prints { Prints result out.old out.new (spec.whole (spec.print (tree_at (forest arena.now) t) env) ++ (codes "<" ++ (text_at arena.now.held protocol ++ codes ">"))) }
@@ -367,7 +421,13 @@ fn print_unexpanded(arena: &Arena, env: Env, t: u32, out: &mut Output) -> Result
 
 /// Appends a pattern for each index of a pack, with commas between.
 #[cycle(printer)]
-fn print_repeated(arena: &Arena, env: Env, n: u32, t: u32, out: &mut Output) -> Result<(), AllocError>
+fn print_repeated(
+    arena: &Arena,
+    env: Env,
+    n: u32,
+    t: u32,
+    out: &mut Output,
+) -> Result<(), AllocError>
     requires within { t < size arena.now }
     ensures prints { Prints result out.old out.new (spec.repeated n 0 env (spec.item (tree_at (forest arena.now) t))) }
 {
@@ -379,7 +439,13 @@ fn print_repeated(arena: &Arena, env: Env, n: u32, t: u32, out: &mut Output) -> 
 
 /// Appends a pattern at an index of its packs, with a comma before it if it isn't the first.
 #[cycle(printer)]
-fn print_element(arena: &Arena, env: Env, k: u32, t: u32, out: &mut Output) -> Result<(), AllocError>
+fn print_element(
+    arena: &Arena,
+    env: Env,
+    k: u32,
+    t: u32,
+    out: &mut Output,
+) -> Result<(), AllocError>
     requires within { t < size arena.now }
     ensures prints { Prints result out.old out.new (spec.separator (nat_eq k 0) ++ spec.whole (spec.print (tree_at (forest arena.now) t) (words.at env (Some k)))) }
 {
@@ -398,7 +464,13 @@ fn write_separator(is_first: bool, out: &mut Output) -> Result<(), AllocError>
 
 /// Appends a list. What prints nothing has no comma.
 #[cycle(printer)]
-fn print_list(arena: &Arena, env: Env, bound: u32, items: &[u32], out: &mut Output) -> Result<(), AllocError>
+fn print_list(
+    arena: &Arena,
+    env: Env,
+    bound: u32,
+    items: &[u32],
+    out: &mut Output,
+) -> Result<(), AllocError>
     requires bound { bound ≤ size arena.now }
     requires below { AllByRecursion (λ t. t < bound) items.now }
     ensures prints { Prints result out.old out.new (spec.list_text env (spec.items_of (trees_at (forest arena.now) items.now))) }
@@ -412,7 +484,13 @@ fn print_list(arena: &Arena, env: Env, bound: u32, items: &[u32], out: &mut Outp
 
 /// Appends an item of a list, with a comma before it if it isn't the first. Returns whether the next one is the first.
 #[cycle(printer)]
-fn print_item(arena: &Arena, env: Env, is_first: bool, t: u32, out: &mut Output) -> Result<bool, AllocError>
+fn print_item(
+    arena: &Arena,
+    env: Env,
+    is_first: bool,
+    t: u32,
+    out: &mut Output,
+) -> Result<bool, AllocError>
     requires within { t < size arena.now }
     ensures prints { PrintsItem result out.old out.new is_first (spec.item_text env (spec.item (tree_at (forest arena.now) t))) }
 {
@@ -481,7 +559,14 @@ fn print_enclosed(arena: &Arena, env: Env, t: u32, out: &mut Output) -> Result<(
 }
 
 #[cycle(printer)]
-fn print_phrase(arena: &Arena, env: Env, bound: u32, phrase: Phrase, parts: Parts, out: &mut Output) -> Result<(), AllocError>
+fn print_phrase(
+    arena: &Arena,
+    env: Env,
+    bound: u32,
+    phrase: Phrase,
+    parts: Parts,
+    out: &mut Output,
+) -> Result<(), AllocError>
     requires bound { bound ≤ size arena.now }
     requires parts { IsPartsBelow arena.now.held bound parts }
     ensures prints { Prints result out.old out.new ((spec.phrased phrase env (spec.print_parts (parts_in arena.now.held (forest arena.now) parts) (words.within env phrase.guard))).text.left) }
@@ -494,7 +579,13 @@ fn print_phrase(arena: &Arena, env: Env, bound: u32, phrase: Phrase, parts: Part
 }
 
 #[cycle(printer)]
-fn print_guarded(arena: &Arena, env: Env, bound: u32, parts: Parts, out: &mut Output) -> Result<(), AllocError>
+fn print_guarded(
+    arena: &Arena,
+    env: Env,
+    bound: u32,
+    parts: Parts,
+    out: &mut Output,
+) -> Result<(), AllocError>
     requires bound { bound ≤ size arena.now }
     requires parts { IsPartsBelow arena.now.held bound parts }
     ensures prints { Prints result out.old out.new (codes "(" ++ ((spec.print_parts (parts_in arena.now.held (forest arena.now) parts) env).text ++ codes ")")) }
@@ -505,7 +596,13 @@ fn print_guarded(arena: &Arena, env: Env, bound: u32, parts: Parts, out: &mut Ou
 }
 
 #[cycle(printer)]
-fn print_parts(arena: &Arena, env: Env, bound: u32, parts: Parts, out: &mut Output) -> Result<(), AllocError>
+fn print_parts(
+    arena: &Arena,
+    env: Env,
+    bound: u32,
+    parts: Parts,
+    out: &mut Output,
+) -> Result<(), AllocError>
     requires bound { bound ≤ size arena.now }
     requires parts { IsPartsBelow arena.now.held bound parts }
     ensures prints { Prints result out.old out.new ((spec.print_parts (parts_in arena.now.held (forest arena.now) parts) env).text) }
@@ -518,7 +615,13 @@ fn print_parts(arena: &Arena, env: Env, bound: u32, parts: Parts, out: &mut Outp
 }
 
 #[cycle(printer)]
-fn print_part(arena: &Arena, env: Env, bound: u32, part: Part, out: &mut Output) -> Result<(), AllocError>
+fn print_part(
+    arena: &Arena,
+    env: Env,
+    bound: u32,
+    part: Part,
+    out: &mut Output,
+) -> Result<(), AllocError>
     requires bound { bound ≤ size arena.now }
     requires below { IsPartBelow arena.now.held bound part }
     ensures prints { Prints result out.old out.new (text_of_part arena.now.held (forest arena.now) env part) }
@@ -531,7 +634,13 @@ fn print_part(arena: &Arena, env: Env, bound: u32, part: Part, out: &mut Output)
 }
 
 #[cycle(printer)]
-fn print_tree(arena: &Arena, env: Env, manner: Manner, t: u32, out: &mut Output) -> Result<(), AllocError>
+fn print_tree(
+    arena: &Arena,
+    env: Env,
+    manner: Manner,
+    t: u32,
+    out: &mut Output,
+) -> Result<(), AllocError>
     requires within { t < size arena.now }
     ensures prints { Prints result out.old out.new (spec.part_text manner (heads.is_designator (tree_at (forest arena.now) t)) (heads.count_of (tree_at (forest arena.now) t)) (measure (tree_at (forest arena.now) t)).elements env (spec.item (tree_at (forest arena.now) t))) }
 {
@@ -558,14 +667,27 @@ fn print_callee(arena: &Arena, env: Env, t: u32, out: &mut Output) -> Result<(),
         return print(arena, env, t, out);
     }
     match arena.node(t) {
-        Node::Encoding(_, name, _, _, _, _) => print_operand(arena, env, Prec::Comma, true, name, out),
+        Node::Encoding(_, name, _, _, _, _) => print_operand(
+            arena,
+            env,
+            Prec::Comma,
+            true,
+            name,
+            out,
+        ),
         _ => print_operand(arena, env, Prec::Comma, true, t, out),
     }
 }
 
 /// Appends the operand of an `&`. In GNU's style some functions have no parameters.
 #[cycle(printer)]
-fn print_address(arena: &Arena, env: Env, prec: Prec, t: u32, out: &mut Output) -> Result<(), AllocError>
+fn print_address(
+    arena: &Arena,
+    env: Env,
+    prec: Prec,
+    t: u32,
+    out: &mut Output,
+) -> Result<(), AllocError>
     requires within { t < size arena.now }
     ensures prints { Prints result out.old out.new (spec.address_text env prec (spec.item (tree_at (forest arena.now) t))) }
 {
@@ -621,7 +743,13 @@ fn print_argument(arena: &Arena, env: Env, t: u32, out: &mut Output) -> Result<(
 
 /// Appends `sizeof...` and a pack, in GNU's style the number of its elements if it is known.
 #[cycle(printer)]
-fn print_count(arena: &Arena, env: Env, has_blank: bool, t: u32, out: &mut Output) -> Result<(), AllocError>
+fn print_count(
+    arena: &Arena,
+    env: Env,
+    has_blank: bool,
+    t: u32,
+    out: &mut Output,
+) -> Result<(), AllocError>
     requires within { t < size arena.now }
     ensures prints { Prints result out.old out.new (spec.count_text env has_blank (heads.count_of (tree_at (forest arena.now) t)) (spec.item (tree_at (forest arena.now) t))) }
 {
@@ -635,7 +763,13 @@ fn print_count(arena: &Arena, env: Env, has_blank: bool, t: u32, out: &mut Outpu
 }
 
 #[cycle(printer)]
-fn print_sizeof(arena: &Arena, env: Env, has_blank: bool, t: u32, out: &mut Output) -> Result<(), AllocError>
+fn print_sizeof(
+    arena: &Arena,
+    env: Env,
+    has_blank: bool,
+    t: u32,
+    out: &mut Output,
+) -> Result<(), AllocError>
     requires within { t < size arena.now }
     ensures prints { Prints result out.old out.new (spec.sizeof_word has_blank ++ spec.in_parens env (spec.item (tree_at (forest arena.now) t))) }
 {
@@ -677,7 +811,14 @@ fn print_folded(arena: &Arena, env: Env, t: u32, out: &mut Output) -> Result<(),
 }
 
 #[cycle(printer)]
-fn print_trees(arena: &Arena, env: Env, bound: u32, listing: Listing, list: List, out: &mut Output) -> Result<(), AllocError>
+fn print_trees(
+    arena: &Arena,
+    env: Env,
+    bound: u32,
+    listing: Listing,
+    list: List,
+    out: &mut Output,
+) -> Result<(), AllocError>
     requires bound { bound ≤ size arena.now }
     requires below { IsListBelow arena.now.held bound list }
     ensures prints { Prints result out.old out.new (spec.list_of listing env (spec.items_of (trees_in arena.now.held (forest arena.now) list))) }
@@ -693,7 +834,13 @@ fn print_trees(arena: &Arena, env: Env, bound: u32, listing: Listing, list: List
 }
 
 #[cycle(printer)]
-pub fn print_parens(arena: &Arena, env: Env, bound: u32, list: List, out: &mut Output) -> Result<(), AllocError>
+pub fn print_parens(
+    arena: &Arena,
+    env: Env,
+    bound: u32,
+    list: List,
+    out: &mut Output,
+) -> Result<(), AllocError>
     requires bound { bound ≤ size arena.now }
     requires below { IsListBelow arena.now.held bound list }
     ensures prints { Prints result out.old out.new (spec.parens env (spec.items_of (trees_in arena.now.held (forest arena.now) list))) }
@@ -704,7 +851,13 @@ pub fn print_parens(arena: &Arena, env: Env, bound: u32, list: List, out: &mut O
 }
 
 #[cycle(printer)]
-fn print_angles(arena: &Arena, env: Env, bound: u32, list: List, out: &mut Output) -> Result<(), AllocError>
+fn print_angles(
+    arena: &Arena,
+    env: Env,
+    bound: u32,
+    list: List,
+    out: &mut Output,
+) -> Result<(), AllocError>
     requires bound { bound ≤ size arena.now }
     requires below { IsListBelow arena.now.held bound list }
     ensures prints { Prints result out.old out.new (spec.angles env (spec.items_of (trees_in arena.now.held (forest arena.now) list))) }
@@ -716,7 +869,13 @@ fn print_angles(arena: &Arena, env: Env, bound: u32, list: List, out: &mut Outpu
 }
 
 // Appends a blank behind a list that ends with a `>`, in GNU's style.
-fn blank_behind_greater(arena: &Arena, env: Env, bound: u32, items: &[u32], out: &mut Output) -> Result<(), AllocError>
+fn blank_behind_greater(
+    arena: &Arena,
+    env: Env,
+    bound: u32,
+    items: &[u32],
+    out: &mut Output,
+) -> Result<(), AllocError>
     requires bound { bound ≤ size arena.now }
     requires below { AllByRecursion (λ t. t < bound) items.now }
     ensures prints { Prints result out.old out.new (spec.gnu_blank env ending.Greater (spec.last_ends env (spec.items_of (trees_at (forest arena.now) items.now)))) }
@@ -731,7 +890,13 @@ fn blank_behind_greater(arena: &Arena, env: Env, bound: u32, items: &[u32], out:
 }
 
 #[cycle(printer)]
-fn print_sequence(arena: &Arena, env: Env, bound: u32, items: &[u32], out: &mut Output) -> Result<(), AllocError>
+fn print_sequence(
+    arena: &Arena,
+    env: Env,
+    bound: u32,
+    items: &[u32],
+    out: &mut Output,
+) -> Result<(), AllocError>
     requires bound { bound ≤ size arena.now }
     requires below { AllByRecursion (λ t. t < bound) items.now }
     ensures prints { Prints result out.old out.new (spec.sequence env (spec.items_of (trees_at (forest arena.now) items.now))) }
@@ -744,7 +909,13 @@ fn print_sequence(arena: &Arena, env: Env, bound: u32, items: &[u32], out: &mut 
 
 /// Appends the declarations of a closure's template parameters.
 #[cycle(printer)]
-fn print_declarations(arena: &Arena, env: Env, bound: u32, list: List, out: &mut Output) -> Result<(), AllocError>
+fn print_declarations(
+    arena: &Arena,
+    env: Env,
+    bound: u32,
+    list: List,
+    out: &mut Output,
+) -> Result<(), AllocError>
     requires bound { bound ≤ size arena.now }
     requires below { IsListBelow arena.now.held bound list }
     ensures prints { Prints result out.old out.new (spec.declarations_text env (spec.items_of (trees_in arena.now.held (forest arena.now) list))) }
@@ -758,7 +929,13 @@ fn print_declarations(arena: &Arena, env: Env, bound: u32, list: List, out: &mut
 }
 
 #[cycle(printer)]
-fn print_declared_list(arena: &Arena, env: Env, bound: u32, items: &[u32], out: &mut Output) -> Result<(), AllocError>
+fn print_declared_list(
+    arena: &Arena,
+    env: Env,
+    bound: u32,
+    items: &[u32],
+    out: &mut Output,
+) -> Result<(), AllocError>
     requires bound { bound ≤ size arena.now }
     requires below { AllByRecursion (λ t. t < bound) items.now }
     ensures prints { Prints result out.old out.new (spec.declarations true env (spec.items_of (trees_at (forest arena.now) items.now))) }
@@ -772,7 +949,13 @@ fn print_declared_list(arena: &Arena, env: Env, bound: u32, items: &[u32], out: 
 }
 
 #[cycle(printer)]
-fn print_declared(arena: &Arena, env: Env, is_first: bool, t: u32, out: &mut Output) -> Result<(), AllocError>
+fn print_declared(
+    arena: &Arena,
+    env: Env,
+    is_first: bool,
+    t: u32,
+    out: &mut Output,
+) -> Result<(), AllocError>
     requires within { t < size arena.now }
     ensures prints { Prints result out.old out.new (spec.separator is_first ++ spec.declared (spec.print (tree_at (forest arena.now) t) env)) }
 {
@@ -781,7 +964,12 @@ fn print_declared(arena: &Arena, env: Env, is_first: bool, t: u32, out: &mut Out
 }
 
 #[cycle(printer)]
-fn print_whole_declaration(arena: &Arena, env: Env, t: u32, out: &mut Output) -> Result<(), AllocError>
+fn print_whole_declaration(
+    arena: &Arena,
+    env: Env,
+    t: u32,
+    out: &mut Output,
+) -> Result<(), AllocError>
     requires within { t < size arena.now }
     ensures prints { Prints result out.old out.new (spec.declared (spec.print (tree_at (forest arena.now) t) env)) }
 {
@@ -804,7 +992,13 @@ fn print_head(arena: &Arena, env: Env, t: u32, out: &mut Output) -> Result<(), A
 }
 
 #[cycle(printer)]
-fn head_of_plain(arena: &Arena, env: Env, bound: u32, plain: Plain, out: &mut Output) -> Result<(), AllocError>
+fn head_of_plain(
+    arena: &Arena,
+    env: Env,
+    bound: u32,
+    plain: Plain,
+    out: &mut Output,
+) -> Result<(), AllocError>
     requires bound { bound ≤ size arena.now }
     requires below { IsPlainBelow arena.now.held bound plain }
     ensures prints { Prints result out.old out.new (spec.head (spec.print (plain_tree arena.now.held (forest arena.now) plain) env)) }
@@ -828,7 +1022,11 @@ fn head_of_declaration(
         Declaration::TypeParam(constraint, _) => print(arena, env, constraint, out),
         Declaration::NonTypeParam(_, t) => print(arena, env, t, out),
         Declaration::TemplateParam(_, declarations, _) => print_template_head(
-            arena, env, bound, arena.items(declarations), out,
+            arena,
+            env,
+            bound,
+            arena.items(declarations),
+            out,
         ),
         Declaration::PackParam(d) => print_pack_head(arena, env, d, out),
     }
@@ -844,7 +1042,13 @@ fn print_pack_head(arena: &Arena, env: Env, d: u32, out: &mut Output) -> Result<
 }
 
 #[cycle(printer)]
-fn print_template_head(arena: &Arena, env: Env, bound: u32, items: &[u32], out: &mut Output) -> Result<(), AllocError>
+fn print_template_head(
+    arena: &Arena,
+    env: Env,
+    bound: u32,
+    items: &[u32],
+    out: &mut Output,
+) -> Result<(), AllocError>
     requires bound { bound ≤ size arena.now }
     requires below { AllByRecursion (λ t. t < bound) items.now }
     ensures prints { Prints result out.old out.new (codes "template<" ++ (spec.heads true env (spec.items_of (trees_at (forest arena.now) items.now)) ++ codes "> class")) }
@@ -855,7 +1059,13 @@ fn print_template_head(arena: &Arena, env: Env, bound: u32, items: &[u32], out: 
 }
 
 #[cycle(printer)]
-fn print_heads(arena: &Arena, env: Env, bound: u32, items: &[u32], out: &mut Output) -> Result<(), AllocError>
+fn print_heads(
+    arena: &Arena,
+    env: Env,
+    bound: u32,
+    items: &[u32],
+    out: &mut Output,
+) -> Result<(), AllocError>
     requires bound { bound ≤ size arena.now }
     requires below { AllByRecursion (λ t. t < bound) items.now }
     ensures prints { Prints result out.old out.new (spec.heads true env (spec.items_of (trees_at (forest arena.now) items.now))) }
@@ -869,7 +1079,13 @@ fn print_heads(arena: &Arena, env: Env, bound: u32, items: &[u32], out: &mut Out
 }
 
 #[cycle(printer)]
-fn print_next_head(arena: &Arena, env: Env, is_first: bool, t: u32, out: &mut Output) -> Result<(), AllocError>
+fn print_next_head(
+    arena: &Arena,
+    env: Env,
+    is_first: bool,
+    t: u32,
+    out: &mut Output,
+) -> Result<(), AllocError>
     requires within { t < size arena.now }
     ensures prints { Prints result out.old out.new (spec.separator is_first ++ spec.head (spec.print (tree_at (forest arena.now) t) env)) }
 {
@@ -935,13 +1151,24 @@ fn left_declaration(
     match declaration {
         Declaration::TypeParam(constraint, _) => left_type_param(arena, env, constraint, out),
         Declaration::NonTypeParam(_, t) => left_non_type(arena, env, t, out),
-        Declaration::TemplateParam(_, declarations, _) => left_template(arena, env, bound, declarations, out),
+        Declaration::TemplateParam(_, declarations, _) => left_template(
+            arena,
+            env,
+            bound,
+            declarations,
+            out,
+        ),
         Declaration::PackParam(d) => left_pack_param(arena, env, d, out),
     }
 }
 
 #[cycle(printer)]
-fn left_type_param(arena: &Arena, env: Env, constraint: u32, out: &mut Output) -> Result<(), AllocError>
+fn left_type_param(
+    arena: &Arena,
+    env: Env,
+    constraint: u32,
+    out: &mut Output,
+) -> Result<(), AllocError>
     requires constraint { constraint < size arena.now }
     ensures prints { Prints result out.old out.new (spec.whole (spec.print (tree_at (forest arena.now) constraint) env) ++ codes " ") }
 {
@@ -969,7 +1196,13 @@ fn write_blank_unless(has_right: bool, out: &mut Output) -> Result<(), AllocErro
 }
 
 #[cycle(printer)]
-fn left_template(arena: &Arena, env: Env, bound: u32, list: List, out: &mut Output) -> Result<(), AllocError>
+fn left_template(
+    arena: &Arena,
+    env: Env,
+    bound: u32,
+    list: List,
+    out: &mut Output,
+) -> Result<(), AllocError>
     requires bound { bound ≤ size arena.now }
     requires below { IsListBelow arena.now.held bound list }
     ensures prints { Prints result out.old out.new (codes "template" ++ (spec.angles env (spec.items_of (trees_in arena.now.held (forest arena.now) list)) ++ codes " typename ")) }
@@ -1003,13 +1236,21 @@ fn right_declaration(
     match declaration {
         Declaration::TypeParam(_, name) => print(arena, env, name, out),
         Declaration::NonTypeParam(name, t) => right_non_type(arena, env, name, t, out),
-        Declaration::TemplateParam(name, _, rest) => right_template(arena, env, bound, name, rest, out),
+        Declaration::TemplateParam(name, _, rest) => right_template(
+            arena, env, bound, name, rest, out,
+        ),
         Declaration::PackParam(d) => print_right(arena, env, d, false, out),
     }
 }
 
 #[cycle(printer)]
-fn right_non_type(arena: &Arena, env: Env, name: u32, t: u32, out: &mut Output) -> Result<(), AllocError>
+fn right_non_type(
+    arena: &Arena,
+    env: Env,
+    name: u32,
+    t: u32,
+    out: &mut Output,
+) -> Result<(), AllocError>
     requires name { name < size arena.now }
     requires within { t < size arena.now }
     ensures prints { Prints result out.old out.new (spec.whole (spec.print (tree_at (forest arena.now) name) env) ++ spec.right_behind false (spec.print (tree_at (forest arena.now) t) env).text) }
@@ -1019,7 +1260,14 @@ fn right_non_type(arena: &Arena, env: Env, name: u32, t: u32, out: &mut Output) 
 }
 
 #[cycle(printer)]
-fn right_template(arena: &Arena, env: Env, bound: u32, name: u32, rest: Parts, out: &mut Output) -> Result<(), AllocError>
+fn right_template(
+    arena: &Arena,
+    env: Env,
+    bound: u32,
+    name: u32,
+    rest: Parts,
+    out: &mut Output,
+) -> Result<(), AllocError>
     requires bound { bound ≤ size arena.now }
     requires name { name < bound }
     requires rest { IsPartsBelow arena.now.held bound rest }
@@ -1030,7 +1278,13 @@ fn right_template(arena: &Arena, env: Env, bound: u32, name: u32, rest: Parts, o
 }
 
 #[cycle(printer)]
-fn left_qualified(arena: &Arena, env: Env, t: u32, cv: Cv, out: &mut Output) -> Result<(), AllocError>
+fn left_qualified(
+    arena: &Arena,
+    env: Env,
+    t: u32,
+    cv: Cv,
+    out: &mut Output,
+) -> Result<(), AllocError>
     requires within { t < size arena.now }
     ensures prints { Prints result out.old out.new ((spec.print (tree_at (forest arena.now) t) env).text.left ++ words.cv_text cv) }
 {
@@ -1089,7 +1343,13 @@ fn right_behind(arena: &Arena, env: Env, t: u32, out: &mut Output) -> Result<(),
 }
 
 #[cycle(printer)]
-fn left_reference(arena: &Arena, env: Env, is_lvalue: bool, t: u32, out: &mut Output) -> Result<(), AllocError>
+fn left_reference(
+    arena: &Arena,
+    env: Env,
+    is_lvalue: bool,
+    t: u32,
+    out: &mut Output,
+) -> Result<(), AllocError>
     requires within { t < size arena.now }
     ensures prints { Prints result out.old out.new ((spec.referred is_lvalue (spec.print (tree_at (forest arena.now) t) env)).text.left) }
 {
@@ -1101,7 +1361,13 @@ fn left_reference(arena: &Arena, env: Env, is_lvalue: bool, t: u32, out: &mut Ou
 }
 
 #[cycle(printer)]
-fn left_base(arena: &Arena, env: Env, is_lvalue: bool, t: u32, out: &mut Output) -> Result<(), AllocError>
+fn left_base(
+    arena: &Arena,
+    env: Env,
+    is_lvalue: bool,
+    t: u32,
+    out: &mut Output,
+) -> Result<(), AllocError>
     requires within { t < size arena.now }
     ensures prints { Prints result out.old out.new ((spec.refers is_lvalue (spec.print (tree_at (forest arena.now) t) env).text).left) }
 {
@@ -1111,7 +1377,13 @@ fn left_base(arena: &Arena, env: Env, is_lvalue: bool, t: u32, out: &mut Output)
 }
 
 #[cycle(printer)]
-fn right_reference(arena: &Arena, env: Env, is_lvalue: bool, t: u32, out: &mut Output) -> Result<(), AllocError>
+fn right_reference(
+    arena: &Arena,
+    env: Env,
+    is_lvalue: bool,
+    t: u32,
+    out: &mut Output,
+) -> Result<(), AllocError>
     requires within { t < size arena.now }
     ensures prints { Prints result out.old out.new ((spec.referred is_lvalue (spec.print (tree_at (forest arena.now) t) env)).text.right) }
 {
@@ -1122,7 +1394,13 @@ fn right_reference(arena: &Arena, env: Env, is_lvalue: bool, t: u32, out: &mut O
 }
 
 #[cycle(printer)]
-fn left_member(arena: &Arena, env: Env, class: u32, member: u32, out: &mut Output) -> Result<(), AllocError>
+fn left_member(
+    arena: &Arena,
+    env: Env,
+    class: u32,
+    member: u32,
+    out: &mut Output,
+) -> Result<(), AllocError>
     requires class { class < size arena.now }
     requires member { member < size arena.now }
     ensures prints { Prints result out.old out.new ((spec.member_of env.style (spec.print (tree_at (forest arena.now) class) env) (spec.print (tree_at (forest arena.now) member) env)).text.left) }
@@ -1197,7 +1475,10 @@ fn blank_behind_ret(arena: &Arena, env: Env, ret: u32, out: &mut Output) -> Resu
     if env.is_llvm() {
         return write(out, b" ");
     }
-    write_blank_unless(is_starred(arena, env, ret) && has_right(arena, env, ret), out)
+    write_blank_unless(
+        is_starred(arena, env, ret) && has_right(arena, env, ret),
+        out,
+    )
 }
 
 #[cycle(printer)]
@@ -1288,7 +1569,13 @@ fn left_encoding(
 }
 
 #[cycle(printer)]
-fn left_ret(arena: &Arena, env: Env, bound: u32, ret: Option<u32>, out: &mut Output) -> Result<(), AllocError>
+fn left_ret(
+    arena: &Arena,
+    env: Env,
+    bound: u32,
+    ret: Option<u32>,
+    out: &mut Output,
+) -> Result<(), AllocError>
     requires bound { bound ≤ size arena.now }
     requires ret { IsOptionBelow bound ret }
     ensures prints { Prints result out.old out.new (spec.ret_text_left (spec.items_of (option_at (forest arena.now) ret)) env) }
@@ -1300,7 +1587,13 @@ fn left_ret(arena: &Arena, env: Env, bound: u32, ret: Option<u32>, out: &mut Out
 }
 
 #[cycle(printer)]
-fn right_ret(arena: &Arena, env: Env, bound: u32, ret: Option<u32>, out: &mut Output) -> Result<(), AllocError>
+fn right_ret(
+    arena: &Arena,
+    env: Env,
+    bound: u32,
+    ret: Option<u32>,
+    out: &mut Output,
+) -> Result<(), AllocError>
     requires bound { bound ≤ size arena.now }
     requires ret { IsOptionBelow bound ret }
     ensures prints { Prints result out.old out.new (spec.ret_text_right (spec.items_of (option_at (forest arena.now) ret)) env) }
@@ -1401,7 +1694,13 @@ fn right_signature(
 }
 
 #[cycle(printer)]
-fn left_pack(arena: &Arena, env: Env, bound: u32, items: List, out: &mut Output) -> Result<(), AllocError>
+fn left_pack(
+    arena: &Arena,
+    env: Env,
+    bound: u32,
+    items: List,
+    out: &mut Output,
+) -> Result<(), AllocError>
     requires bound { bound ≤ size arena.now }
     requires items { IsListBelow arena.now.held bound items }
     ensures prints { Prints result out.old out.new ((spec.print (pack (trees_in arena.now.held (forest arena.now) items)) env).text.left) }

@@ -22,7 +22,7 @@ pub fn element(arena: &Arena, env: Env, bound: u32, list: List) -> Option<u32>
     ensures value { MatchOption result
         (spec.print (pack (trees_in arena.now.held (forest arena.now) list)) env ≡ spec.nothing)
         (λ t. spec.print (pack (trees_in arena.now.held (forest arena.now) list)) env
-            ≡ spec.element_of (spec.print (tree_at (forest arena.now) t) env)) }
+        ≡ spec.element_of (spec.print (tree_at (forest arena.now) t) env)) }
     ensures below { IfSome result (λ t. t < bound) }
 {
     let items = arena.items(list);
@@ -49,7 +49,10 @@ pub fn form_of(arena: &Arena, env: Env, i: u32) -> Form
 {
     match arena.node(i) {
         Node::Plain(_) => Form::Plain,
-        Node::Declaration(_) | Node::Pointer(_) | Node::Reference(_, _) | Node::MemberPointer(_, _) => Form::Plain,
+        Node::Declaration(_)
+        | Node::Pointer(_)
+        | Node::Reference(_, _)
+        | Node::MemberPointer(_, _) => Form::Plain,
         Node::Array(_, _) => Form::Arrayed,
         Node::Function(_, _, _, _, _) | Node::Encoding(_, _, _, _, _, _) => Form::Callable,
         Node::Qualified(t, _) => form_of(arena, env, t),
@@ -82,8 +85,11 @@ pub fn has_right(arena: &Arena, env: Env, i: u32) -> bool
     match arena.node(i) {
         Node::Plain(_) => false,
         Node::Declaration(_) => true,
-        Node::Array(_, _) | Node::Function(_, _, _, _, _) | Node::Encoding(_, _, _, _, _, _) => true,
-        Node::Qualified(t, _) | Node::Pointer(t) | Node::Reference(t, _) => has_right(arena, env, t),
+        Node::Array(_, _) | Node::Function(_, _, _, _, _) | Node::Encoding(_, _, _, _, _, _) =>
+            true,
+        Node::Qualified(t, _) | Node::Pointer(t) | Node::Reference(t, _) => has_right(
+            arena, env, t,
+        ),
         Node::MemberPointer(_, member) => has_right(arena, env, member),
         Node::Pack(items) => match element(arena, env, i, items) {
             None => false,
@@ -290,7 +296,12 @@ fn ending_of_phrase(arena: &Arena, env: Env, bound: u32, phrase: Phrase, parts: 
     if !phrase.is_open {
         return Ending::Other;
     }
-    ending_of_parts(arena, env.within(phrase.guard), bound, arena.parts_of(parts))
+    ending_of_parts(
+        arena,
+        env.within(phrase.guard),
+        bound,
+        arena.parts_of(parts),
+    )
 }
 
 // How parts end.

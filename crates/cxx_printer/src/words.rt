@@ -1,7 +1,6 @@
 //! Words that are printed.
 #![tactic(auto, unfolding(crate::specs::Words::std_text, crate::specs::Words::short_std_text, crate::specs::Words::llvm_std_text, crate::specs::Words::gnu_std_text, crate::specs::Words::cv_text, crate::specs::Words::ref_text, crate::specs::Words::mark, crate::specs::Words::opened, crate::specs::Words::member_opened, crate::specs::Words::closed))]
 
-
 ghost use Rattle.std.specs.Prelude.{◌≡◌, ℕ, Bool, List};
 ghost use Rattle.cxx_printer.specs.Words as spec;
 

@@ -69,6 +69,13 @@ impl<T: Clone> Vec<T> {
         Ok(made)
     }
 
+    /// Returns a vector of the items of a slice.
+    pub fn from_slice(_: Global, items: &[T]) -> Result<Self, AllocError> {
+        let mut made = Vec(std::vec::Vec::new());
+        made.extend_from_slice(items)?;
+        Ok(made)
+    }
+
     pub fn resize(&mut self, n: usize, value: T) -> Result<(), AllocError> {
         self.0.try_reserve(n.saturating_sub(self.0.len()))?;
         self.0.resize(n, value);
@@ -96,5 +103,14 @@ impl<T> DerefMut for Vec<T> {
     #[inline(always)]
     fn deref_mut(&mut self) -> &mut [T] {
         &mut self.0
+    }
+}
+
+impl<'a, T> IntoIterator for &'a Vec<T> {
+    type Item = &'a T;
+    type IntoIter = std::slice::Iter<'a, T>;
+
+    fn into_iter(self) -> Self::IntoIter {
+        self.0.iter()
     }
 }
