@@ -1,16 +1,14 @@
 //! Replaces the template parameters in the children of a node.
 #![tactic(auto, using(crate::proofs::Replaced::binding), unfolding(crate::specs::Stored::tree_of, crate::specs::Stored::plain_tree, crate::specs::Stored::declaration_tree, crate::specs::Stored::IsBelow, crate::specs::Stored::IsPlainBelow, crate::specs::Stored::IsDeclarationBelow, crate::specs::Measure::measure, crate::specs::Bind::bind))]
 
-ghost use Rattle.std.specs.Prelude.{◌≡◌, ℕ, ◌+◌, ◌-◌, ◌<◌, ◌≤◌, ◌&&◌, [], ◌∷◌, ◌++◌, length, codes, decimal, false, IfOk, OnOk, IsErrOf, MatchOption, Bool};
+ghost use Rattle.std.specs.Prelude.{◌≡◌, ◌+◌, ◌-◌, ◌<◌, ◌≤◌, ◌&&◌, false, IfOk, IsErrOf, Bool};
 ghost use Rattle.cxx_tree.specs.Measure.{measure, measure_each, measure_parts};
-ghost use Rattle.cxx_tree.specs.Grows.{Grows, Makes};
+ghost use Rattle.cxx_tree.specs.Grows.{Grows};
 ghost use Rattle.cxx_tree.specs.Bind as spec;
-ghost use Rattle.cxx_tree.specs.Tree.{named, param};
+ghost use Rattle.cxx_tree.specs.Tree.{named};
 ghost use Rattle.cxx_tree.specs.Bind.{AreNamed, binding_at, bound_at, bound_list, bound_parts, bound_option, part_at, plain_at, declaration_at, node_at, IsInner, IsInnerPlain};
 ghost use Rattle.cxx_tree.specs.declared.arena.PushError.TheVariants as PushError;
-ghost use Rattle.cxx_tree.specs.declared.node.Node.TheVariants as Node;
-ghost use Rattle.cxx_tree.specs.declared.node.Plain.TheVariants as Plain;
-ghost use Rattle.cxx_tree.specs.Stored.{forest, size, tree_of, plain_tree, declaration_tree, tree_at, option_at, trees_in, parts_in, parts_of, text_at, IsBelow, IsPlainBelow, IsDeclarationBelow, IsListBelow, IsPartsBelow, IsPartBelow, IsOptionBelow, IsText};
+ghost use Rattle.cxx_tree.specs.Stored.{forest, size, tree_of, plain_tree, declaration_tree, tree_at, option_at, trees_in, parts_in, IsBelow, IsPlainBelow, IsDeclarationBelow, IsListBelow, IsPartsBelow, IsPartBelow, IsOptionBelow};
 
 use crate::arena::{Arena, PushError};
 use crate::bind::{Binding, bind};
