@@ -627,8 +627,10 @@ unfoldable mutual
   print (listed ts) env = plain (list_text env (items_of ts)) (last_ends env (items_of ts))
   print (expansion t) env =
       plain
-      (expansion_text env (measure t).elements (record { prec = prec_of t; is_simple = is_simple t; printed = print t }))
-      (expansion_ends env (measure t).elements (record { prec = prec_of t; is_simple = is_simple t; printed = print t }))
+      (expansion_text env (measure t).elements
+      (record { prec = prec_of t; is_simple = is_simple t; printed = print t }))
+      (expansion_ends env (measure t).elements
+      (record { prec = prec_of t; is_simple = is_simple t; printed = print t }))
   print (param level index) env = plain [] Other
   print (type_param constraint name) env =
       declares

@@ -18,7 +18,8 @@ pub fn prec_of(arena: &Arena, i: u32) -> Prec
     }
 }
 
-/// Returns whether an operand of a precedence needs no parentheses in LLVM's style. It may be as loose if `loose` holds.
+/// Returns whether an operand of a precedence needs no parentheses in LLVM's style. It may be as loose if `loose`
+/// holds.
 pub fn is_tight(inner: Prec, outer: Prec, loose: bool) -> bool
     ensures value { result ≡ spec.is_tight inner outer loose }
 {

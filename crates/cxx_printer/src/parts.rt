@@ -12,7 +12,7 @@ use crate::env::{Env, Style};
 use crate::print::{print, print_parens, print_scope};
 use crate::symbol::write;
 use cxx_tree::{Arena, Node, Plain};
-use growing_text::Text as Output;
+use growing_text::Text;
 use std::alloc::AllocError;
 
 /// Appends the base of the name of a function or of data: what is left without scopes, arguments, ABI tags and module.
@@ -21,7 +21,7 @@ pub fn print_base_name(
     arena: &Arena,
     i: u32,
     style: Style,
-    out: &mut Output,
+    out: &mut Text,
 ) -> Result<(), AllocError>
     requires within { i < size arena.now }
     ensures prints { Prints result out.old out.new (spec.base_name_text (top style) (tree_at (forest arena.now) i)) }
@@ -34,12 +34,7 @@ pub fn print_base_name(
 
 /// Appends the scopes around the base of the name of a function or of data, from the outermost one, with `::` between.
 /// Of another tree it appends nothing.
-pub fn print_context(
-    arena: &Arena,
-    i: u32,
-    style: Style,
-    out: &mut Output,
-) -> Result<(), AllocError>
+pub fn print_context(arena: &Arena, i: u32, style: Style, out: &mut Text) -> Result<(), AllocError>
     requires within { i < size arena.now }
     ensures prints { Prints result out.old out.new (spec.context_text (top style) (tree_at (forest arena.now) i)) }
 {
@@ -54,7 +49,7 @@ pub fn print_parameters(
     arena: &Arena,
     i: u32,
     style: Style,
-    out: &mut Output,
+    out: &mut Text,
 ) -> Result<(), AllocError>
     requires within { i < size arena.now }
     ensures prints { Prints result out.old out.new (spec.parameters_text (top style) (tree_at (forest arena.now) i)) }
@@ -76,7 +71,7 @@ pub fn print_return_type(
     arena: &Arena,
     i: u32,
     style: Style,
-    out: &mut Output,
+    out: &mut Text,
 ) -> Result<(), AllocError>
     requires within { i < size arena.now }
     ensures prints { Prints result out.old out.new (spec.return_type_text (top style) (tree_at (forest arena.now) i)) }
@@ -87,7 +82,7 @@ pub fn print_return_type(
     }
 }
 
-fn print_ret(arena: &Arena, env: Env, ret: Option<u32>, out: &mut Output) -> Result<(), AllocError>
+fn print_ret(arena: &Arena, env: Env, ret: Option<u32>, out: &mut Text) -> Result<(), AllocError>
     requires below { IsOptionBelow (size arena.now) ret }
     ensures prints { Prints result out.old out.new (spec.ret_text env (option_at (forest arena.now) ret)) }
 {
@@ -136,7 +131,7 @@ fn print_scopes(
     env: Env,
     is_first: bool,
     i: u32,
-    out: &mut Output,
+    out: &mut Text,
 ) -> Result<(), AllocError>
     requires within { i < size arena.now }
     ensures prints { Prints result out.old out.new
@@ -155,7 +150,7 @@ fn scopes_of_plain(
     is_first: bool,
     bound: u32,
     plain: Plain,
-    out: &mut Output,
+    out: &mut Text,
 ) -> Result<(), AllocError>
     requires bound { bound ≤ size arena.now }
     requires below { IsPlainBelow arena.now.held bound plain }
@@ -179,7 +174,7 @@ fn print_from_scope(
     is_first: bool,
     scope: u32,
     name: u32,
-    out: &mut Output,
+    out: &mut Text,
 ) -> Result<(), AllocError>
     requires scope { scope < size arena.now }
     requires name { name < size arena.now }
@@ -192,7 +187,7 @@ fn print_from_scope(
 }
 
 // Appends what stands before a scope.
-fn write_colons(is_first: bool, out: &mut Output) -> Result<(), AllocError>
+fn write_colons(is_first: bool, out: &mut Text) -> Result<(), AllocError>
     ensures prints { Prints result out.old out.new (spec.colons is_first) }
 {
     if is_first {

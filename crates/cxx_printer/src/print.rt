@@ -27,14 +27,14 @@ use crate::shapes::{
 use crate::words::{closed, cv_text, mark, member_opened, opened, ref_text, std_text};
 use cxx_tree::{
     Arena, Cv, Declaration, List, Listing, MOST_DIGITS, Manner, Node, Part, Parts, Phrase, Plain,
-    Prec, RefQual, Text, number_bytes,
+    Prec, RefQual, number_bytes,
 };
-use growing_text::Text as Output;
+use growing_text::Text;
 use std::alloc::AllocError;
 
 // Appends a text.
 #[tactic(auto, using(crate::proofs::Appended::prints_added))]
-fn write(out: &mut Output, text: &[u8]) -> Result<(), AllocError>
+fn write(out: &mut Text, text: &[u8]) -> Result<(), AllocError>
     ensures prints { Prints result out.old out.new text.now }
 {
     out.add(text)
@@ -42,7 +42,7 @@ fn write(out: &mut Output, text: &[u8]) -> Result<(), AllocError>
 
 /// Appends what a tree prints.
 #[cycle(printer)]
-pub fn print(arena: &Arena, env: Env, i: u32, out: &mut Output) -> Result<(), AllocError>
+pub fn print(arena: &Arena, env: Env, i: u32, out: &mut Text) -> Result<(), AllocError>
     requires within { i < size arena.now }
     ensures prints { Prints result out.old out.new (spec.whole (spec.print (tree_at (forest arena.now) i) env)) }
 {
@@ -57,7 +57,7 @@ pub fn print(arena: &Arena, env: Env, i: u32, out: &mut Output) -> Result<(), Al
 
 // Appends what a tree prints on both sides.
 #[cycle(printer)]
-fn print_sides(arena: &Arena, env: Env, i: u32, out: &mut Output) -> Result<(), AllocError>
+fn print_sides(arena: &Arena, env: Env, i: u32, out: &mut Text) -> Result<(), AllocError>
     requires within { i < size arena.now }
     ensures prints { Prints result out.old out.new (spec.whole (spec.print (tree_at (forest arena.now) i) env)) }
 {
@@ -80,14 +80,16 @@ fn print_encoding(
     cv: Cv,
     ref_qual: RefQual,
     rest: Parts,
-    out: &mut Output,
+    out: &mut Text,
 ) -> Result<(), AllocError>
     requires bound { bound ≤ size arena.now }
     requires ret { IsOptionBelow bound ret }
     requires name { name < bound }
     requires params { IsListBelow arena.now.held bound params }
     requires rest { IsPartsBelow arena.now.held bound rest }
-    ensures prints { Prints result out.old out.new (spec.whole (spec.print (encoding (option_at (forest arena.now) ret) (tree_at (forest arena.now) name) (trees_in arena.now.held (forest arena.now) params) cv ref_qual (parts_in arena.now.held (forest arena.now) rest)) env)) }
+    ensures prints { Prints result out.old out.new (spec.whole (spec.print (encoding (option_at (forest arena.now)
+        ret) (tree_at (forest arena.now) name) (trees_in arena.now.held (forest arena.now) params) cv ref_qual
+        (parts_in arena.now.held (forest arena.now) rest)) env)) }
 {
     tri!(left_encoding(arena, env, bound, ret, name, out));
     right_encoding(arena, env, bound, ret, params, cv, ref_qual, rest, out)
@@ -95,7 +97,7 @@ fn print_encoding(
 
 /// Appends what a tree prints on the left of a name.
 #[cycle(printer)]
-pub fn print_left(arena: &Arena, env: Env, i: u32, out: &mut Output) -> Result<(), AllocError>
+pub fn print_left(arena: &Arena, env: Env, i: u32, out: &mut Text) -> Result<(), AllocError>
     requires within { i < size arena.now }
     ensures prints { Prints result out.old out.new ((spec.print (tree_at (forest arena.now) i) env).text.left) }
 {
@@ -120,11 +122,12 @@ fn left_plain(
     env: Env,
     bound: u32,
     plain: Plain,
-    out: &mut Output,
+    out: &mut Text,
 ) -> Result<(), AllocError>
     requires bound { bound ≤ size arena.now }
     requires below { IsPlainBelow arena.now.held bound plain }
-    ensures prints { Prints result out.old out.new ((spec.print (plain_tree arena.now.held (forest arena.now) plain) env).text.left) }
+    ensures prints { Prints result out.old out.new ((spec.print (plain_tree arena.now.held (forest arena.now)
+        plain) env).text.left) }
 {
     print_plain(arena, env, bound, plain, out)
 }
@@ -136,10 +139,11 @@ pub fn print_right(
     env: Env,
     i: u32,
     joined: bool,
-    out: &mut Output,
+    out: &mut Text,
 ) -> Result<(), AllocError>
     requires within { i < size arena.now }
-    ensures prints { Prints result out.old out.new (spec.right_behind joined (spec.print (tree_at (forest arena.now) i) env).text) }
+    ensures prints { Prints result out.old out.new (spec.right_behind joined (spec.print (tree_at (forest
+        arena.now) i) env).text) }
 {
     match arena.node(i) {
         Node::Plain(plain) => right_plain(arena, env, plain, joined, out),
@@ -167,9 +171,10 @@ fn right_plain(
     env: Env,
     plain: Plain,
     joined: bool,
-    out: &mut Output,
+    out: &mut Text,
 ) -> Result<(), AllocError>
-    ensures prints { Prints result out.old out.new (spec.right_behind joined (spec.print (plain_tree arena.now.held (forest arena.now) plain) env).text) }
+    ensures prints { Prints result out.old out.new (spec.right_behind joined (spec.print (plain_tree arena.now.held
+        (forest arena.now) plain) env).text) }
 {
     match plain {
         Plain::Name(_) | Plain::Leaf(_, _, _) | Plain::StdName(_, _) | Plain::Phrase(_, _) => Ok(
@@ -192,11 +197,12 @@ fn print_plain(
     env: Env,
     bound: u32,
     plain: Plain,
-    out: &mut Output,
+    out: &mut Text,
 ) -> Result<(), AllocError>
     requires bound { bound ≤ size arena.now }
     requires below { IsPlainBelow arena.now.held bound plain }
-    ensures prints { Prints result out.old out.new ((spec.print (plain_tree arena.now.held (forest arena.now) plain) env).text.left) }
+    ensures prints { Prints result out.old out.new ((spec.print (plain_tree arena.now.held (forest arena.now)
+        plain) env).text.left) }
 {
     match plain {
         Plain::Name(text) => write(out, arena.bytes(text)),
@@ -224,11 +230,12 @@ fn print_scoped(
     is_friend: bool,
     scope: u32,
     name: u32,
-    out: &mut Output,
+    out: &mut Text,
 ) -> Result<(), AllocError>
     requires scope { scope < size arena.now }
     requires name { name < size arena.now }
-    ensures prints { Prints result out.old out.new ((spec.in_scope is_friend env (spec.print (tree_at (forest arena.now) scope) env) (spec.print (tree_at (forest arena.now) name) env)).text.left) }
+    ensures prints { Prints result out.old out.new ((spec.in_scope is_friend env (spec.print (tree_at (forest
+        arena.now) scope) env) (spec.print (tree_at (forest arena.now) name) env)).text.left) }
 {
     if is_friend {
         return print_friend(arena, env, scope, name, out);
@@ -244,11 +251,12 @@ fn print_friend(
     env: Env,
     scope: u32,
     name: u32,
-    out: &mut Output,
+    out: &mut Text,
 ) -> Result<(), AllocError>
     requires scope { scope < size arena.now }
     requires name { name < size arena.now }
-    ensures prints { Prints result out.old out.new (spec.whole (spec.print (tree_at (forest arena.now) scope) env) ++ (codes "::friend " ++ spec.whole (spec.print (tree_at (forest arena.now) name) env))) }
+    ensures prints { Prints result out.old out.new (spec.whole (spec.print (tree_at (forest arena.now) scope) env)
+        ++ (codes "::friend " ++ spec.whole (spec.print (tree_at (forest arena.now) name) env))) }
 {
     tri!(print(arena, env, scope, out));
     tri!(write(out, b"::friend "));
@@ -257,9 +265,10 @@ fn print_friend(
 
 /// Appends what a tree prints as a scope. In GNU's style a function has no return type there.
 #[cycle(printer)]
-pub fn print_scope(arena: &Arena, env: Env, i: u32, out: &mut Output) -> Result<(), AllocError>
+pub fn print_scope(arena: &Arena, env: Env, i: u32, out: &mut Text) -> Result<(), AllocError>
     requires within { i < size arena.now }
-    ensures prints { Prints result out.old out.new (spec.scope_text env (spec.print (tree_at (forest arena.now) i) env)) }
+    ensures prints { Prints result out.old out.new (spec.scope_text env (spec.print (tree_at (forest arena.now) i)
+        env)) }
 {
     if env.is_llvm() {
         return print(arena, env, i, out);
@@ -280,11 +289,13 @@ fn scope_plain(
     env: Env,
     bound: u32,
     plain: Plain,
-    out: &mut Output,
+    out: &mut Text,
 ) -> Result<(), AllocError>
     requires bound { bound ≤ size arena.now }
     requires below { IsPlainBelow arena.now.held bound plain }
-    ensures prints { Prints result out.old out.new (spec.scope_of (spec.print (plain_tree arena.now.held (forest arena.now) plain) env).function (spec.whole (spec.print (plain_tree arena.now.held (forest arena.now) plain) env))) }
+    ensures prints { Prints result out.old out.new (spec.scope_of (spec.print (plain_tree arena.now.held (forest
+        arena.now) plain) env).function (spec.whole (spec.print (plain_tree arena.now.held (forest arena.now)
+        plain) env))) }
 {
     print_plain(arena, env, bound, plain, out)
 }
@@ -300,13 +311,15 @@ pub fn print_signature(
     cv: Cv,
     ref_qual: RefQual,
     rest: Parts,
-    out: &mut Output,
+    out: &mut Text,
 ) -> Result<(), AllocError>
     requires bound { bound ≤ size arena.now }
     requires name { name < bound }
     requires params { IsListBelow arena.now.held bound params }
     requires rest { IsPartsBelow arena.now.held bound rest }
-    ensures prints { Prints result out.old out.new (spec.whole (spec.print (tree_at (forest arena.now) name) env) ++ spec.signature_right env [] (spec.items_of (trees_in arena.now.held (forest arena.now) params)) cv ref_qual (spec.print_parts (parts_in arena.now.held (forest arena.now) rest) env)) }
+    ensures prints { Prints result out.old out.new (spec.whole (spec.print (tree_at (forest arena.now) name) env)
+        ++ spec.signature_right env [] (spec.items_of (trees_in arena.now.held (forest arena.now) params)) cv
+        ref_qual (spec.print_parts (parts_in arena.now.held (forest arena.now) rest) env)) }
 {
     tri!(print(arena, env, name, out));
     right_signature(arena, env, bound, params, cv, ref_qual, rest, out)
@@ -319,12 +332,13 @@ fn print_with_args(
     bound: u32,
     name: u32,
     args: List,
-    out: &mut Output,
+    out: &mut Text,
 ) -> Result<(), AllocError>
     requires bound { bound ≤ size arena.now }
     requires name { name < bound }
     requires args { IsListBelow arena.now.held bound args }
-    ensures prints { Prints result out.old out.new ((spec.with_list env (spec.print (tree_at (forest arena.now) name) env) (spec.items_of (trees_in arena.now.held (forest arena.now) args))).text.left) }
+    ensures prints { Prints result out.old out.new ((spec.with_list env (spec.print (tree_at (forest arena.now)
+        name) env) (spec.items_of (trees_in arena.now.held (forest arena.now) args))).text.left) }
 {
     tri!(print(arena, env, name, out));
     tri!(blank_behind_less(arena, env, name, out));
@@ -332,9 +346,10 @@ fn print_with_args(
 }
 
 // Appends a blank behind a name that ends with a `<`, in GNU's style.
-fn blank_behind_less(arena: &Arena, env: Env, name: u32, out: &mut Output) -> Result<(), AllocError>
+fn blank_behind_less(arena: &Arena, env: Env, name: u32, out: &mut Text) -> Result<(), AllocError>
     requires name { name < size arena.now }
-    ensures prints { Prints result out.old out.new (spec.gnu_blank env ending.Less (spec.print (tree_at (forest arena.now) name) env).ends) }
+    ensures prints { Prints result out.old out.new (spec.gnu_blank env ending.Less (spec.print (tree_at (forest
+        arena.now) name) env).ends) }
 {
     if env.is_llvm() {
         return Ok(());
@@ -350,12 +365,13 @@ fn print_abi_tag(
     arena: &Arena,
     env: Env,
     name: u32,
-    tag: Text,
-    out: &mut Output,
+    tag: cxx_tree::Text,
+    out: &mut Text,
 ) -> Result<(), AllocError>
     requires name { name < size arena.now }
     requires tag { IsText arena.now.held tag }
-    ensures prints { Prints result out.old out.new ((spec.print (tree_at (forest arena.now) name) env).text.left ++ (codes "[abi:" ++ (text_at arena.now.held tag ++ codes "]"))) }
+    ensures prints { Prints result out.old out.new ((spec.print (tree_at (forest arena.now) name) env).text.left ++
+        (codes "[abi:" ++ (text_at arena.now.held tag ++ codes "]"))) }
 {
     tri!(print_left(arena, env, name, out));
     tri!(write(out, b"[abi:"));
@@ -369,11 +385,12 @@ fn print_in_module(
     env: Env,
     name: u32,
     owner: u32,
-    out: &mut Output,
+    out: &mut Text,
 ) -> Result<(), AllocError>
     requires name { name < size arena.now }
     requires owner { owner < size arena.now }
-    ensures prints { Prints result out.old out.new (spec.whole (spec.print (tree_at (forest arena.now) name) env) ++ (codes "@" ++ spec.whole (spec.print (tree_at (forest arena.now) owner) env))) }
+    ensures prints { Prints result out.old out.new (spec.whole (spec.print (tree_at (forest arena.now) name) env)
+        ++ (codes "@" ++ spec.whole (spec.print (tree_at (forest arena.now) owner) env))) }
 {
     tri!(print(arena, env, name, out));
     tri!(write(out, b"@"));
@@ -385,12 +402,13 @@ fn print_protocol(
     arena: &Arena,
     env: Env,
     t: u32,
-    protocol: Text,
-    out: &mut Output,
+    protocol: cxx_tree::Text,
+    out: &mut Text,
 ) -> Result<(), AllocError>
     requires within { t < size arena.now }
     requires protocol { IsText arena.now.held protocol }
-    ensures prints { Prints result out.old out.new (spec.whole (spec.print (tree_at (forest arena.now) t) env) ++ (codes "<" ++ (text_at arena.now.held protocol ++ codes ">"))) }
+    ensures prints { Prints result out.old out.new (spec.whole (spec.print (tree_at (forest arena.now) t) env) ++
+        (codes "<" ++ (text_at arena.now.held protocol ++ codes ">"))) }
 {
     tri!(print(arena, env, t, out));
     tri!(write(out, b"<"));
@@ -400,9 +418,10 @@ fn print_protocol(
 
 /// Appends an expansion: its pattern for each element of the packs in it, or the pattern and an ellipsis.
 #[cycle(printer)]
-fn print_expansion(arena: &Arena, env: Env, t: u32, out: &mut Output) -> Result<(), AllocError>
+fn print_expansion(arena: &Arena, env: Env, t: u32, out: &mut Text) -> Result<(), AllocError>
     requires within { t < size arena.now }
-    ensures prints { Prints result out.old out.new (spec.expansion_text env (measure (tree_at (forest arena.now) t)).elements (spec.item (tree_at (forest arena.now) t))) }
+    ensures prints { Prints result out.old out.new (spec.expansion_text env (measure (tree_at (forest arena.now)
+        t)).elements (spec.item (tree_at (forest arena.now) t))) }
 {
     match arena.elements(t) {
         None => print_unexpanded(arena, env.at(None), t, out),
@@ -411,9 +430,10 @@ fn print_expansion(arena: &Arena, env: Env, t: u32, out: &mut Output) -> Result<
 }
 
 #[cycle(printer)]
-fn print_unexpanded(arena: &Arena, env: Env, t: u32, out: &mut Output) -> Result<(), AllocError>
+fn print_unexpanded(arena: &Arena, env: Env, t: u32, out: &mut Text) -> Result<(), AllocError>
     requires within { t < size arena.now }
-    ensures prints { Prints result out.old out.new (spec.operand env prec.Comma true (spec.item (tree_at (forest arena.now) t)) ++ codes "...") }
+    ensures prints { Prints result out.old out.new (spec.operand env prec.Comma true (spec.item (tree_at (forest
+        arena.now) t)) ++ codes "...") }
 {
     tri!(print_operand(arena, env, Prec::Comma, true, t, out));
     write(out, b"...")
@@ -421,13 +441,7 @@ fn print_unexpanded(arena: &Arena, env: Env, t: u32, out: &mut Output) -> Result
 
 /// Appends a pattern for each index of a pack, with commas between.
 #[cycle(printer)]
-fn print_repeated(
-    arena: &Arena,
-    env: Env,
-    n: u32,
-    t: u32,
-    out: &mut Output,
-) -> Result<(), AllocError>
+fn print_repeated(arena: &Arena, env: Env, n: u32, t: u32, out: &mut Text) -> Result<(), AllocError>
     requires within { t < size arena.now }
     ensures prints { Prints result out.old out.new (spec.repeated n 0 env (spec.item (tree_at (forest arena.now) t))) }
 {
@@ -439,21 +453,16 @@ fn print_repeated(
 
 /// Appends a pattern at an index of its packs, with a comma before it if it isn't the first.
 #[cycle(printer)]
-fn print_element(
-    arena: &Arena,
-    env: Env,
-    k: u32,
-    t: u32,
-    out: &mut Output,
-) -> Result<(), AllocError>
+fn print_element(arena: &Arena, env: Env, k: u32, t: u32, out: &mut Text) -> Result<(), AllocError>
     requires within { t < size arena.now }
-    ensures prints { Prints result out.old out.new (spec.separator (nat_eq k 0) ++ spec.whole (spec.print (tree_at (forest arena.now) t) (words.at env (Some k)))) }
+    ensures prints { Prints result out.old out.new (spec.separator (nat_eq k 0) ++ spec.whole (spec.print (tree_at
+        (forest arena.now) t) (words.at env (Some k)))) }
 {
     tri!(write_separator(k == 0, out));
     print(arena, env.at(Some(k)), t, out)
 }
 
-fn write_separator(is_first: bool, out: &mut Output) -> Result<(), AllocError>
+fn write_separator(is_first: bool, out: &mut Text) -> Result<(), AllocError>
     ensures prints { Prints result out.old out.new (spec.separator is_first) }
 {
     if is_first {
@@ -469,11 +478,12 @@ fn print_list(
     env: Env,
     bound: u32,
     items: &[u32],
-    out: &mut Output,
+    out: &mut Text,
 ) -> Result<(), AllocError>
     requires bound { bound ≤ size arena.now }
     requires below { AllByRecursion (λ t. t < bound) items.now }
-    ensures prints { Prints result out.old out.new (spec.list_text env (spec.items_of (trees_at (forest arena.now) items.now))) }
+    ensures prints { Prints result out.old out.new (spec.list_text env (spec.items_of (trees_at (forest arena.now)
+        items.now))) }
 {
     let mut is_first = true;
     for t in items {
@@ -489,10 +499,11 @@ fn print_item(
     env: Env,
     is_first: bool,
     t: u32,
-    out: &mut Output,
+    out: &mut Text,
 ) -> Result<bool, AllocError>
     requires within { t < size arena.now }
-    ensures prints { PrintsItem result out.old out.new is_first (spec.item_text env (spec.item (tree_at (forest arena.now) t))) }
+    ensures prints { PrintsItem result out.old out.new is_first (spec.item_text env (spec.item (tree_at (forest
+        arena.now) t))) }
 {
     let before = out.len();
     tri!(write_separator(is_first, out));
@@ -506,7 +517,7 @@ fn print_item(
 }
 
 #[cycle(printer)]
-fn print_item_text(arena: &Arena, env: Env, t: u32, out: &mut Output) -> Result<(), AllocError>
+fn print_item_text(arena: &Arena, env: Env, t: u32, out: &mut Text) -> Result<(), AllocError>
     requires within { t < size arena.now }
     ensures prints { Prints result out.old out.new (spec.item_text env (spec.item (tree_at (forest arena.now) t))) }
 {
@@ -525,10 +536,11 @@ fn print_operand(
     prec: Prec,
     loose: bool,
     t: u32,
-    out: &mut Output,
+    out: &mut Text,
 ) -> Result<(), AllocError>
     requires within { t < size arena.now }
-    ensures prints { Prints result out.old out.new (spec.operand env prec loose (spec.item (tree_at (forest arena.now) t))) }
+    ensures prints { Prints result out.old out.new (spec.operand env prec loose (spec.item (tree_at (forest
+        arena.now) t))) }
 {
     if is_bare(arena, env, prec, loose, t) {
         return print(arena, env, t, out);
@@ -549,7 +561,7 @@ fn is_bare(arena: &Arena, env: Env, prec: Prec, loose: bool, t: u32) -> bool
 
 /// Appends a tree in parentheses.
 #[cycle(printer)]
-fn print_enclosed(arena: &Arena, env: Env, t: u32, out: &mut Output) -> Result<(), AllocError>
+fn print_enclosed(arena: &Arena, env: Env, t: u32, out: &mut Text) -> Result<(), AllocError>
     requires within { t < size arena.now }
     ensures prints { Prints result out.old out.new (spec.in_parens env (spec.item (tree_at (forest arena.now) t))) }
 {
@@ -565,11 +577,12 @@ fn print_phrase(
     bound: u32,
     phrase: Phrase,
     parts: Parts,
-    out: &mut Output,
+    out: &mut Text,
 ) -> Result<(), AllocError>
     requires bound { bound ≤ size arena.now }
     requires parts { IsPartsBelow arena.now.held bound parts }
-    ensures prints { Prints result out.old out.new ((spec.phrased phrase env (spec.print_parts (parts_in arena.now.held (forest arena.now) parts) (words.within env phrase.guard))).text.left) }
+    ensures prints { Prints result out.old out.new ((spec.phrased phrase env (spec.print_parts (parts_in
+        arena.now.held (forest arena.now) parts) (words.within env phrase.guard))).text.left) }
 {
     let inner = env.within(phrase.guard);
     if !env.is_guarded(phrase.guard) {
@@ -584,11 +597,12 @@ fn print_guarded(
     env: Env,
     bound: u32,
     parts: Parts,
-    out: &mut Output,
+    out: &mut Text,
 ) -> Result<(), AllocError>
     requires bound { bound ≤ size arena.now }
     requires parts { IsPartsBelow arena.now.held bound parts }
-    ensures prints { Prints result out.old out.new (codes "(" ++ ((spec.print_parts (parts_in arena.now.held (forest arena.now) parts) env).text ++ codes ")")) }
+    ensures prints { Prints result out.old out.new (codes "(" ++ ((spec.print_parts (parts_in arena.now.held
+        (forest arena.now) parts) env).text ++ codes ")")) }
 {
     tri!(write(out, b"("));
     tri!(print_parts(arena, env, bound, parts, out));
@@ -601,11 +615,12 @@ fn print_parts(
     env: Env,
     bound: u32,
     parts: Parts,
-    out: &mut Output,
+    out: &mut Text,
 ) -> Result<(), AllocError>
     requires bound { bound ≤ size arena.now }
     requires parts { IsPartsBelow arena.now.held bound parts }
-    ensures prints { Prints result out.old out.new ((spec.print_parts (parts_in arena.now.held (forest arena.now) parts) env).text) }
+    ensures prints { Prints result out.old out.new ((spec.print_parts (parts_in arena.now.held (forest arena.now)
+        parts) env).text) }
 {
     let list = arena.parts_of(parts);
     for part in list {
@@ -620,7 +635,7 @@ fn print_part(
     env: Env,
     bound: u32,
     part: Part,
-    out: &mut Output,
+    out: &mut Text,
 ) -> Result<(), AllocError>
     requires bound { bound ≤ size arena.now }
     requires below { IsPartBelow arena.now.held bound part }
@@ -639,10 +654,12 @@ fn print_tree(
     env: Env,
     manner: Manner,
     t: u32,
-    out: &mut Output,
+    out: &mut Text,
 ) -> Result<(), AllocError>
     requires within { t < size arena.now }
-    ensures prints { Prints result out.old out.new (spec.part_text manner (heads.is_designator (tree_at (forest arena.now) t)) (heads.count_of (tree_at (forest arena.now) t)) (measure (tree_at (forest arena.now) t)).elements env (spec.item (tree_at (forest arena.now) t))) }
+    ensures prints { Prints result out.old out.new (spec.part_text manner (heads.is_designator (tree_at (forest
+        arena.now) t)) (heads.count_of (tree_at (forest arena.now) t)) (measure (tree_at (forest arena.now)
+        t)).elements env (spec.item (tree_at (forest arena.now) t))) }
 {
     match manner {
         Manner::Whole(context) => print(arena, env.in_context(context), t, out),
@@ -659,7 +676,7 @@ fn print_tree(
 
 /// Appends a function that is called. In GNU's style it has no parameters.
 #[cycle(printer)]
-fn print_callee(arena: &Arena, env: Env, t: u32, out: &mut Output) -> Result<(), AllocError>
+fn print_callee(arena: &Arena, env: Env, t: u32, out: &mut Text) -> Result<(), AllocError>
     requires within { t < size arena.now }
     ensures prints { Prints result out.old out.new (spec.callee_text env (spec.item (tree_at (forest arena.now) t))) }
 {
@@ -686,10 +703,11 @@ fn print_address(
     env: Env,
     prec: Prec,
     t: u32,
-    out: &mut Output,
+    out: &mut Text,
 ) -> Result<(), AllocError>
     requires within { t < size arena.now }
-    ensures prints { Prints result out.old out.new (spec.address_text env prec (spec.item (tree_at (forest arena.now) t))) }
+    ensures prints { Prints result out.old out.new (spec.address_text env prec (spec.item (tree_at (forest
+        arena.now) t))) }
 {
     if env.is_llvm() {
         return print_operand(arena, env, prec, false, t, out);
@@ -707,9 +725,10 @@ fn print_address(
 
 /// Appends a value behind a designator.
 #[cycle(printer)]
-fn print_value(arena: &Arena, env: Env, t: u32, out: &mut Output) -> Result<(), AllocError>
+fn print_value(arena: &Arena, env: Env, t: u32, out: &mut Text) -> Result<(), AllocError>
     requires within { t < size arena.now }
-    ensures prints { Prints result out.old out.new (spec.value_text env (heads.is_designator (tree_at (forest arena.now) t)) (spec.item (tree_at (forest arena.now) t))) }
+    ensures prints { Prints result out.old out.new (spec.value_text env (heads.is_designator (tree_at (forest
+        arena.now) t)) (spec.item (tree_at (forest arena.now) t))) }
 {
     if is_designator(arena, t) {
         return print(arena, env, t, out);
@@ -718,7 +737,7 @@ fn print_value(arena: &Arena, env: Env, t: u32, out: &mut Output) -> Result<(), 
     print_operand(arena, env, Prec::Comma, true, t, out)
 }
 
-fn write_equals(env: Env, out: &mut Output) -> Result<(), AllocError>
+fn write_equals(env: Env, out: &mut Text) -> Result<(), AllocError>
     ensures prints { Prints result out.old out.new (words.styled env (codes " = ") (codes "=")) }
 {
     if env.is_llvm() {
@@ -729,7 +748,7 @@ fn write_equals(env: Env, out: &mut Output) -> Result<(), AllocError>
 
 /// Appends the only argument of a conversion.
 #[cycle(printer)]
-fn print_argument(arena: &Arena, env: Env, t: u32, out: &mut Output) -> Result<(), AllocError>
+fn print_argument(arena: &Arena, env: Env, t: u32, out: &mut Text) -> Result<(), AllocError>
     requires within { t < size arena.now }
     ensures prints { Prints result out.old out.new (spec.argument_text env (spec.item (tree_at (forest arena.now) t))) }
 {
@@ -748,10 +767,11 @@ fn print_count(
     env: Env,
     has_blank: bool,
     t: u32,
-    out: &mut Output,
+    out: &mut Text,
 ) -> Result<(), AllocError>
     requires within { t < size arena.now }
-    ensures prints { Prints result out.old out.new (spec.count_text env has_blank (heads.count_of (tree_at (forest arena.now) t)) (spec.item (tree_at (forest arena.now) t))) }
+    ensures prints { Prints result out.old out.new (spec.count_text env has_blank (heads.count_of (tree_at (forest
+        arena.now) t)) (spec.item (tree_at (forest arena.now) t))) }
 {
     if env.is_llvm() {
         return print_sizeof(arena, env, has_blank, t, out);
@@ -768,16 +788,17 @@ fn print_sizeof(
     env: Env,
     has_blank: bool,
     t: u32,
-    out: &mut Output,
+    out: &mut Text,
 ) -> Result<(), AllocError>
     requires within { t < size arena.now }
-    ensures prints { Prints result out.old out.new (spec.sizeof_word has_blank ++ spec.in_parens env (spec.item (tree_at (forest arena.now) t))) }
+    ensures prints { Prints result out.old out.new (spec.sizeof_word has_blank ++ spec.in_parens env (spec.item
+        (tree_at (forest arena.now) t))) }
 {
     tri!(write_sizeof(has_blank, out));
     print_enclosed(arena, env, t, out)
 }
 
-fn write_sizeof(has_blank: bool, out: &mut Output) -> Result<(), AllocError>
+fn write_sizeof(has_blank: bool, out: &mut Text) -> Result<(), AllocError>
     ensures prints { Prints result out.old out.new (spec.sizeof_word has_blank) }
 {
     if has_blank {
@@ -787,7 +808,7 @@ fn write_sizeof(has_blank: bool, out: &mut Output) -> Result<(), AllocError>
 }
 
 // Appends a number.
-fn write_number(n: u64, out: &mut Output) -> Result<(), AllocError>
+fn write_number(n: u64, out: &mut Text) -> Result<(), AllocError>
     ensures prints { Prints result out.old out.new (decimal n) }
 {
     let mut spare = [0; MOST_DIGITS];
@@ -796,9 +817,10 @@ fn write_number(n: u64, out: &mut Output) -> Result<(), AllocError>
 
 /// Appends a pack that a fold expression folds.
 #[cycle(printer)]
-fn print_folded(arena: &Arena, env: Env, t: u32, out: &mut Output) -> Result<(), AllocError>
+fn print_folded(arena: &Arena, env: Env, t: u32, out: &mut Text) -> Result<(), AllocError>
     requires within { t < size arena.now }
-    ensures prints { Prints result out.old out.new (spec.folded_text env (measure (tree_at (forest arena.now) t)).elements (spec.item (tree_at (forest arena.now) t))) }
+    ensures prints { Prints result out.old out.new (spec.folded_text env (measure (tree_at (forest arena.now)
+        t)).elements (spec.item (tree_at (forest arena.now) t))) }
 {
     if !env.is_llvm() {
         if arena.elements(t).is_none() {
@@ -817,11 +839,12 @@ fn print_trees(
     bound: u32,
     listing: Listing,
     list: List,
-    out: &mut Output,
+    out: &mut Text,
 ) -> Result<(), AllocError>
     requires bound { bound ≤ size arena.now }
     requires below { IsListBelow arena.now.held bound list }
-    ensures prints { Prints result out.old out.new (spec.list_of listing env (spec.items_of (trees_in arena.now.held (forest arena.now) list))) }
+    ensures prints { Prints result out.old out.new (spec.list_of listing env (spec.items_of (trees_in
+        arena.now.held (forest arena.now) list))) }
 {
     match listing {
         Listing::Items => print_list(arena, env, bound, arena.items(list), out),
@@ -839,11 +862,12 @@ pub fn print_parens(
     env: Env,
     bound: u32,
     list: List,
-    out: &mut Output,
+    out: &mut Text,
 ) -> Result<(), AllocError>
     requires bound { bound ≤ size arena.now }
     requires below { IsListBelow arena.now.held bound list }
-    ensures prints { Prints result out.old out.new (spec.parens env (spec.items_of (trees_in arena.now.held (forest arena.now) list))) }
+    ensures prints { Prints result out.old out.new (spec.parens env (spec.items_of (trees_in arena.now.held (forest
+        arena.now) list))) }
 {
     tri!(write(out, b"("));
     tri!(print_list(arena, env.enclosed(), bound, arena.items(list), out));
@@ -856,11 +880,12 @@ fn print_angles(
     env: Env,
     bound: u32,
     list: List,
-    out: &mut Output,
+    out: &mut Text,
 ) -> Result<(), AllocError>
     requires bound { bound ≤ size arena.now }
     requires below { IsListBelow arena.now.held bound list }
-    ensures prints { Prints result out.old out.new (spec.angles env (spec.items_of (trees_in arena.now.held (forest arena.now) list))) }
+    ensures prints { Prints result out.old out.new (spec.angles env (spec.items_of (trees_in arena.now.held (forest
+        arena.now) list))) }
 {
     tri!(write(out, b"<"));
     tri!(print_list(arena, env.in_angle(), bound, arena.items(list), out));
@@ -874,11 +899,12 @@ fn blank_behind_greater(
     env: Env,
     bound: u32,
     items: &[u32],
-    out: &mut Output,
+    out: &mut Text,
 ) -> Result<(), AllocError>
     requires bound { bound ≤ size arena.now }
     requires below { AllByRecursion (λ t. t < bound) items.now }
-    ensures prints { Prints result out.old out.new (spec.gnu_blank env ending.Greater (spec.last_ends env (spec.items_of (trees_at (forest arena.now) items.now)))) }
+    ensures prints { Prints result out.old out.new (spec.gnu_blank env ending.Greater (spec.last_ends env
+        (spec.items_of (trees_at (forest arena.now) items.now)))) }
 {
     if env.is_llvm() {
         return Ok(());
@@ -895,11 +921,12 @@ fn print_sequence(
     env: Env,
     bound: u32,
     items: &[u32],
-    out: &mut Output,
+    out: &mut Text,
 ) -> Result<(), AllocError>
     requires bound { bound ≤ size arena.now }
     requires below { AllByRecursion (λ t. t < bound) items.now }
-    ensures prints { Prints result out.old out.new (spec.sequence env (spec.items_of (trees_at (forest arena.now) items.now))) }
+    ensures prints { Prints result out.old out.new (spec.sequence env (spec.items_of (trees_at (forest arena.now)
+        items.now))) }
 {
     for t in items {
         tri!(print(arena, env, *t, out));
@@ -914,11 +941,12 @@ fn print_declarations(
     env: Env,
     bound: u32,
     list: List,
-    out: &mut Output,
+    out: &mut Text,
 ) -> Result<(), AllocError>
     requires bound { bound ≤ size arena.now }
     requires below { IsListBelow arena.now.held bound list }
-    ensures prints { Prints result out.old out.new (spec.declarations_text env (spec.items_of (trees_in arena.now.held (forest arena.now) list))) }
+    ensures prints { Prints result out.old out.new (spec.declarations_text env (spec.items_of (trees_in
+        arena.now.held (forest arena.now) list))) }
 {
     if env.is_llvm() {
         return print_angles(arena, env, bound, list, out);
@@ -934,11 +962,12 @@ fn print_declared_list(
     env: Env,
     bound: u32,
     items: &[u32],
-    out: &mut Output,
+    out: &mut Text,
 ) -> Result<(), AllocError>
     requires bound { bound ≤ size arena.now }
     requires below { AllByRecursion (λ t. t < bound) items.now }
-    ensures prints { Prints result out.old out.new (spec.declarations true env (spec.items_of (trees_at (forest arena.now) items.now))) }
+    ensures prints { Prints result out.old out.new (spec.declarations true env (spec.items_of (trees_at (forest
+        arena.now) items.now))) }
 {
     let mut is_first = true;
     for t in items {
@@ -954,10 +983,11 @@ fn print_declared(
     env: Env,
     is_first: bool,
     t: u32,
-    out: &mut Output,
+    out: &mut Text,
 ) -> Result<(), AllocError>
     requires within { t < size arena.now }
-    ensures prints { Prints result out.old out.new (spec.separator is_first ++ spec.declared (spec.print (tree_at (forest arena.now) t) env)) }
+    ensures prints { Prints result out.old out.new (spec.separator is_first ++ spec.declared (spec.print (tree_at
+        (forest arena.now) t) env)) }
 {
     tri!(write_separator(is_first, out));
     print_whole_declaration(arena, env, t, out)
@@ -968,7 +998,7 @@ fn print_whole_declaration(
     arena: &Arena,
     env: Env,
     t: u32,
-    out: &mut Output,
+    out: &mut Text,
 ) -> Result<(), AllocError>
     requires within { t < size arena.now }
     ensures prints { Prints result out.old out.new (spec.declared (spec.print (tree_at (forest arena.now) t) env)) }
@@ -980,7 +1010,7 @@ fn print_whole_declaration(
 
 /// Appends a declaration of a template parameter without its name, as GNU's style has it.
 #[cycle(printer)]
-fn print_head(arena: &Arena, env: Env, t: u32, out: &mut Output) -> Result<(), AllocError>
+fn print_head(arena: &Arena, env: Env, t: u32, out: &mut Text) -> Result<(), AllocError>
     requires within { t < size arena.now }
     ensures prints { Prints result out.old out.new (spec.head (spec.print (tree_at (forest arena.now) t) env)) }
 {
@@ -997,11 +1027,12 @@ fn head_of_plain(
     env: Env,
     bound: u32,
     plain: Plain,
-    out: &mut Output,
+    out: &mut Text,
 ) -> Result<(), AllocError>
     requires bound { bound ≤ size arena.now }
     requires below { IsPlainBelow arena.now.held bound plain }
-    ensures prints { Prints result out.old out.new (spec.head (spec.print (plain_tree arena.now.held (forest arena.now) plain) env)) }
+    ensures prints { Prints result out.old out.new (spec.head (spec.print (plain_tree arena.now.held (forest
+        arena.now) plain) env)) }
 {
     print_plain(arena, env, bound, plain, out)
 }
@@ -1012,11 +1043,12 @@ fn head_of_declaration(
     env: Env,
     bound: u32,
     declaration: Declaration,
-    out: &mut Output,
+    out: &mut Text,
 ) -> Result<(), AllocError>
     requires bound { bound ≤ size arena.now }
     requires below { IsDeclarationBelow arena.now.held bound declaration }
-    ensures prints { Prints result out.old out.new (spec.head (spec.print (declaration_tree arena.now.held (forest arena.now) declaration) env)) }
+    ensures prints { Prints result out.old out.new (spec.head (spec.print (declaration_tree arena.now.held (forest
+        arena.now) declaration) env)) }
 {
     match declaration {
         Declaration::TypeParam(constraint, _) => print(arena, env, constraint, out),
@@ -1033,9 +1065,10 @@ fn head_of_declaration(
 }
 
 #[cycle(printer)]
-fn print_pack_head(arena: &Arena, env: Env, d: u32, out: &mut Output) -> Result<(), AllocError>
+fn print_pack_head(arena: &Arena, env: Env, d: u32, out: &mut Text) -> Result<(), AllocError>
     requires d { d < size arena.now }
-    ensures prints { Prints result out.old out.new (spec.head (spec.print (tree_at (forest arena.now) d) env) ++ codes "...") }
+    ensures prints { Prints result out.old out.new (spec.head (spec.print (tree_at (forest arena.now) d) env) ++
+        codes "...") }
 {
     tri!(print_head(arena, env, d, out));
     write(out, b"...")
@@ -1047,11 +1080,12 @@ fn print_template_head(
     env: Env,
     bound: u32,
     items: &[u32],
-    out: &mut Output,
+    out: &mut Text,
 ) -> Result<(), AllocError>
     requires bound { bound ≤ size arena.now }
     requires below { AllByRecursion (λ t. t < bound) items.now }
-    ensures prints { Prints result out.old out.new (codes "template<" ++ (spec.heads true env (spec.items_of (trees_at (forest arena.now) items.now)) ++ codes "> class")) }
+    ensures prints { Prints result out.old out.new (codes "template<" ++ (spec.heads true env (spec.items_of
+        (trees_at (forest arena.now) items.now)) ++ codes "> class")) }
 {
     tri!(write(out, b"template<"));
     tri!(print_heads(arena, env, bound, items, out));
@@ -1064,11 +1098,12 @@ fn print_heads(
     env: Env,
     bound: u32,
     items: &[u32],
-    out: &mut Output,
+    out: &mut Text,
 ) -> Result<(), AllocError>
     requires bound { bound ≤ size arena.now }
     requires below { AllByRecursion (λ t. t < bound) items.now }
-    ensures prints { Prints result out.old out.new (spec.heads true env (spec.items_of (trees_at (forest arena.now) items.now))) }
+    ensures prints { Prints result out.old out.new (spec.heads true env (spec.items_of (trees_at (forest arena.now)
+        items.now))) }
 {
     let mut is_first = true;
     for t in items {
@@ -1084,10 +1119,11 @@ fn print_next_head(
     env: Env,
     is_first: bool,
     t: u32,
-    out: &mut Output,
+    out: &mut Text,
 ) -> Result<(), AllocError>
     requires within { t < size arena.now }
-    ensures prints { Prints result out.old out.new (spec.separator is_first ++ spec.head (spec.print (tree_at (forest arena.now) t) env)) }
+    ensures prints { Prints result out.old out.new (spec.separator is_first ++ spec.head (spec.print (tree_at
+        (forest arena.now) t) env)) }
 {
     tri!(write_separator(is_first, out));
     print_head(arena, env, t, out)
@@ -1095,9 +1131,10 @@ fn print_next_head(
 
 /// Appends the name that a declaration declares.
 #[cycle(printer)]
-fn print_declared_name(arena: &Arena, env: Env, t: u32, out: &mut Output) -> Result<(), AllocError>
+fn print_declared_name(arena: &Arena, env: Env, t: u32, out: &mut Text) -> Result<(), AllocError>
     requires within { t < size arena.now }
-    ensures prints { Prints result out.old out.new (spec.declared_name (spec.print (tree_at (forest arena.now) t) env)) }
+    ensures prints { Prints result out.old out.new (spec.declared_name (spec.print (tree_at (forest arena.now) t)
+        env)) }
 {
     match arena.node(t) {
         Node::Declaration(declaration) => name_of_declaration(arena, env, t, declaration, out),
@@ -1107,8 +1144,9 @@ fn print_declared_name(arena: &Arena, env: Env, t: u32, out: &mut Output) -> Res
 }
 
 // Appends nothing, since a tree with one side declares nothing.
-fn name_of_plain(arena: &Arena, env: Env, plain: Plain, out: &mut Output) -> Result<(), AllocError>
-    ensures prints { Prints result out.old out.new (spec.declared_name (spec.print (plain_tree arena.now.held (forest arena.now) plain) env)) }
+fn name_of_plain(arena: &Arena, env: Env, plain: Plain, out: &mut Text) -> Result<(), AllocError>
+    ensures prints { Prints result out.old out.new (spec.declared_name (spec.print (plain_tree arena.now.held
+        (forest arena.now) plain) env)) }
 {
     match plain {
         Plain::Scoped(is_friend, _, _) => if is_friend { Ok(()) } else { Ok(()) },
@@ -1122,11 +1160,12 @@ fn name_of_declaration(
     env: Env,
     bound: u32,
     declaration: Declaration,
-    out: &mut Output,
+    out: &mut Text,
 ) -> Result<(), AllocError>
     requires bound { bound ≤ size arena.now }
     requires below { IsDeclarationBelow arena.now.held bound declaration }
-    ensures prints { Prints result out.old out.new (spec.declared_name (spec.print (declaration_tree arena.now.held (forest arena.now) declaration) env)) }
+    ensures prints { Prints result out.old out.new (spec.declared_name (spec.print (declaration_tree arena.now.held
+        (forest arena.now) declaration) env)) }
 {
     match declaration {
         Declaration::TypeParam(_, name) => print(arena, env, name, out),
@@ -1142,11 +1181,12 @@ fn left_declaration(
     env: Env,
     bound: u32,
     declaration: Declaration,
-    out: &mut Output,
+    out: &mut Text,
 ) -> Result<(), AllocError>
     requires bound { bound ≤ size arena.now }
     requires below { IsDeclarationBelow arena.now.held bound declaration }
-    ensures prints { Prints result out.old out.new ((spec.print (declaration_tree arena.now.held (forest arena.now) declaration) env).text.left) }
+    ensures prints { Prints result out.old out.new ((spec.print (declaration_tree arena.now.held (forest arena.now)
+        declaration) env).text.left) }
 {
     match declaration {
         Declaration::TypeParam(constraint, _) => left_type_param(arena, env, constraint, out),
@@ -1167,10 +1207,11 @@ fn left_type_param(
     arena: &Arena,
     env: Env,
     constraint: u32,
-    out: &mut Output,
+    out: &mut Text,
 ) -> Result<(), AllocError>
     requires constraint { constraint < size arena.now }
-    ensures prints { Prints result out.old out.new (spec.whole (spec.print (tree_at (forest arena.now) constraint) env) ++ codes " ") }
+    ensures prints { Prints result out.old out.new (spec.whole (spec.print (tree_at (forest arena.now) constraint)
+        env) ++ codes " ") }
 {
     tri!(print(arena, env, constraint, out));
     write(out, b" ")
@@ -1178,15 +1219,16 @@ fn left_type_param(
 
 /// Appends the left side of a type, and a blank unless it has a right one.
 #[cycle(printer)]
-fn left_non_type(arena: &Arena, env: Env, t: u32, out: &mut Output) -> Result<(), AllocError>
+fn left_non_type(arena: &Arena, env: Env, t: u32, out: &mut Text) -> Result<(), AllocError>
     requires within { t < size arena.now }
-    ensures prints { Prints result out.old out.new ((spec.print (tree_at (forest arena.now) t) env).text.left ++ spec.blank_unless (spec.print (tree_at (forest arena.now) t) env).has_right) }
+    ensures prints { Prints result out.old out.new ((spec.print (tree_at (forest arena.now) t) env).text.left ++
+        spec.blank_unless (spec.print (tree_at (forest arena.now) t) env).has_right) }
 {
     tri!(print_left(arena, env, t, out));
     write_blank_unless(has_right(arena, env, t), out)
 }
 
-fn write_blank_unless(has_right: bool, out: &mut Output) -> Result<(), AllocError>
+fn write_blank_unless(has_right: bool, out: &mut Text) -> Result<(), AllocError>
     ensures prints { Prints result out.old out.new (spec.blank_unless has_right) }
 {
     if has_right {
@@ -1201,11 +1243,12 @@ fn left_template(
     env: Env,
     bound: u32,
     list: List,
-    out: &mut Output,
+    out: &mut Text,
 ) -> Result<(), AllocError>
     requires bound { bound ≤ size arena.now }
     requires below { IsListBelow arena.now.held bound list }
-    ensures prints { Prints result out.old out.new (codes "template" ++ (spec.angles env (spec.items_of (trees_in arena.now.held (forest arena.now) list)) ++ codes " typename ")) }
+    ensures prints { Prints result out.old out.new (codes "template" ++ (spec.angles env (spec.items_of (trees_in
+        arena.now.held (forest arena.now) list)) ++ codes " typename ")) }
 {
     tri!(write(out, b"template"));
     tri!(print_angles(arena, env, bound, list, out));
@@ -1213,9 +1256,10 @@ fn left_template(
 }
 
 #[cycle(printer)]
-fn left_pack_param(arena: &Arena, env: Env, d: u32, out: &mut Output) -> Result<(), AllocError>
+fn left_pack_param(arena: &Arena, env: Env, d: u32, out: &mut Text) -> Result<(), AllocError>
     requires d { d < size arena.now }
-    ensures prints { Prints result out.old out.new ((spec.print (tree_at (forest arena.now) d) env).text.left ++ codes "...") }
+    ensures prints { Prints result out.old out.new ((spec.print (tree_at (forest arena.now) d) env).text.left ++
+        codes "...") }
 {
     tri!(print_left(arena, env, d, out));
     write(out, b"...")
@@ -1227,11 +1271,12 @@ fn right_declaration(
     env: Env,
     bound: u32,
     declaration: Declaration,
-    out: &mut Output,
+    out: &mut Text,
 ) -> Result<(), AllocError>
     requires bound { bound ≤ size arena.now }
     requires below { IsDeclarationBelow arena.now.held bound declaration }
-    ensures prints { Prints result out.old out.new ((spec.print (declaration_tree arena.now.held (forest arena.now) declaration) env).text.right) }
+    ensures prints { Prints result out.old out.new ((spec.print (declaration_tree arena.now.held (forest arena.now)
+        declaration) env).text.right) }
 {
     match declaration {
         Declaration::TypeParam(_, name) => print(arena, env, name, out),
@@ -1249,11 +1294,12 @@ fn right_non_type(
     env: Env,
     name: u32,
     t: u32,
-    out: &mut Output,
+    out: &mut Text,
 ) -> Result<(), AllocError>
     requires name { name < size arena.now }
     requires within { t < size arena.now }
-    ensures prints { Prints result out.old out.new (spec.whole (spec.print (tree_at (forest arena.now) name) env) ++ spec.right_behind false (spec.print (tree_at (forest arena.now) t) env).text) }
+    ensures prints { Prints result out.old out.new (spec.whole (spec.print (tree_at (forest arena.now) name) env)
+        ++ spec.right_behind false (spec.print (tree_at (forest arena.now) t) env).text) }
 {
     tri!(print(arena, env, name, out));
     print_right(arena, env, t, false, out)
@@ -1266,36 +1312,33 @@ fn right_template(
     bound: u32,
     name: u32,
     rest: Parts,
-    out: &mut Output,
+    out: &mut Text,
 ) -> Result<(), AllocError>
     requires bound { bound ≤ size arena.now }
     requires name { name < bound }
     requires rest { IsPartsBelow arena.now.held bound rest }
-    ensures prints { Prints result out.old out.new (spec.whole (spec.print (tree_at (forest arena.now) name) env) ++ (spec.print_parts (parts_in arena.now.held (forest arena.now) rest) env).text) }
+    ensures prints { Prints result out.old out.new (spec.whole (spec.print (tree_at (forest arena.now) name) env)
+        ++ (spec.print_parts (parts_in arena.now.held (forest arena.now) rest) env).text) }
 {
     tri!(print(arena, env, name, out));
     print_parts(arena, env, bound, rest, out)
 }
 
 #[cycle(printer)]
-fn left_qualified(
-    arena: &Arena,
-    env: Env,
-    t: u32,
-    cv: Cv,
-    out: &mut Output,
-) -> Result<(), AllocError>
+fn left_qualified(arena: &Arena, env: Env, t: u32, cv: Cv, out: &mut Text) -> Result<(), AllocError>
     requires within { t < size arena.now }
-    ensures prints { Prints result out.old out.new ((spec.print (tree_at (forest arena.now) t) env).text.left ++ words.cv_text cv) }
+    ensures prints { Prints result out.old out.new ((spec.print (tree_at (forest arena.now) t) env).text.left ++
+        words.cv_text cv) }
 {
     tri!(print_left(arena, env, t, out));
     write(out, cv_text(cv))
 }
 
 #[cycle(printer)]
-fn left_pointer(arena: &Arena, env: Env, t: u32, out: &mut Output) -> Result<(), AllocError>
+fn left_pointer(arena: &Arena, env: Env, t: u32, out: &mut Text) -> Result<(), AllocError>
     requires within { t < size arena.now }
-    ensures prints { Prints result out.old out.new ((spec.pointed (heads.protocol_of (tree_at (forest arena.now) t)) (spec.print (tree_at (forest arena.now) t) env)).text.left) }
+    ensures prints { Prints result out.old out.new ((spec.pointed (heads.protocol_of (tree_at (forest arena.now)
+        t)) (spec.print (tree_at (forest arena.now) t) env)).text.left) }
 {
     match protocol_of(arena, t) {
         None => left_plain_pointer(arena, env, t, out),
@@ -1303,7 +1346,7 @@ fn left_pointer(arena: &Arena, env: Env, t: u32, out: &mut Output) -> Result<(),
     }
 }
 
-fn write_id(protocol: &[u8], out: &mut Output) -> Result<(), AllocError>
+fn write_id(protocol: &[u8], out: &mut Text) -> Result<(), AllocError>
     ensures prints { Prints result out.old out.new (codes "id<" ++ (protocol.now ++ codes ">")) }
 {
     tri!(write(out, b"id<"));
@@ -1312,9 +1355,10 @@ fn write_id(protocol: &[u8], out: &mut Output) -> Result<(), AllocError>
 }
 
 #[cycle(printer)]
-fn left_plain_pointer(arena: &Arena, env: Env, t: u32, out: &mut Output) -> Result<(), AllocError>
+fn left_plain_pointer(arena: &Arena, env: Env, t: u32, out: &mut Text) -> Result<(), AllocError>
     requires within { t < size arena.now }
-    ensures prints { Prints result out.old out.new ((spec.print (tree_at (forest arena.now) t) env).text.left ++ (words.opened (spec.print (tree_at (forest arena.now) t) env).text.form ++ codes "*")) }
+    ensures prints { Prints result out.old out.new ((spec.print (tree_at (forest arena.now) t) env).text.left ++
+        (words.opened (spec.print (tree_at (forest arena.now) t) env).text.form ++ codes "*")) }
 {
     tri!(print_left(arena, env, t, out));
     tri!(write(out, opened(form_of(arena, env, t))));
@@ -1322,9 +1366,10 @@ fn left_plain_pointer(arena: &Arena, env: Env, t: u32, out: &mut Output) -> Resu
 }
 
 #[cycle(printer)]
-fn right_pointer(arena: &Arena, env: Env, t: u32, out: &mut Output) -> Result<(), AllocError>
+fn right_pointer(arena: &Arena, env: Env, t: u32, out: &mut Text) -> Result<(), AllocError>
     requires within { t < size arena.now }
-    ensures prints { Prints result out.old out.new ((spec.pointed (heads.protocol_of (tree_at (forest arena.now) t)) (spec.print (tree_at (forest arena.now) t) env)).text.right) }
+    ensures prints { Prints result out.old out.new ((spec.pointed (heads.protocol_of (tree_at (forest arena.now)
+        t)) (spec.print (tree_at (forest arena.now) t) env)).text.right) }
 {
     match protocol_of(arena, t) {
         None => right_behind(arena, env, t, out),
@@ -1334,9 +1379,10 @@ fn right_pointer(arena: &Arena, env: Env, t: u32, out: &mut Output) -> Result<()
 
 /// Appends the right side of a type behind a pointer to it.
 #[cycle(printer)]
-fn right_behind(arena: &Arena, env: Env, t: u32, out: &mut Output) -> Result<(), AllocError>
+fn right_behind(arena: &Arena, env: Env, t: u32, out: &mut Text) -> Result<(), AllocError>
     requires within { t < size arena.now }
-    ensures prints { Prints result out.old out.new (words.closed (spec.print (tree_at (forest arena.now) t) env).text.form ++ spec.right_behind false (spec.print (tree_at (forest arena.now) t) env).text) }
+    ensures prints { Prints result out.old out.new (words.closed (spec.print (tree_at (forest arena.now) t)
+        env).text.form ++ spec.right_behind false (spec.print (tree_at (forest arena.now) t) env).text) }
 {
     tri!(write(out, closed(form_of(arena, env, t))));
     print_right(arena, env, t, false, out)
@@ -1348,10 +1394,11 @@ fn left_reference(
     env: Env,
     is_lvalue: bool,
     t: u32,
-    out: &mut Output,
+    out: &mut Text,
 ) -> Result<(), AllocError>
     requires within { t < size arena.now }
-    ensures prints { Prints result out.old out.new ((spec.referred is_lvalue (spec.print (tree_at (forest arena.now) t) env)).text.left) }
+    ensures prints { Prints result out.old out.new ((spec.referred is_lvalue (spec.print (tree_at (forest
+        arena.now) t) env)).text.left) }
 {
     let referent = referent_of(arena, env, is_lvalue, t);
     match referent.base {
@@ -1366,10 +1413,11 @@ fn left_base(
     env: Env,
     is_lvalue: bool,
     t: u32,
-    out: &mut Output,
+    out: &mut Text,
 ) -> Result<(), AllocError>
     requires within { t < size arena.now }
-    ensures prints { Prints result out.old out.new ((spec.refers is_lvalue (spec.print (tree_at (forest arena.now) t) env).text).left) }
+    ensures prints { Prints result out.old out.new ((spec.refers is_lvalue (spec.print (tree_at (forest arena.now)
+        t) env).text).left) }
 {
     tri!(print_left(arena, env, t, out));
     tri!(write(out, opened(form_of(arena, env, t))));
@@ -1382,10 +1430,11 @@ fn right_reference(
     env: Env,
     is_lvalue: bool,
     t: u32,
-    out: &mut Output,
+    out: &mut Text,
 ) -> Result<(), AllocError>
     requires within { t < size arena.now }
-    ensures prints { Prints result out.old out.new ((spec.referred is_lvalue (spec.print (tree_at (forest arena.now) t) env)).text.right) }
+    ensures prints { Prints result out.old out.new ((spec.referred is_lvalue (spec.print (tree_at (forest
+        arena.now) t) env)).text.right) }
 {
     match referent_of(arena, env, is_lvalue, t).base {
         None => Ok(()),
@@ -1399,11 +1448,12 @@ fn left_member(
     env: Env,
     class: u32,
     member: u32,
-    out: &mut Output,
+    out: &mut Text,
 ) -> Result<(), AllocError>
     requires class { class < size arena.now }
     requires member { member < size arena.now }
-    ensures prints { Prints result out.old out.new ((spec.member_of env.style (spec.print (tree_at (forest arena.now) class) env) (spec.print (tree_at (forest arena.now) member) env)).text.left) }
+    ensures prints { Prints result out.old out.new ((spec.member_of env.style (spec.print (tree_at (forest
+        arena.now) class) env) (spec.print (tree_at (forest arena.now) member) env)).text.left) }
 {
     tri!(print_left(arena, env, member, out));
     tri!(write(out, member_opened(env.style, form_of(arena, env, member))));
@@ -1419,12 +1469,14 @@ fn right_array(
     element: u32,
     dimension: Parts,
     joined: bool,
-    out: &mut Output,
+    out: &mut Text,
 ) -> Result<(), AllocError>
     requires bound { bound ≤ size arena.now }
     requires element { element < bound }
     requires dimension { IsPartsBelow arena.now.held bound dimension }
-    ensures prints { Prints result out.old out.new (spec.right_behind joined (spec.arrayed (spec.print (tree_at (forest arena.now) element) env) (spec.print_parts (parts_in arena.now.held (forest arena.now) dimension) env)).text) }
+    ensures prints { Prints result out.old out.new (spec.right_behind joined (spec.arrayed (spec.print (tree_at
+        (forest arena.now) element) env) (spec.print_parts (parts_in arena.now.held (forest arena.now) dimension)
+        env)).text) }
 {
     tri!(write_blank_unless(joined, out));
     right_bracket(arena, env, bound, element, dimension, out)
@@ -1437,12 +1489,14 @@ fn right_bracket(
     bound: u32,
     element: u32,
     dimension: Parts,
-    out: &mut Output,
+    out: &mut Text,
 ) -> Result<(), AllocError>
     requires bound { bound ≤ size arena.now }
     requires element { element < bound }
     requires dimension { IsPartsBelow arena.now.held bound dimension }
-    ensures prints { Prints result out.old out.new (codes "[" ++ ((spec.print_parts (parts_in arena.now.held (forest arena.now) dimension) env).text ++ (codes "]" ++ (spec.print (tree_at (forest arena.now) element) env).text.right))) }
+    ensures prints { Prints result out.old out.new (codes "[" ++ ((spec.print_parts (parts_in arena.now.held
+        (forest arena.now) dimension) env).text ++ (codes "]" ++ (spec.print (tree_at (forest arena.now) element)
+        env).text.right))) }
 {
     tri!(write(out, b"["));
     tri!(print_parts(arena, env, bound, dimension, out));
@@ -1452,7 +1506,7 @@ fn right_bracket(
 
 // Appends the right side of a type behind a bracket.
 #[cycle(printer)]
-fn print_joined(arena: &Arena, env: Env, t: u32, out: &mut Output) -> Result<(), AllocError>
+fn print_joined(arena: &Arena, env: Env, t: u32, out: &mut Text) -> Result<(), AllocError>
     requires within { t < size arena.now }
     ensures prints { Prints result out.old out.new ((spec.print (tree_at (forest arena.now) t) env).text.right) }
 {
@@ -1460,17 +1514,19 @@ fn print_joined(arena: &Arena, env: Env, t: u32, out: &mut Output) -> Result<(),
 }
 
 #[cycle(printer)]
-fn left_function(arena: &Arena, env: Env, ret: u32, out: &mut Output) -> Result<(), AllocError>
+fn left_function(arena: &Arena, env: Env, ret: u32, out: &mut Text) -> Result<(), AllocError>
     requires ret { ret < size arena.now }
-    ensures prints { Prints result out.old out.new ((spec.print (tree_at (forest arena.now) ret) env).text.left ++ spec.function_blank env (spec.print (tree_at (forest arena.now) ret) env)) }
+    ensures prints { Prints result out.old out.new ((spec.print (tree_at (forest arena.now) ret) env).text.left ++
+        spec.function_blank env (spec.print (tree_at (forest arena.now) ret) env)) }
 {
     tri!(print_left(arena, env, ret, out));
     blank_behind_ret(arena, env, ret, out)
 }
 
-fn blank_behind_ret(arena: &Arena, env: Env, ret: u32, out: &mut Output) -> Result<(), AllocError>
+fn blank_behind_ret(arena: &Arena, env: Env, ret: u32, out: &mut Text) -> Result<(), AllocError>
     requires ret { ret < size arena.now }
-    ensures prints { Prints result out.old out.new (spec.function_blank env (spec.print (tree_at (forest arena.now) ret) env)) }
+    ensures prints { Prints result out.old out.new (spec.function_blank env (spec.print (tree_at (forest arena.now)
+        ret) env)) }
 {
     if env.is_llvm() {
         return write(out, b" ");
@@ -1491,13 +1547,15 @@ fn right_function(
     cv: Cv,
     ref_qual: RefQual,
     exception: Parts,
-    out: &mut Output,
+    out: &mut Text,
 ) -> Result<(), AllocError>
     requires bound { bound ≤ size arena.now }
     requires ret { ret < bound }
     requires params { IsListBelow arena.now.held bound params }
     requires exception { IsPartsBelow arena.now.held bound exception }
-    ensures prints { Prints result out.old out.new ((spec.called env (spec.print (tree_at (forest arena.now) ret) env) (spec.items_of (trees_in arena.now.held (forest arena.now) params)) cv ref_qual (spec.print_parts (parts_in arena.now.held (forest arena.now) exception) env)).text.right) }
+    ensures prints { Prints result out.old out.new ((spec.called env (spec.print (tree_at (forest arena.now) ret)
+        env) (spec.items_of (trees_in arena.now.held (forest arena.now) params)) cv ref_qual (spec.print_parts
+        (parts_in arena.now.held (forest arena.now) exception) env)).text.right) }
 {
     tri!(print_parens(arena, env, bound, params, out));
     if env.is_llvm() {
@@ -1515,12 +1573,14 @@ fn behind_params(
     cv: Cv,
     ref_qual: RefQual,
     exception: Parts,
-    out: &mut Output,
+    out: &mut Text,
 ) -> Result<(), AllocError>
     requires bound { bound ≤ size arena.now }
     requires ret { ret < bound }
     requires exception { IsPartsBelow arena.now.held bound exception }
-    ensures prints { Prints result out.old out.new (spec.right_behind false (spec.print (tree_at (forest arena.now) ret) env).text ++ (words.cv_text cv ++ (words.ref_text ref_qual ++ (spec.print_parts (parts_in arena.now.held (forest arena.now) exception) env).text))) }
+    ensures prints { Prints result out.old out.new (spec.right_behind false (spec.print (tree_at (forest arena.now)
+        ret) env).text ++ (words.cv_text cv ++ (words.ref_text ref_qual ++ (spec.print_parts (parts_in
+        arena.now.held (forest arena.now) exception) env).text))) }
 {
     tri!(print_right(arena, env, ret, false, out));
     tri!(write(out, cv_text(cv)));
@@ -1537,12 +1597,14 @@ fn gnu_behind_params(
     cv: Cv,
     ref_qual: RefQual,
     exception: Parts,
-    out: &mut Output,
+    out: &mut Text,
 ) -> Result<(), AllocError>
     requires bound { bound ≤ size arena.now }
     requires ret { ret < bound }
     requires exception { IsPartsBelow arena.now.held bound exception }
-    ensures prints { Prints result out.old out.new ((spec.print_parts (parts_in arena.now.held (forest arena.now) exception) env).text ++ (words.cv_text cv ++ (words.ref_text ref_qual ++ spec.right_behind false (spec.print (tree_at (forest arena.now) ret) env).text))) }
+    ensures prints { Prints result out.old out.new ((spec.print_parts (parts_in arena.now.held (forest arena.now)
+        exception) env).text ++ (words.cv_text cv ++ (words.ref_text ref_qual ++ spec.right_behind false
+        (spec.print (tree_at (forest arena.now) ret) env).text))) }
 {
     tri!(print_parts(arena, env, bound, exception, out));
     tri!(write(out, cv_text(cv)));
@@ -1557,12 +1619,13 @@ fn left_encoding(
     bound: u32,
     ret: Option<u32>,
     name: u32,
-    out: &mut Output,
+    out: &mut Text,
 ) -> Result<(), AllocError>
     requires bound { bound ≤ size arena.now }
     requires ret { IsOptionBelow bound ret }
     requires name { name < bound }
-    ensures prints { Prints result out.old out.new (spec.ret_text_left (spec.items_of (option_at (forest arena.now) ret)) env ++ spec.whole (spec.print (tree_at (forest arena.now) name) env)) }
+    ensures prints { Prints result out.old out.new (spec.ret_text_left (spec.items_of (option_at (forest arena.now)
+        ret)) env ++ spec.whole (spec.print (tree_at (forest arena.now) name) env)) }
 {
     tri!(left_ret(arena, env, bound, ret, out));
     print(arena, env, name, out)
@@ -1574,11 +1637,12 @@ fn left_ret(
     env: Env,
     bound: u32,
     ret: Option<u32>,
-    out: &mut Output,
+    out: &mut Text,
 ) -> Result<(), AllocError>
     requires bound { bound ≤ size arena.now }
     requires ret { IsOptionBelow bound ret }
-    ensures prints { Prints result out.old out.new (spec.ret_text_left (spec.items_of (option_at (forest arena.now) ret)) env) }
+    ensures prints { Prints result out.old out.new (spec.ret_text_left (spec.items_of (option_at (forest arena.now)
+        ret)) env) }
 {
     match ret {
         None => Ok(()),
@@ -1592,11 +1656,12 @@ fn right_ret(
     env: Env,
     bound: u32,
     ret: Option<u32>,
-    out: &mut Output,
+    out: &mut Text,
 ) -> Result<(), AllocError>
     requires bound { bound ≤ size arena.now }
     requires ret { IsOptionBelow bound ret }
-    ensures prints { Prints result out.old out.new (spec.ret_text_right (spec.items_of (option_at (forest arena.now) ret)) env) }
+    ensures prints { Prints result out.old out.new (spec.ret_text_right (spec.items_of (option_at (forest
+        arena.now) ret)) env) }
 {
     match ret {
         None => Ok(()),
@@ -1614,13 +1679,15 @@ fn right_encoding(
     cv: Cv,
     ref_qual: RefQual,
     rest: Parts,
-    out: &mut Output,
+    out: &mut Text,
 ) -> Result<(), AllocError>
     requires bound { bound ≤ size arena.now }
     requires ret { IsOptionBelow bound ret }
     requires params { IsListBelow arena.now.held bound params }
     requires rest { IsPartsBelow arena.now.held bound rest }
-    ensures prints { Prints result out.old out.new (spec.signature_right env (spec.ret_text_right (spec.items_of (option_at (forest arena.now) ret)) env) (spec.items_of (trees_in arena.now.held (forest arena.now) params)) cv ref_qual (spec.print_parts (parts_in arena.now.held (forest arena.now) rest) env)) }
+    ensures prints { Prints result out.old out.new (spec.signature_right env (spec.ret_text_right (spec.items_of
+        (option_at (forest arena.now) ret)) env) (spec.items_of (trees_in arena.now.held (forest arena.now)
+        params)) cv ref_qual (spec.print_parts (parts_in arena.now.held (forest arena.now) rest) env)) }
 {
     tri!(print_parens(arena, env, bound, params, out));
     if env.is_llvm() {
@@ -1638,12 +1705,14 @@ fn behind_signature(
     cv: Cv,
     ref_qual: RefQual,
     rest: Parts,
-    out: &mut Output,
+    out: &mut Text,
 ) -> Result<(), AllocError>
     requires bound { bound ≤ size arena.now }
     requires ret { IsOptionBelow bound ret }
     requires rest { IsPartsBelow arena.now.held bound rest }
-    ensures prints { Prints result out.old out.new (spec.ret_text_right (spec.items_of (option_at (forest arena.now) ret)) env ++ (words.cv_text cv ++ (words.ref_text ref_qual ++ (spec.print_parts (parts_in arena.now.held (forest arena.now) rest) env).text))) }
+    ensures prints { Prints result out.old out.new (spec.ret_text_right (spec.items_of (option_at (forest
+        arena.now) ret)) env ++ (words.cv_text cv ++ (words.ref_text ref_qual ++ (spec.print_parts (parts_in
+        arena.now.held (forest arena.now) rest) env).text))) }
 {
     tri!(right_ret(arena, env, bound, ret, out));
     tri!(write(out, cv_text(cv)));
@@ -1660,12 +1729,14 @@ fn gnu_behind_signature(
     cv: Cv,
     ref_qual: RefQual,
     rest: Parts,
-    out: &mut Output,
+    out: &mut Text,
 ) -> Result<(), AllocError>
     requires bound { bound ≤ size arena.now }
     requires ret { IsOptionBelow bound ret }
     requires rest { IsPartsBelow arena.now.held bound rest }
-    ensures prints { Prints result out.old out.new (words.cv_text cv ++ (words.ref_text ref_qual ++ (spec.ret_text_right (spec.items_of (option_at (forest arena.now) ret)) env ++ (spec.print_parts (parts_in arena.now.held (forest arena.now) rest) env).text))) }
+    ensures prints { Prints result out.old out.new (words.cv_text cv ++ (words.ref_text ref_qual ++
+        (spec.ret_text_right (spec.items_of (option_at (forest arena.now) ret)) env ++ (spec.print_parts (parts_in
+        arena.now.held (forest arena.now) rest) env).text))) }
 {
     tri!(write(out, cv_text(cv)));
     tri!(write(out, ref_text(ref_qual)));
@@ -1683,12 +1754,14 @@ fn right_signature(
     cv: Cv,
     ref_qual: RefQual,
     rest: Parts,
-    out: &mut Output,
+    out: &mut Text,
 ) -> Result<(), AllocError>
     requires bound { bound ≤ size arena.now }
     requires params { IsListBelow arena.now.held bound params }
     requires rest { IsPartsBelow arena.now.held bound rest }
-    ensures prints { Prints result out.old out.new (spec.signature_right env [] (spec.items_of (trees_in arena.now.held (forest arena.now) params)) cv ref_qual (spec.print_parts (parts_in arena.now.held (forest arena.now) rest) env)) }
+    ensures prints { Prints result out.old out.new (spec.signature_right env [] (spec.items_of (trees_in
+        arena.now.held (forest arena.now) params)) cv ref_qual (spec.print_parts (parts_in arena.now.held (forest
+        arena.now) rest) env)) }
 {
     right_encoding(arena, env, bound, None, params, cv, ref_qual, rest, out)
 }
@@ -1699,11 +1772,12 @@ fn left_pack(
     env: Env,
     bound: u32,
     items: List,
-    out: &mut Output,
+    out: &mut Text,
 ) -> Result<(), AllocError>
     requires bound { bound ≤ size arena.now }
     requires items { IsListBelow arena.now.held bound items }
-    ensures prints { Prints result out.old out.new ((spec.print (pack (trees_in arena.now.held (forest arena.now) items)) env).text.left) }
+    ensures prints { Prints result out.old out.new ((spec.print (pack (trees_in arena.now.held (forest arena.now)
+        items)) env).text.left) }
 {
     match element(arena, env, bound, items) {
         None => Ok(()),
@@ -1718,11 +1792,12 @@ fn right_pack(
     bound: u32,
     items: List,
     joined: bool,
-    out: &mut Output,
+    out: &mut Text,
 ) -> Result<(), AllocError>
     requires bound { bound ≤ size arena.now }
     requires items { IsListBelow arena.now.held bound items }
-    ensures prints { Prints result out.old out.new (spec.right_behind joined (spec.print (pack (trees_in arena.now.held (forest arena.now) items)) env).text) }
+    ensures prints { Prints result out.old out.new (spec.right_behind joined (spec.print (pack (trees_in
+        arena.now.held (forest arena.now) items)) env).text) }
 {
     match element(arena, env, bound, items) {
         None => Ok(()),

@@ -247,7 +247,8 @@ pub fn ending_of(arena: &Arena, env: Env, i: u32) -> Ending
 
 fn ending_of_pointer(arena: &Arena, t: u32) -> Ending
     requires within { t < size arena.now }
-    ensures value { (p : spec.Printed) → result ≡ (spec.pointed (heads.protocol_of (tree_at (forest arena.now) t)) p).ends }
+    ensures value { (p : spec.Printed) → result ≡ (spec.pointed (heads.protocol_of (tree_at (forest arena.now) t))
+        p).ends }
 {
     match protocol_of(arena, t) {
         None => Ending::Other,
@@ -290,7 +291,8 @@ fn ending_of_scoped(arena: &Arena, env: Env, _is_friend: bool, name: u32) -> End
 fn ending_of_phrase(arena: &Arena, env: Env, bound: u32, phrase: Phrase, parts: Parts) -> Ending
     requires bound { bound ≤ size arena.now }
     requires below { IsPartsBelow arena.now.held bound parts }
-    ensures value { result ≡ (spec.phrased phrase env (spec.print_parts (parts_in arena.now.held (forest arena.now) parts)
+    ensures value { result ≡ (spec.phrased phrase env (spec.print_parts (parts_in arena.now.held (forest arena.now)
+        parts)
         (within env phrase.guard))).ends }
 {
     if !phrase.is_open {
@@ -309,7 +311,8 @@ fn ending_of_phrase(arena: &Arena, env: Env, bound: u32, phrase: Phrase, parts: 
 fn ending_of_parts(arena: &Arena, env: Env, bound: u32, parts: &[Part]) -> Ending
     requires bound { bound ≤ size arena.now }
     requires below { AllByRecursion (IsPartBelow arena.now.held bound) parts.now }
-    ensures value { result ≡ spec.run_ends (spec.print_parts (parts_of arena.now.held (forest arena.now) parts.now) env).ends }
+    ensures value { result ≡ spec.run_ends (spec.print_parts (parts_of arena.now.held (forest arena.now) parts.now)
+        env).ends }
 {
     let n = parts.len();
     if n == 0 {
@@ -350,7 +353,8 @@ fn ending_of_tree(arena: &Arena, env: Env, manner: Manner, t: u32) -> Ending
 #[cycle(endings)]
 fn ending_of_address(arena: &Arena, env: Env, t: u32) -> Ending
     requires within { t < size arena.now }
-    ensures value { result ≡ spec.address_ends (spec.named_address (spec.print (tree_at (forest arena.now) t) env).function)
+    ensures value { result ≡ spec.address_ends (spec.named_address (spec.print (tree_at (forest arena.now) t)
+        env).function)
         (spec.operand_ends env (spec.item (tree_at (forest arena.now) t))) }
 {
     match arena.node(t) {

@@ -9,8 +9,8 @@ ghost use Rattle.cxx_printer.specs.Symbol.{IsSuffix};
 
 use crate::env::{Env, Style};
 use crate::print::{print, print_signature};
-use cxx_tree::{Arena, Node, Text};
-use growing_text::Text as Output;
+use cxx_tree::{Arena, Node};
+use growing_text::Text;
 use std::alloc::AllocError;
 
 /// What of a function is printed. Whatever else a symbol stands for is printed whole.
@@ -32,12 +32,12 @@ pub struct Symbol {
     /// The symbol is that of a block's function.
     pub is_block: bool,
     /// What follows from a dot.
-    pub suffix: Option<Text>,
+    pub suffix: Option<cxx_tree::Text>,
 }
 
 /// Appends a text.
 #[tactic(auto, using(crate::proofs::Appended::prints_added))]
-pub fn write(out: &mut Output, text: &[u8]) -> Result<(), AllocError>
+pub fn write(out: &mut Text, text: &[u8]) -> Result<(), AllocError>
     ensures prints { Prints result out.old out.new text.now }
 {
     out.add(text)
@@ -49,7 +49,7 @@ pub fn print_symbol(
     symbol: Symbol,
     mode: Mode,
     style: Style,
-    out: &mut Output,
+    out: &mut Text,
 ) -> Result<(), AllocError>
     requires within { symbol.tree < size arena.now }
     requires suffix { IsSuffix arena.now.held symbol.suffix }
@@ -63,7 +63,7 @@ fn print_symbol_in(
     env: Env,
     symbol: Symbol,
     mode: Mode,
-    out: &mut Output,
+    out: &mut Text,
 ) -> Result<(), AllocError>
     requires within { symbol.tree < size arena.now }
     requires suffix { IsSuffix arena.now.held symbol.suffix }
@@ -75,7 +75,7 @@ fn print_symbol_in(
 }
 
 // Appends what stands in front of a symbol of a block's function.
-fn write_block(is_block: bool, out: &mut Output) -> Result<(), AllocError>
+fn write_block(is_block: bool, out: &mut Text) -> Result<(), AllocError>
     ensures prints { Prints result out.old out.new (spec.block_text is_block) }
 {
     if is_block {
@@ -84,13 +84,7 @@ fn write_block(is_block: bool, out: &mut Output) -> Result<(), AllocError>
     Ok(())
 }
 
-fn print_mode(
-    arena: &Arena,
-    env: Env,
-    i: u32,
-    mode: Mode,
-    out: &mut Output,
-) -> Result<(), AllocError>
+fn print_mode(arena: &Arena, env: Env, i: u32, mode: Mode, out: &mut Text) -> Result<(), AllocError>
     requires within { i < size arena.now }
     ensures prints { Prints result out.old out.new (spec.mode_text mode env (tree_at (forest arena.now) i)) }
 {
@@ -102,7 +96,7 @@ fn print_mode(
 }
 
 // Appends the name of a function, or what any other tree prints.
-fn print_name(arena: &Arena, env: Env, i: u32, out: &mut Output) -> Result<(), AllocError>
+fn print_name(arena: &Arena, env: Env, i: u32, out: &mut Text) -> Result<(), AllocError>
     requires within { i < size arena.now }
     ensures prints { Prints result out.old out.new (spec.name_text env (tree_at (forest arena.now) i)) }
 {
@@ -117,7 +111,7 @@ fn print_without_return_type(
     arena: &Arena,
     env: Env,
     i: u32,
-    out: &mut Output,
+    out: &mut Text,
 ) -> Result<(), AllocError>
     requires within { i < size arena.now }
     ensures prints { Prints result out.old out.new (spec.signature_text env (tree_at (forest arena.now) i)) }
@@ -134,8 +128,8 @@ fn print_without_return_type(
 fn print_suffix(
     arena: &Arena,
     env: Env,
-    suffix: Option<Text>,
-    out: &mut Output,
+    suffix: Option<cxx_tree::Text>,
+    out: &mut Text,
 ) -> Result<(), AllocError>
     requires suffix { IsSuffix arena.now.held suffix }
     ensures prints { Prints result out.old out.new (spec.suffix_text env (spec.suffix_at arena.now.held suffix)) }
@@ -146,7 +140,7 @@ fn print_suffix(
     }
 }
 
-fn print_dotted(env: Env, suffix: &[u8], out: &mut Output) -> Result<(), AllocError>
+fn print_dotted(env: Env, suffix: &[u8], out: &mut Text) -> Result<(), AllocError>
     ensures prints { Prints result out.old out.new (spec.suffix_text env (Some suffix.now)) }
 {
     if env.is_llvm() {
@@ -155,7 +149,7 @@ fn print_dotted(env: Env, suffix: &[u8], out: &mut Output) -> Result<(), AllocEr
     print_pieces(suffix, out)
 }
 
-fn print_in_parens(suffix: &[u8], out: &mut Output) -> Result<(), AllocError>
+fn print_in_parens(suffix: &[u8], out: &mut Text) -> Result<(), AllocError>
     ensures prints { Prints result out.old out.new (spec.in_parens suffix.now) }
 {
     tri!(write(out, b" ("));
@@ -165,7 +159,7 @@ fn print_in_parens(suffix: &[u8], out: &mut Output) -> Result<(), AllocError>
 
 // Appends a suffix in pieces. The first one begins where the suffix does.
 #[tactic(auto, using(crate::proofs::Appended::prints), unfolding(crate::specs::Symbol::pieces_text))]
-fn print_pieces(suffix: &[u8], out: &mut Output) -> Result<(), AllocError>
+fn print_pieces(suffix: &[u8], out: &mut Text) -> Result<(), AllocError>
     ensures prints { Prints result out.old out.new (spec.pieces_text suffix.now) }
 {
     match suffix {
@@ -179,7 +173,7 @@ fn print_pieces(suffix: &[u8], out: &mut Output) -> Result<(), AllocError>
 }
 
 // Appends the bytes of a suffix behind its first one.
-fn print_behind(behind: &[u8], out: &mut Output) -> Result<(), AllocError>
+fn print_behind(behind: &[u8], out: &mut Text) -> Result<(), AllocError>
     ensures prints { Prints result out.old out.new (spec.pieces_behind behind.now) }
 {
     for k in 0..behind.len() {
@@ -189,7 +183,7 @@ fn print_behind(behind: &[u8], out: &mut Output) -> Result<(), AllocError>
 }
 
 // Appends the first byte of what is left of a suffix, behind what stands between two pieces if it begins one.
-fn print_byte(rest: &[u8], out: &mut Output) -> Result<(), AllocError>
+fn print_byte(rest: &[u8], out: &mut Text) -> Result<(), AllocError>
     requires some { 0 < length rest.now }
     ensures prints { Prints result out.old out.new (spec.between rest.now ++ take 1 rest.now) }
 {
@@ -199,7 +193,7 @@ fn print_byte(rest: &[u8], out: &mut Output) -> Result<(), AllocError>
 
 // Appends what stands between two pieces, if what is left of a suffix begins one.
 #[tactic(auto, using(crate::proofs::Appended::prints), unfolding(crate::specs::Symbol::between))]
-fn write_between(rest: &[u8], out: &mut Output) -> Result<(), AllocError>
+fn write_between(rest: &[u8], out: &mut Text) -> Result<(), AllocError>
     ensures prints { Prints result out.old out.new (spec.between rest.now) }
 {
     if is_piece(rest) {

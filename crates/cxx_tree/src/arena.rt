@@ -152,7 +152,8 @@ impl Arena {
         requires below { IsBelow self.old.held (size self.old) node }
         ensures index { IfOk result (λ i. i ≡ size self.old) }
         ensures size { OnOk result (size self.new ≡ size self.old + 1) }
-        ensures forest { OnOk result (forest self.new ≡ forest self.old ++ tree_of self.old.held (forest self.old) node ∷ []) }
+        ensures forest { OnOk result (forest self.new ≡ forest self.old ++ tree_of self.old.held (forest self.old)
+            node ∷ []) }
         ensures fits { OnOk result ((spec.measure (tree_of self.old.held (forest self.old) node)).fits ≡ true) }
         ensures limit { IsErrOf result PushError.Limit →
             (spec.measure (tree_of self.old.held (forest self.old) node)).fits ≡ false }
