@@ -1,7 +1,8 @@
 //! Four short callers of `Demangler`, as examples of how its contract is used. The result of `demangle` borrows the
 //! demangler, so its clause `kept` says what the demangler has when that borrow has ended. From that clause each
 //! function here gets a plain clause for its own caller. `ask` and `entered_by` end the borrow. `answer_after` returns
-//! the borrowed result. `component_of` ends the borrow, and returns a borrowed component.
+//! the borrowed result. `component_of` ends the borrow, and returns a borrowed component. The module `memory` has a
+//! caller of the filter, over a source and a sink in memory.
 #![tactic(auto)]
 
 ghost use Rattle.std.specs.Prelude.{◌≡◌, ◌≤◌, ◌*◌, IfOk, OnOk, OnErr, MatchResult, ⊤, option_map, length};
@@ -18,6 +19,7 @@ ghost use Rattle.callers.specs.Lengths.{IsAnswerLen};
 use itanium_demangle::Demangler;
 use std::alloc::{AllocError, Global};
 
+pub mod memory;
 #[cfg(test)]
 mod tests;
 
