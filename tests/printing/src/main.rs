@@ -7,15 +7,16 @@
 //!
 //! Bytes of the first six fields stand as they are, but for `\xHH`, and `\\` for a backslash.
 //!
-//! usage: printing [texts | time]
+//! usage: printing [texts | time | limits]
 //!
 //! Without an argument the texts of each tree are compared with those of the line. The first 20 that differ are
 //! written, with the symbol. The last line is `N passed, M failed`. If any failed, or if there is no line, the status
 //! is 1. With `texts` the four texts of each tree are written, with tabs between, and nothing is compared. With `time`
 //! only the declaration of each tree is printed, and the sum of the lengths is written: what the printer alone takes is
-//! what `valgrind --tool=callgrind --toggle-collect='*print_declaration*'` counts. If the argument is another, nothing
-//! is read, and the status is 2.
+//! what `valgrind --tool=callgrind --toggle-collect='*print_declaration*'` counts. With `limits` nothing is read, and
+//! `limits.rs` says what is tested. If the argument is another, the status is 2.
 
+mod limits;
 mod tree;
 mod value;
 
@@ -171,6 +172,7 @@ fn main() -> ExitCode {
         [] => compare,
         ["texts"] => write_texts,
         ["time"] => measure,
+        ["limits"] => limits::run,
         _ => return ExitCode::from(NOT_ASKED),
     };
     thread::Builder::new().stack_size(STACK).spawn(run).expect("a thread").join().expect("no panic")
