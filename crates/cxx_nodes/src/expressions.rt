@@ -1,6 +1,6 @@
 //! Prefixed and enclosed trees, and expressions.
 
-ghost use Rattle.std.specs.Prelude.{◌≡◌, ℕ, ◌+◌, ◌<◌, ◌≤◌, length, true, false, option_map};
+ghost use Rattle.std.specs.Prelude.{◌≡◌, ℕ, ◌+◌, ◌<◌, ◌≤◌, length, true, false, option_map, None};
 ghost use Rattle.std.specs.List.{AllByRecursion};
 ghost use Rattle.cxx_tree.specs.Grows.{Makes};
 ghost use Rattle.cxx_tree.specs.Stored.{forest, size, tree_at, trees_at, text_at, IsText, IsOptionBelow};
@@ -23,7 +23,7 @@ fn prefixed_manner(prec: Prec) -> Manner
     }
 }
 
-/// Makes `LLVM` or in GNU's style `GNU`, and `TREE` behind it, which is an operand in the latter if it is unary.
+/// Makes `LLVM` or in GNU's style `GNU`, and `TREE` after it, which is an operand in the latter if it is unary.
 pub fn prefixed(
     arena: &mut Arena,
     llvm: Text,
@@ -148,7 +148,7 @@ pub fn subscript(arena: &mut Arena, a: u32, index: u32) -> Result<u32, PushError
     phrase(arena, expression(0, Prec::Postfix), &parts)
 }
 
-/// Makes `A` and `SYMBOL` behind it.
+/// Makes `A` and `SYMBOL` after it.
 pub fn postfix_op(arena: &mut Arena, a: u32, symbol: Text) -> Result<u32, PushError>
     requires a { a < size arena.old }
     requires symbol { IsText arena.old.held symbol }
@@ -159,7 +159,7 @@ pub fn postfix_op(arena: &mut Arena, a: u32, symbol: Text) -> Result<u32, PushEr
     phrase(arena, attributes, &[loose(Prec::Postfix, a), held(symbol)])
 }
 
-/// Makes `SYMBOL` and `A` behind it.
+/// Makes `SYMBOL` and `A` after it.
 pub fn prefix_op(arena: &mut Arena, symbol: Text, a: u32, prec: Prec) -> Result<u32, PushError>
     requires symbol { IsText arena.old.held symbol }
     requires a { a < size arena.old }
@@ -460,6 +460,37 @@ fn fold_between(
     phrase(arena, attributes, &parts)
 }
 
+// Makes `(... SYMBOL PACK)` or `(PACK SYMBOL ...)`.
+fn fold_alone(
+    arena: &mut Arena,
+    attributes: Phrase,
+    is_left: bool,
+    symbol: Text,
+    pack: u32,
+) -> Result<u32, PushError>
+    requires symbol { IsText arena.old.held symbol }
+    requires pack { pack < size arena.old }
+    ensures makes { Makes result arena.old arena.new (tree.phrase attributes (rows.fold_parts is_left
+        (text_at arena.old.held symbol) (tree_at (forest arena.old) pack) None)) }
+{
+    let folded = Part::Tree(Manner::Folded, pack);
+    let blank = styled(b" ", b"");
+    if is_left {
+        let front = styled(b"(... ", b"(...");
+        return phrase(
+            arena,
+            attributes,
+            &[front, held(symbol), blank, folded, fixed(b")")],
+        );
+    }
+    let end = styled(b" ...)", b"...)");
+    phrase(
+        arena,
+        attributes,
+        &[fixed(b"("), folded, blank, held(symbol), end],
+    )
+}
+
 /// Makes `(... SYMBOL PACK)`, `(PACK SYMBOL ...)`, `(INIT SYMBOL ... SYMBOL PACK)` or `(PACK SYMBOL ... SYMBOL INIT)`,
 /// in GNU's style without blanks.
 pub fn fold(
@@ -479,49 +510,15 @@ pub fn fold(
         guard: Guard::Enclosed,
         ..primary(length(arena, symbol))
     };
-    let folded = Part::Tree(Manner::Folded, pack);
-    let blank = styled(b" ", b"");
-    let loose = Manner::Operand(Prec::Cast, true);
-    match (init, is_left) {
-        (None, true) => {
-            let parts = [
-                styled(b"(... ", b"(..."),
-                held(symbol),
-                blank,
-                folded,
-                fixed(b")"),
-            ];
-            phrase(arena, attributes, &parts)
-        }
-        (None, false) => {
-            let parts = [
-                fixed(b"("),
-                folded,
-                blank,
-                held(symbol),
-                styled(b" ...)", b"...)"),
-            ];
-            phrase(arena, attributes, &parts)
-        }
-        (Some(i), true) => {
-            fold_between(
-                arena,
-                attributes,
-                symbol,
-                (loose, i),
-                (Manner::Folded, pack),
-            )
-        }
-        (Some(i), false) => {
-            fold_between(
-                arena,
-                attributes,
-                symbol,
-                (Manner::Folded, pack),
-                (loose, i),
-            )
-        }
+    let Some(i) = init else {
+        return fold_alone(arena, attributes, is_left, symbol, pack);
+    };
+    let folded = (Manner::Folded, pack);
+    let other = (Manner::Operand(Prec::Cast, true), i);
+    if is_left {
+        return fold_between(arena, attributes, symbol, other, folded);
     }
+    fold_between(arena, attributes, symbol, folded, other)
 }
 
 /// Makes `"<TYPE>"`.

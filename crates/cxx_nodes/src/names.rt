@@ -48,7 +48,7 @@ pub fn lambda_param(arena: &mut Arena, llvm: Text, gnu: Text) -> Result<u32, Pus
     arena.push(Node::Plain(Plain::Leaf(false, llvm, gnu)))
 }
 
-/// Makes a default argument: the scope `E`, and in GNU's style `::{default arg#ORDINAL}` behind it.
+/// Makes a default argument: the scope `E`, and in GNU's style `::{default arg#ORDINAL}` after it.
 pub fn default_arg(arena: &mut Arena, e: u32, count: Text, ordinal: Text) -> Result<u32, PushError>
     requires e { e < size arena.old }
     requires count { IsText arena.old.held count }

@@ -11,11 +11,12 @@ ghost use Rattle.cxx_nodes.specs.Lists.{lists_at, AreBelowIfAny};
 
 use crate::parts::{fixed, held, length, list, open, parts, phrase, primary, styled, whole};
 use cxx_tree::{
-    Arena, Cv, Declaration, Listing, Node, Part, Parts, Phrase, Prec, PushError, RefQual, Text,
+    Arena, Cv, Declaration, Encoding, Function, Listing, Node, Part, Parts, Phrase, Prec,
+    PushError, RefQual, Text,
 };
 use std::alloc::AllocError;
 
-/// Makes `TYPE` and `LLVM` behind it, in GNU's style `GNU`.
+/// Makes `TYPE` and `LLVM` after it, in GNU's style `GNU`.
 pub fn suffixed(arena: &mut Arena, t: u32, llvm: Text, gnu: Text) -> Result<u32, PushError>
     requires t { t < size arena.old }
     requires llvm { IsText arena.old.held llvm }
@@ -141,7 +142,13 @@ pub fn function(
 {
     let parts = exception_parts(arena, exception)?;
     let params = list(arena, params)?;
-    arena.push(Node::Function(ret, params, cv, ref_qual, parts))
+    arena.push(Node::Function(Function {
+        ret,
+        params,
+        cv,
+        ref_qual,
+        exception: parts,
+    }))
 }
 
 // ` requires CONSTRAINT`, if there is one.
@@ -179,6 +186,7 @@ pub fn template_param(
 }
 
 /// What follows the parameters and the qualifiers of a function.
+#[derive(Drop)]
 pub struct Rest<'a> {
     pub enable_if: Option<&'a [u32]>,
     pub constraint: Option<u32>,
@@ -248,5 +256,12 @@ pub fn encoding(
 {
     let parts = rest_parts(arena, rest)?;
     let params = list(arena, params)?;
-    arena.push(Node::Encoding(ret, n, params, cv, ref_qual, parts))
+    arena.push(Node::Encoding(Encoding {
+        ret,
+        name: n,
+        params,
+        cv,
+        ref_qual,
+        rest: parts,
+    }))
 }

@@ -1,4 +1,5 @@
 pub mod Appended
+pub mod Examples
 pub mod Packs
 pub mod Symbols
 pub mod Turns

@@ -1,7 +1,7 @@
-use Rattle.std.proofs.Common.{ℕ, ◌≡◌, ◌+◌, ◌<◌, ◌≤◌, Bool, true, false, List, [], ◌∷◌, ◌++◌, length, map, refl, sym, ap, subst, ◌∙◌, arith, zero, suc, Option, Some, None}
+use Rattle.std.proofs.Common.{ℕ, ◌≡◌, ◌<◌, ◌≤◌, Bool, true, false, List, [], ◌∷◌, ◌++◌, length, refl, sym, ap, subst, ◌∙◌, arith, zero, suc, Option, Some, None}
 use Rattle.std.proofs.Math.ListN.{get_or}
 use Rattle.std.specs.List.{AllByRecursion}
-use Rattle.std.specs.Prelude.{is_some}
+use Rattle.std.specs.Prelude.{is_some, unwrap_or, if◌then◌else◌}
 use mathlib.Core.Bool.{true≢false}
 use Rattle.cxx_tree.specs.declared.node.Part.{Part}
 use Rattle.cxx_tree.specs.declared.node.Part.TheVariants as part
@@ -11,13 +11,13 @@ use Rattle.cxx_tree.specs.declared.node.Declaration.{Declaration}
 use Rattle.cxx_tree.specs.declared.node.Declaration.TheVariants as declaration
 use Rattle.cxx_tree.specs.Tree.{Tree, Trees, pack, qualified, pointer, reference}
 use Rattle.cxx_tree.specs.Stored.{Held, tree_at, trees_at, plain_tree, declaration_tree, parts_of, IsPartBelow}
-use Rattle.cxx_printer.specs.Asked.{Refers, IsLeft, OneSided, ends_of_part}
+use Rattle.cxx_printer.specs.Asked.{Refers, IsLeft, OneSided, ends_of_part, run_ends}
 use Rattle.cxx_printer.specs.declared.env.Env.{Env}
 use Rattle.cxx_printer.specs.Words.{ending, ending_of_byte, opened, closed}
 use Rattle.cxx_printer.specs.declared.words.Form.{Form}
 use Rattle.cxx_printer.specs.Heads.{protocol_of}
 use Rattle.cxx_tree.specs.declared.kinds.Cv.{Cv}
-use Rattle.cxx_printer.specs.Printing.{Printed, Text, Item, simple, print, print_parts, right_behind, bracket_blank, run_ends, last_of, pointed, items_of, printed_at, nothing, element_of, item, last_ends, index_or_zero}
+use Rattle.cxx_printer.specs.Printing.{Printed, Text, simple, print, print_parts, right_behind, blank_unless, pointed, items_of, printed_at, nothing, element_of, last_ends}
 use Rattle.cxx_printer.specs.declared.shapes.Ending.TheVariants.{Other}
 use Rattle.cxx_printer.specs.declared.shapes.Ending.{Ending}
 
@@ -67,17 +67,17 @@ last_ends-none ts env [] h = refl
 last_ends-none ts env (i ∷ is) h = absurd (omega (arith, h))
 
 -- the element of a pack in an environment
-pub pack-item : (ts : List Tree) (is : List ℕ) (us : Trees) (env : Env) (k d : ℕ) → us ≡ trees_at ts is → k ≡ index_or_zero env.pack → k < length is → print (pack us) env ≡ element_of (print (tree_at ts (get_or is k d)) env)
+pub pack-item : (ts : List Tree) (is : List ℕ) (us : Trees) (env : Env) (k d : ℕ) → us ≡ trees_at ts is → k ≡ env.pack → k < length is → print (pack us) env ≡ element_of (print (tree_at ts (get_or is k d)) env)
 unfolding print
 pack-item ts is us env k d e f h =
-    ap (λ (vs : Trees). element_of (printed_at (items_of vs) (index_or_zero env.pack) env)) e
+    ap (λ (vs : Trees). element_of (printed_at (items_of vs) env.pack env)) e
     ∙ ap (λ (j : ℕ). element_of (printed_at (items_of (trees_at ts is)) j env)) (sym f)
     ∙ ap element_of (printed_at-item ts is env k d h)
 
-pub pack-past : (ts : List Tree) (is : List ℕ) (us : Trees) (env : Env) (k : ℕ) → us ≡ trees_at ts is → k ≡ index_or_zero env.pack → length is ≤ k → print (pack us) env ≡ nothing
+pub pack-past : (ts : List Tree) (is : List ℕ) (us : Trees) (env : Env) (k : ℕ) → us ≡ trees_at ts is → k ≡ env.pack → length is ≤ k → print (pack us) env ≡ nothing
 unfolding print
 pack-past ts is us env k e f h =
-    ap (λ (vs : Trees). element_of (printed_at (items_of vs) (index_or_zero env.pack) env)) e
+    ap (λ (vs : Trees). element_of (printed_at (items_of vs) env.pack env)) e
     ∙ ap (λ (j : ℕ). element_of (printed_at (items_of (trees_at ts is)) j env)) (sym f)
     ∙ ap element_of (printed_at-past ts is env k h)
 
@@ -162,6 +162,9 @@ pub Refers-none : (i : ℕ) (b : Text) (f : ℕ → Printed) → b ≡ simple []
 Refers-none i b f e = e
 
 -- how parts end
+abbrev last_of : Ending → Option Ending → Option Ending
+last_of ends rest = Some (unwrap_or rest ends)
+
 last_of-some : (e : Ending) (o : Option Ending) → (x : Ending) × (last_of e o ≡ Some x)
 last_of-some e None = (e, refl)
 last_of-some e (Some x) = (x, refl)
@@ -214,7 +217,7 @@ behind-left : (t : Text) → IsLeft t → closed t.form ++ right_behind false t 
 unfolding closed
 behind-left t e =
     ap (λ (f : Form). closed f ++ right_behind false t) e.2
-    ∙ ap (λ (b : Bool). bracket_blank b false ++ t.right) e.1 ∙ e.0
+    ∙ ap (λ (b : Bool). (if b then blank_unless false else []) ++ t.right) e.1 ∙ e.0
 
 plain-left : (h : Held) (ts : List Tree) (p : Plain) (env : Env) → IsLeft (print (plain_tree h ts p) env).text × IsLeft (print (plain_tree h ts p) env).base
 unfolding print plain_tree

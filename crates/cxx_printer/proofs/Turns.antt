@@ -1,17 +1,15 @@
 -- What the turns of the printer's loops append.
-use Rattle.std.proofs.Common.{ℕ, ◌≡◌, ◌+◌, ◌-◌, ◌<◌, ◌≤◌, Bool, true, false, List, [], ◌∷◌, ◌++◌, length, take, drop, codes, refl, sym, ap, ◌∙◌, arith, append_assoc, zero, suc, Option, Some, None, length-append, nat_eq}
+use Rattle.std.proofs.Common.{ℕ, ◌≡◌, ◌+◌, ◌-◌, ◌<◌, ◌≤◌, Bool, false, List, [], ◌∷◌, ◌++◌, length, drop, refl, sym, ap, ◌∙◌, arith, append_assoc, zero, suc, Some, nat_eq, if◌then◌else◌}
 use Rattle.std.proofs.Math.ListN.{get_or}
 use Rattle.std.proofs.lemmas.List.{append-nil}
-use Rattle.std.proofs.lemmas.Grind.{common_steps}
 use Rattle.cxx_tree.specs.declared.node.Part.{Part}
 use Rattle.cxx_tree.specs.declared.node.Part.TheVariants as part
 use Rattle.cxx_tree.specs.Tree.{Tree}
 use Rattle.cxx_tree.specs.Stored.{Held, tree_at, trees_at, parts_of}
 use Rattle.cxx_printer.specs.declared.env.Env.{Env}
 use Rattle.cxx_printer.specs.Words.{at}
-use Rattle.cxx_printer.specs.Prints.{text_of_part}
-use Rattle.cxx_printer.specs.Printing.{Item, item, items_of, print, print_parts, whole, separator, item_behind, is_still_first, item_text, list_from, sequence, declared, declarations, head, heads, repeated, bracket_blank}
-use Rattle.cxx_printer.specs.Asked.{OneSided}
+use Rattle.cxx_printer.specs.Printing.{Printed, Item, items_of, print, print_parts, whole, separator, item_behind, is_still_first, item_text, list_from, sequence, separated, repeated, blank_unless}
+use Rattle.cxx_printer.specs.Asked.{OneSided, item, text_of_part}
 
 -- what is printed so far and what is left make the whole
 pub so_far_step : (a b new all rest x more : List ℕ) → a ++ all ≡ b ++ rest → rest ≡ x ++ more → new ≡ b ++ x → a ++ all ≡ new ++ more
@@ -56,41 +54,24 @@ sequence_end ts [] env (suc k) h = refl
 sequence_end ts (i ∷ is) env zero h = absurd (omega arith)
 sequence_end ts (i ∷ is) env (suc k) h = sequence_end ts is env k (omega arith)
 
-pub declarations_step : (ts : List Tree) (is : List ℕ) (env : Env) (first : Bool) (k d : ℕ) → k < length is →
-    declarations first env (items_of (trees_at ts (drop k is))) ≡ (separator first ++ declared (print (tree_at ts (get_or is k d)) env)) ++ declarations false env (items_of (trees_at ts (drop (k + 1) is)))
-unfolding print declarations
-declarations_step ts [] env first k d h = absurd (omega arith)
-declarations_step ts (i ∷ is) env first zero d h = refl
-declarations_step ts (i ∷ is) env first (suc k) d h =
+pub separated_step : (f : Printed → List ℕ) (ts : List Tree) (is : List ℕ) (env : Env) (first : Bool) (k d : ℕ) → k < length is →
+    separated f first env (items_of (trees_at ts (drop k is))) ≡ (separator first ++ f (print (tree_at ts (get_or is k d)) env)) ++ separated f false env (items_of (trees_at ts (drop (k + 1) is)))
+unfolding print separated
+separated_step f ts [] env first k d h = absurd (omega arith)
+separated_step f ts (i ∷ is) env first zero d h = refl
+separated_step f ts (i ∷ is) env first (suc k) d h =
     let e : suc k + 1 ≡ suc (k + 1) = omega arith in
-    declarations_step ts is env first k d (omega arith)
-    ∙ ap (λ (j : ℕ). (separator first ++ declared (print (tree_at ts (get_or is k d)) env)) ++ declarations false env (items_of (trees_at ts (drop j (i ∷ is))))) (sym e)
+    separated_step f ts is env first k d (omega arith)
+    ∙ ap (λ (j : ℕ). (separator first ++ f (print (tree_at ts (get_or is k d)) env)) ++ separated f false env (items_of (trees_at ts (drop j (i ∷ is))))) (sym e)
 
-pub declarations_end : (ts : List Tree) (is : List ℕ) (env : Env) (first : Bool) (k : ℕ) → length is ≤ k → declarations first env (items_of (trees_at ts (drop k is))) ≡ []
-unfolding print declarations
-declarations_end ts [] env first zero h = refl
-declarations_end ts [] env first (suc k) h = refl
-declarations_end ts (i ∷ is) env first zero h = absurd (omega arith)
-declarations_end ts (i ∷ is) env first (suc k) h = declarations_end ts is env first k (omega arith)
+pub separated_end : (f : Printed → List ℕ) (ts : List Tree) (is : List ℕ) (env : Env) (first : Bool) (k : ℕ) → length is ≤ k → separated f first env (items_of (trees_at ts (drop k is))) ≡ []
+unfolding print separated
+separated_end f ts [] env first zero h = refl
+separated_end f ts [] env first (suc k) h = refl
+separated_end f ts (i ∷ is) env first zero h = absurd (omega arith)
+separated_end f ts (i ∷ is) env first (suc k) h = separated_end f ts is env first k (omega arith)
 
-pub heads_step : (ts : List Tree) (is : List ℕ) (env : Env) (first : Bool) (k d : ℕ) → k < length is →
-    heads first env (items_of (trees_at ts (drop k is))) ≡ (separator first ++ head (print (tree_at ts (get_or is k d)) env)) ++ heads false env (items_of (trees_at ts (drop (k + 1) is)))
-unfolding print heads
-heads_step ts [] env first k d h = absurd (omega arith)
-heads_step ts (i ∷ is) env first zero d h = refl
-heads_step ts (i ∷ is) env first (suc k) d h =
-    let e : suc k + 1 ≡ suc (k + 1) = omega arith in
-    heads_step ts is env first k d (omega arith)
-    ∙ ap (λ (j : ℕ). (separator first ++ head (print (tree_at ts (get_or is k d)) env)) ++ heads false env (items_of (trees_at ts (drop j (i ∷ is))))) (sym e)
-
-pub heads_end : (ts : List Tree) (is : List ℕ) (env : Env) (first : Bool) (k : ℕ) → length is ≤ k → heads first env (items_of (trees_at ts (drop k is))) ≡ []
-unfolding print heads
-heads_end ts [] env first zero h = refl
-heads_end ts [] env first (suc k) h = refl
-heads_end ts (i ∷ is) env first zero h = absurd (omega arith)
-heads_end ts (i ∷ is) env first (suc k) h = heads_end ts is env first k (omega arith)
-
-pub repeated_step : (n k : ℕ) (env : Env) (x : Item) → k < n → repeated (n - k) k env x ≡ (separator (nat_eq k 0) ++ whole (x.printed (at env (Some k)))) ++ repeated (n - (k + 1)) (k + 1) env x
+pub repeated_step : (n k : ℕ) (env : Env) (x : Item) → k < n → repeated (n - k) k env x ≡ (separator (nat_eq k 0) ++ whole (x.printed (at env k))) ++ repeated (n - (k + 1)) (k + 1) env x
 unfolding repeated
 repeated_step n k env x h =
     let e : n - k ≡ suc (n - (k + 1)) = omega arith in ap (λ (m : ℕ). repeated m k env x) e
@@ -123,5 +104,5 @@ parts_end h ts (p ∷ ps) env (suc k) b = parts_end h ts ps env k (omega arith)
 pub whole-left : (t : Tree) (env : Env) → OneSided t → whole (print t env) ≡ (print t env).text.left
 unfolding OneSided
 whole-left t env h =
-    ap (λ (b : Bool). (print t env).text.left ++ (bracket_blank b (print t env).closed ++ (print t env).text.right)) (h env).0.1
+    ap (λ (b : Bool). (print t env).text.left ++ ((if b then blank_unless (print t env).closed else []) ++ (print t env).text.right)) (h env).0.1
     ∙ ap (λ (l : List ℕ). (print t env).text.left ++ l) (h env).0.0 ∙ append-nil (print t env).text.left

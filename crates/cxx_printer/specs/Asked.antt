@@ -1,15 +1,42 @@
--- What is asked of a tree without printing it.
-use Rattle.std.specs.Prelude.{ℕ, ◌≡◌, ◌≤◌, Bool, true, false, List, [], ◌∷◌, Option, Some, None, MatchOption}
+-- What private functions of the printer return and append.
+use Rattle.std.specs.Prelude.{ℕ, ◌≡◌, ◌≤◌, ◌++◌, Bool, false, List, [], Option, MatchOption, unwrap_or, Result, Ok, Err}
+use Rattle.std.specs.declared.alloc.AllocError.{AllocError}
 use Rattle.cxx_tree.specs.declared.node.Part.{Part}
 use Rattle.cxx_tree.specs.declared.node.Part.TheVariants as part
 use Rattle.cxx_tree.specs.Tree.{Tree}
-use Rattle.cxx_tree.specs.Stored.{Held, tree_at, text_at}
+use Rattle.cxx_tree.specs.Stored.{Held, tree_at, trees_in, text_at}
 use Rattle.cxx_printer.specs.declared.env.Env.{Env}
 use Rattle.cxx_printer.specs.declared.shapes.Ending.{Ending}
 use Rattle.cxx_printer.specs.declared.shapes.Ending.TheVariants.{Other}
 use Rattle.cxx_printer.specs.declared.words.Form.TheVariants.{Plain}
-use Rattle.cxx_printer.specs.Words.{ending}
-use Rattle.cxx_printer.specs.Printing.{Printed, Text, print, simple, item, part_ends, list_ends}
+use Rattle.cxx_printer.specs.Words.{ending, styled}
+use Rattle.cxx_printer.specs.Printing.{Printed, Text, Item, print, simple, items_of, part_text, part_ends, list_of, list_ends, item_behind, is_still_first}
+
+-- a tree as a part of another
+abbrev pub item : Tree → Item
+item t = record { tree = t; printed = print t }
+
+-- the call appends an item of a list, and says whether the next one is the first
+abbrev pub PrintsItem : Result Bool AllocError → List ℕ → List ℕ → Bool → List ℕ → Type 0
+PrintsItem (Ok first) old new was_first text =
+    (new ≡ old ++ item_behind was_first text) × (first ≡ is_still_first was_first text)
+PrintsItem (Err e) old new was_first text = Unit {0}
+
+-- what a part of a phrase prints
+unfoldable pub text_of_part : Held → List Tree → Env → Part → List ℕ
+text_of_part h ts env (part.Text a b) = styled env (text_at h a) (text_at h b)
+text_of_part h ts env (part.Tree manner t) = part_text manner env (item (tree_at ts t))
+text_of_part h ts env (part.Trees listing l) = list_of listing env (items_of (trees_in h ts l))
+
+-- how a part ends
+unfoldable pub ends_of_part : Held → List Tree → Env → Part → Ending
+ends_of_part h ts env (part.Text a b) = ending (text_at h b)
+ends_of_part h ts env (part.Tree manner t) = part_ends manner env (item (tree_at ts t))
+ends_of_part h ts env (part.Trees listing l) = list_ends listing
+
+-- how parts end
+abbrev pub run_ends : Option Ending → Ending
+run_ends ends = unwrap_or ends Other
 
 -- a text without a right side
 abbrev pub IsLeft : Text → Type 0
@@ -22,9 +49,3 @@ OneSided t = (env : Env) → IsLeft (print t env).text × IsLeft (print t env).b
 -- what a reference refers to: nothing, or what the node at an index prints
 abbrev pub Refers : Option ℕ → ℕ → Text → (ℕ → Printed) → Type 0
 Refers o i base f = MatchOption o (base ≡ simple []) (λ j. (j ≤ i) × (base ≡ (f j).text))
-
--- how a part ends
-unfoldable pub ends_of_part : Held → List Tree → Env → Part → Ending
-ends_of_part h ts env (part.Text a b) = ending (text_at h b)
-ends_of_part h ts env (part.Tree manner t) = part_ends manner env (item (tree_at ts t))
-ends_of_part h ts env (part.Trees listing l) = list_ends listing

@@ -1,6 +1,8 @@
 -- What is asked of the head of a tree, whatever is printed around it.
-use Rattle.std.specs.Prelude.{ℕ, ◌+◌, nat_eq, nat_lt, Bool, true, false, ◌&&◌, not, List, [], ◌∷◌, codes, if◌then◌else◌, Option, Some, None}
+use Rattle.std.specs.Prelude.{ℕ, ◌+◌, nat_eq, nat_lt, Bool, true, false, ◌&&◌, not, List, codes, if◌then◌else◌, Option, Some, None, unwrap_or}
 use Rattle.std.specs.Str.{bytes_eq}
+use denote.Enum.Declared.{tag_of}
+use Rattle.cxx_tree.specs.contracts.kinds.Prec.{the_type}
 use Rattle.cxx_tree.specs.declared.kinds.Cv.{Cv}
 use Rattle.cxx_tree.specs.declared.kinds.Prec.{Prec}
 use Rattle.cxx_tree.specs.declared.kinds.Prec.TheVariants as prec
@@ -11,48 +13,27 @@ use Rattle.cxx_tree.specs.declared.kinds.Role.TheVariants as role
 use Rattle.cxx_tree.specs.Tree.{Tree, Trees, named, leaf, phrase, scoped, with_args, data_name, objc_protocol, listed, expansion, no_trees, more_trees}
 use Rattle.cxx_tree.specs.Measure.{measure}
 
--- the precedence of a tree
 unfoldable pub prec_of : Tree → Prec
 prec_of (phrase attributes ps) = attributes.prec
 prec_of t = prec.Primary
 
--- the precedences from tight to loose
-abbrev pub rank : Prec → ℕ
-rank prec.Primary = 0
-rank prec.Postfix = 1
-rank prec.Unary = 2
-rank prec.Cast = 3
-rank prec.PtrMem = 4
-rank prec.Multiplicative = 5
-rank prec.Additive = 6
-rank prec.Shift = 7
-rank prec.Spaceship = 8
-rank prec.Relational = 9
-rank prec.Equality = 10
-rank prec.And = 11
-rank prec.Xor = 12
-rank prec.Ior = 13
-rank prec.AndIf = 14
-rank prec.OrIf = 15
-rank prec.Conditional = 16
-rank prec.Assign = 17
-rank prec.Comma = 18
+-- the place of a precedence in the order from tight to loose
+unfoldable pub rank : Prec → ℕ
+rank p = tag_of the_type p
 
--- an operand needs no parentheses: it is tighter, or as loose where this is allowed
+-- an operand needs no parentheses in LLVM's style: it is tighter, or as loose where this is allowed
 abbrev pub is_tight : Prec → Prec → Bool → Bool
 is_tight inner outer loose = if nat_eq (rank inner) (rank outer) then loose else nat_lt (rank inner) (rank outer)
 
 abbrev pub is_simple_role : Role → Bool
 is_simple_role role.Simple = true
-is_simple_role role.Ordinary = false
-is_simple_role role.Designator = false
-is_simple_role role.Module = false
+is_simple_role r = false
 
 unfoldable pub has_args : Tree → Bool
 has_args (with_args n ts) = true
 has_args t = false
 
--- an operand that has no parentheses in GNU's style
+-- an operand needs no parentheses in GNU's style
 unfoldable pub is_simple : Tree → Bool
 is_simple (named w) = true
 is_simple (leaf simple a b) = simple
@@ -63,10 +44,9 @@ is_simple t = false
 
 abbrev pub is_designator_role : Role → Bool
 is_designator_role role.Designator = true
-is_designator_role role.Simple = false
-is_designator_role role.Ordinary = false
-is_designator_role role.Module = false
+is_designator_role r = false
 
+-- a designator of an initializer
 unfoldable pub is_designator : Tree → Bool
 is_designator (phrase attributes ps) = is_designator_role attributes.role
 is_designator t = false
@@ -76,13 +56,12 @@ unfoldable pub is_scoped : Tree → Bool
 is_scoped (scoped friend q n) = not friend
 is_scoped t = false
 
--- a function without qualifiers
+-- a function has none of these qualifiers
 abbrev pub is_unqualified : Cv → RefQual → Bool
 is_unqualified cv refqual.None = not cv.is_const && not cv.is_volatile && not cv.is_restrict
-is_unqualified cv refqual.Lvalue = false
-is_unqualified cv refqual.Rvalue = false
+is_unqualified cv ref = false
 
--- of a function with this name and these qualifiers, the address is written without parameters
+-- the address of a function with this name and these qualifiers has no parameters in GNU's style
 abbrev pub is_named_address : Tree → Cv → RefQual → Bool
 is_named_address n cv ref = is_unqualified cv ref && is_scoped n && is_simple n
 
@@ -95,19 +74,15 @@ unfoldable pub protocol_of : Tree → Option (List ℕ)
 protocol_of (objc_protocol t w) = if is_objc_object t then Some w else None
 protocol_of t = None
 
-abbrev pub or_zero : Option ℕ → ℕ
-or_zero None = 0
-or_zero (Some n) = n
-
 unfoldable pub count_item : Tree → ℕ
-count_item (expansion t) = or_zero (measure t).elements
+count_item (expansion t) = unwrap_or (measure t).elements 0
 count_item t = 1
 
 unfoldable pub count_items : Trees → ℕ
 count_items no_trees = 0
 count_items (more_trees t ts) = count_item t + count_items ts
 
--- the number of elements of what `sizeof...` counts
+-- the number of elements of what `sizeof...` counts, if it is known
 unfoldable pub count_of : Tree → Option ℕ
 count_of (expansion t) = (measure t).elements
 count_of (listed ts) = Some (count_items ts)

@@ -5,3 +5,4 @@ pub mod Prints
 pub mod Asked
 pub mod Symbol
 pub mod Parts
+pub mod Examples

@@ -1,10 +1,9 @@
 //! What the printing of a tree depends on beside the tree.
 
-ghost use Rattle.std.specs.Prelude.{◌≡◌, ℕ, Bool, List, Option};
-ghost use Rattle.cxx_tree.specs.Stored.{IsText, text_at};
+ghost use Rattle.std.specs.Prelude.{◌≡◌};
 ghost use Rattle.cxx_printer.specs.Words as spec;
 
-use cxx_tree::{Arena, Context, Guard, Text};
+use cxx_tree::{Context, Guard};
 
 /// Whose texts are printed.
 #[derive(Clone, Copy, PartialEq)]
@@ -21,8 +20,8 @@ pub enum Style {
 #[derive(Clone, Copy)]
 pub struct Env {
     pub style: Style,
-    /// The index of the element that is printed of every pack.
-    pub pack: Option<u32>,
+    /// The index of the element that is printed of every pack: 0 where none is chosen.
+    pub pack: u32,
     /// A `>` in an expression would close a template argument list.
     pub angle: bool,
 }
@@ -34,7 +33,7 @@ impl Env {
     {
         Env {
             style,
-            pack: None,
+            pack: 0,
             angle: false,
         }
     }
@@ -88,7 +87,7 @@ impl Env {
 
     /// Returns what holds for an element of the packs.
     #[inline(always)]
-    pub fn at(self, element: Option<u32>) -> Env
+    pub fn at(self, element: u32) -> Env
         ensures value { result ≡ spec.at self element }
     {
         Env {
@@ -124,15 +123,5 @@ impl Env {
                 self
             },
         }
-    }
-
-    /// Returns one of two texts.
-    #[inline(always)]
-    pub fn text(self, arena: &Arena, llvm: Text, gnu: Text) -> &[u8]
-        requires llvm { IsText arena.now.held llvm }
-        requires gnu { IsText arena.now.held gnu }
-        ensures value { result.now ≡ spec.styled self (text_at arena.now.held llvm) (text_at arena.now.held gnu) }
-    {
-        arena.bytes(if self.is_llvm() { llvm } else { gnu })
     }
 }

@@ -12,12 +12,14 @@ macro_rules! tri {
 }
 
 mod env;
+pub mod laws;
 mod operands;
 mod parts;
 mod print;
 mod shapes;
 mod symbol;
 mod words;
+mod writing;
 
 pub use crate::env::Style;
 pub use crate::parts::{print_base_name, print_context, print_parameters, print_return_type};

@@ -1,5 +1,5 @@
 //! What is asked of the head of a tree, whatever it is printed in.
-#![tactic(auto, unfolding(cxx_tree::specs::Stored::tree_of, cxx_tree::specs::Stored::plain_tree, cxx_tree::specs::Stored::declaration_tree, cxx_tree::specs::Stored::IsBelow, cxx_tree::specs::Stored::IsPlainBelow, crate::specs::Heads::prec_of, crate::specs::Heads::is_simple, crate::specs::Heads::has_args, crate::specs::Heads::is_designator, crate::specs::Heads::is_scoped, crate::specs::Heads::count_of, crate::specs::Heads::count_item, crate::specs::Heads::count_items, crate::specs::Heads::is_objc_object, crate::specs::Heads::protocol_of))]
+#![tactic(auto, unfolding(cxx_tree::specs::Stored::tree_of, cxx_tree::specs::Stored::plain_tree, cxx_tree::specs::Stored::declaration_tree, cxx_tree::specs::Stored::IsBelow, cxx_tree::specs::Stored::IsPlainBelow, crate::specs::Heads::prec_of, crate::specs::Heads::rank, crate::specs::Heads::is_simple, crate::specs::Heads::has_args, crate::specs::Heads::is_designator, crate::specs::Heads::is_scoped, crate::specs::Heads::count_of, crate::specs::Heads::count_item, crate::specs::Heads::count_items, crate::specs::Heads::is_objc_object, crate::specs::Heads::protocol_of))]
 
 ghost use Rattle.std.specs.Prelude.{◌≡◌, ℕ, ◌<◌, ◌≤◌, Bool, Option, Some, None, MatchOption, false, true};
 ghost use Rattle.cxx_tree.specs.Stored.{forest, size, tree_at, trees_in, IsListBelow};
@@ -12,7 +12,7 @@ pub fn prec_of(arena: &Arena, i: u32) -> Prec
     requires within { i < size arena.now }
     ensures value { result ≡ spec.prec_of (tree_at (forest arena.now) i) }
 {
-    match arena.node(i) {
+    match *arena.node(i) {
         Node::Plain(Plain::Phrase(phrase, _)) => phrase.prec,
         _ => Prec::Primary,
     }
@@ -59,8 +59,8 @@ pub fn is_simple(arena: &Arena, i: u32) -> bool
     requires within { i < size arena.now }
     ensures value { result ≡ spec.is_simple (tree_at (forest arena.now) i) }
 {
-    match arena.node(i) {
-        Node::Plain(plain) => match plain {
+    match *arena.node(i) {
+        Node::Plain(ref plain) => match *plain {
             Plain::Name(_) => true,
             Plain::Leaf(is_simple, _, _) => is_simple,
             Plain::Phrase(phrase, _) => is_simple_role(phrase.role),
@@ -86,7 +86,7 @@ fn has_args(arena: &Arena, i: u32) -> bool
     requires within { i < size arena.now }
     ensures value { result ≡ spec.has_args (tree_at (forest arena.now) i) }
 {
-    match arena.node(i) {
+    match *arena.node(i) {
         Node::Plain(Plain::WithArgs(_, _)) => true,
         _ => false,
     }
@@ -106,7 +106,7 @@ pub fn is_designator(arena: &Arena, i: u32) -> bool
     requires within { i < size arena.now }
     ensures value { result ≡ spec.is_designator (tree_at (forest arena.now) i) }
 {
-    match arena.node(i) {
+    match *arena.node(i) {
         Node::Plain(Plain::Phrase(phrase, _)) => is_designator_role(phrase.role),
         _ => false,
     }
@@ -135,7 +135,7 @@ fn is_scoped(arena: &Arena, i: u32) -> bool
     requires within { i < size arena.now }
     ensures value { result ≡ spec.is_scoped (tree_at (forest arena.now) i) }
 {
-    match arena.node(i) {
+    match *arena.node(i) {
         Node::Plain(Plain::Scoped(is_friend, _, _)) => !is_friend,
         _ => false,
     }
@@ -146,8 +146,8 @@ pub fn count_of(arena: &Arena, i: u32) -> Option<u64>
     requires within { i < size arena.now }
     ensures value { result ≡ spec.count_of (tree_at (forest arena.now) i) }
 {
-    match arena.node(i) {
-        Node::Plain(plain) => match plain {
+    match *arena.node(i) {
+        Node::Plain(ref plain) => match *plain {
             Plain::Expansion(t) => widened(arena.elements(t)),
             Plain::List(items) => Some(count_of_list(arena, items)),
             _ => None,
@@ -181,7 +181,7 @@ fn count_of_item(arena: &Arena, i: u32) -> u64
     ensures value { result ≡ spec.count_item (tree_at (forest arena.now) i) }
     ensures small { result ≤ 4294967295 }
 {
-    match arena.node(i) {
+    match *arena.node(i) {
         Node::Plain(Plain::Expansion(t)) => match arena.elements(t) {
             Some(n) => n as u64,
             None => 0,
@@ -195,7 +195,7 @@ fn is_objc_object(arena: &Arena, i: u32) -> bool
     requires within { i < size arena.now }
     ensures value { result ≡ spec.is_objc_object (tree_at (forest arena.now) i) }
 {
-    match arena.node(i) {
+    match *arena.node(i) {
         Node::Plain(Plain::Name(name)) => arena.bytes(name) == b"objc_object".as_slice(),
         _ => false,
     }
@@ -207,7 +207,7 @@ pub fn protocol_of(arena: &Arena, i: u32) -> Option<&[u8]>
     ensures value { MatchOption result (spec.protocol_of (tree_at (forest arena.now) i) ≡ None)
         (λ w. spec.protocol_of (tree_at (forest arena.now) i) ≡ Some w.now) }
 {
-    match arena.node(i) {
+    match *arena.node(i) {
         Node::Plain(Plain::ObjcProtocol(name, protocol)) => {
             if !is_objc_object(arena, name) {
                 return None;

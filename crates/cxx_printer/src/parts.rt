@@ -1,16 +1,17 @@
 //! The parts of a symbol of a function or of data: the base of its name, the scopes around it, the parameters and the
 //! return type. Any other symbol has none, and then nothing is appended.
-#![tactic(auto, using(crate::proofs::Appended::prints), unfolding(cxx_tree::specs::Stored::tree_of, cxx_tree::specs::Stored::plain_tree, cxx_tree::specs::Stored::declaration_tree, cxx_tree::specs::Stored::IsBelow, cxx_tree::specs::Stored::IsPlainBelow, crate::specs::Parts::named_of, crate::specs::Parts::base_of, crate::specs::Parts::scopes_of, crate::specs::Parts::colons, crate::specs::Parts::joined, crate::specs::Parts::ret_text, crate::specs::Parts::return_type_text, crate::specs::Parts::parameters_text))]
+#![tactic(auto, using(crate::proofs::Appended::prints), unfolding(cxx_tree::specs::Stored::tree_of, cxx_tree::specs::Stored::plain_tree, cxx_tree::specs::Stored::declaration_tree, cxx_tree::specs::Stored::IsBelow, cxx_tree::specs::Stored::IsPlainBelow, crate::specs::Parts::named_of, crate::specs::Parts::split, crate::specs::Parts::colons, crate::specs::Parts::joined, crate::specs::Printing::print, crate::specs::Parts::return_type_text, crate::specs::Parts::parameters_text))]
 
 ghost use Rattle.std.specs.Prelude.{◌≡◌, ◌<◌, ◌≤◌, ◌∷◌, Some, None, MatchOption, IfSome};
 ghost use Rattle.cxx_tree.specs.Stored.{forest, size, tree_at, option_at, plain_tree, IsOptionBelow, IsPlainBelow};
 ghost use Rattle.cxx_printer.specs.Prints.{Prints};
 ghost use Rattle.cxx_printer.specs.Words.{top};
+ghost use Rattle.cxx_printer.specs.Printing.{whole, items_of, of_return};
 ghost use Rattle.cxx_printer.specs.Parts as spec;
 
 use crate::env::{Env, Style};
 use crate::print::{print, print_parens, print_scope};
-use crate::symbol::write;
+use crate::writing::write;
 use cxx_tree::{Arena, Node, Plain};
 use growing_text::Text;
 use std::alloc::AllocError;
@@ -54,12 +55,12 @@ pub fn print_parameters(
     requires within { i < size arena.now }
     ensures prints { Prints result out.old out.new (spec.parameters_text (top style) (tree_at (forest arena.now) i)) }
 {
-    match arena.node(i) {
-        Node::Encoding(_, _, params, _, _, _) => print_parens(
+    match *arena.node(i) {
+        Node::Encoding(ref encoding) => print_parens(
             arena,
             Env::top(style),
             i,
-            params,
+            encoding.params,
             out,
         ),
         _ => Ok(()),
@@ -76,15 +77,15 @@ pub fn print_return_type(
     requires within { i < size arena.now }
     ensures prints { Prints result out.old out.new (spec.return_type_text (top style) (tree_at (forest arena.now) i)) }
 {
-    match arena.node(i) {
-        Node::Encoding(ret, _, _, _, _, _) => print_ret(arena, Env::top(style), ret, out),
+    match *arena.node(i) {
+        Node::Encoding(ref encoding) => print_ret(arena, Env::top(style), encoding.ret, out),
         _ => Ok(()),
     }
 }
 
 fn print_ret(arena: &Arena, env: Env, ret: Option<u32>, out: &mut Text) -> Result<(), AllocError>
     requires below { IsOptionBelow (size arena.now) ret }
-    ensures prints { Prints result out.old out.new (spec.ret_text env (option_at (forest arena.now) ret)) }
+    ensures prints { Prints result out.old out.new (of_return whole env (items_of (option_at (forest arena.now) ret))) }
 {
     match ret {
         None => Ok(()),
@@ -99,8 +100,8 @@ fn named_of(arena: &Arena, i: u32) -> Option<u32>
         (λ name. spec.named_of (tree_at (forest arena.now) i) ≡ Some (tree_at (forest arena.now) name)) }
     ensures within { IfSome result (λ name. name < size arena.now) }
 {
-    match arena.node(i) {
-        Node::Encoding(_, name, _, _, _, _) => Some(name),
+    match *arena.node(i) {
+        Node::Encoding(ref encoding) => Some(encoding.name),
         Node::Plain(Plain::Data(name)) => Some(name),
         _ => None,
     }
@@ -109,11 +110,11 @@ fn named_of(arena: &Arena, i: u32) -> Option<u32>
 // The base of a name.
 fn base_of(arena: &Arena, i: u32) -> u32
     requires within { i < size arena.now }
-    ensures value { tree_at (forest arena.now) result ≡ spec.base_of (tree_at (forest arena.now) i) }
+    ensures value { tree_at (forest arena.now) result ≡ (spec.split (tree_at (forest arena.now) i)).1 }
     ensures within { result < size arena.now }
 {
-    match arena.node(i) {
-        Node::Plain(plain) => match plain {
+    match *arena.node(i) {
+        Node::Plain(ref plain) => match *plain {
             Plain::AbiTag(name, _) => base_of(arena, name),
             Plain::InModule(name, _) => base_of(arena, name),
             Plain::WithArgs(name, _) => base_of(arena, name),
@@ -135,10 +136,10 @@ fn print_scopes(
 ) -> Result<(), AllocError>
     requires within { i < size arena.now }
     ensures prints { Prints result out.old out.new
-        (spec.joined is_first env (spec.scopes_of (tree_at (forest arena.now) i))) }
+        (spec.joined is_first env (spec.split (tree_at (forest arena.now) i)).0) }
 {
-    match arena.node(i) {
-        Node::Plain(plain) => scopes_of_plain(arena, env, is_first, i, plain, out),
+    match *arena.node(i) {
+        Node::Plain(ref plain) => scopes_of_plain(arena, env, is_first, i, plain, out),
         _ => Ok(()),
     }
 }
@@ -149,15 +150,15 @@ fn scopes_of_plain(
     env: Env,
     is_first: bool,
     bound: u32,
-    plain: Plain,
+    plain: &Plain,
     out: &mut Text,
 ) -> Result<(), AllocError>
     requires bound { bound ≤ size arena.now }
-    requires below { IsPlainBelow arena.now.held bound plain }
+    requires below { IsPlainBelow arena.now.held bound plain.now }
     ensures prints { Prints result out.old out.new
-        (spec.joined is_first env (spec.scopes_of (plain_tree arena.now.held (forest arena.now) plain))) }
+        (spec.joined is_first env (spec.split (plain_tree arena.now.held (forest arena.now) plain.now)).0) }
 {
-    match plain {
+    match *plain {
         Plain::AbiTag(name, _) => print_scopes(arena, env, is_first, name, out),
         Plain::InModule(name, _) => print_scopes(arena, env, is_first, name, out),
         Plain::WithArgs(name, _) => print_scopes(arena, env, is_first, name, out),
@@ -179,7 +180,7 @@ fn print_from_scope(
     requires scope { scope < size arena.now }
     requires name { name < size arena.now }
     ensures prints { Prints result out.old out.new (spec.joined is_first env
-        (tree_at (forest arena.now) scope ∷ spec.scopes_of (tree_at (forest arena.now) name))) }
+        (tree_at (forest arena.now) scope ∷ (spec.split (tree_at (forest arena.now) name)).0)) }
 {
     tri!(write_colons(is_first, out));
     tri!(print_scope(arena, env, scope, out));

@@ -1,20 +1,26 @@
 //! Printing.
 //!
 //! Functions that print what a node holds take a `bound` too: the nodes that are printed stand before it.
-#![tactic(auto, using(crate::proofs::Appended::prints), unfolding(cxx_tree::specs::Stored::tree_of, cxx_tree::specs::Stored::plain_tree, cxx_tree::specs::Stored::declaration_tree, cxx_tree::specs::Stored::IsBelow, cxx_tree::specs::Stored::IsPlainBelow, cxx_tree::specs::Stored::IsDeclarationBelow, crate::specs::Printing::print, crate::specs::Prints::text_of_part))]
+//!
+//! A function that looks at the kind of a node calls the function for that kind last. That call is a jump, so the first
+//! function takes no stack. `#[inline(never)]` keeps the two apart.
+#![tactic(auto, using(crate::proofs::Appended::prints), unfolding(cxx_tree::specs::Stored::tree_of, cxx_tree::specs::Stored::plain_tree, cxx_tree::specs::Stored::declaration_tree, cxx_tree::specs::Stored::IsBelow, cxx_tree::specs::Stored::IsPlainBelow, cxx_tree::specs::Stored::IsDeclarationBelow, crate::specs::Printing::print, crate::specs::Asked::text_of_part))]
 
 ghost use Rattle.std.specs.Prelude.{◌≡◌, ℕ, nat_eq, ◌+◌, ◌<◌, ◌≤◌, Bool, true, false, List, [], ◌∷◌, ◌++◌, codes, length, Option, Some, None, if◌then◌else◌, IfOk};
 ghost use Rattle.std.specs.List.{AllByRecursion};
-ghost use Rattle.std.specs.Fmt.{decimal};
+ghost use Rattle.cxx_tree.specs.declared.kinds.Listing.TheVariants as listing;
+ghost use Rattle.cxx_tree.specs.declared.kinds.Manner.TheVariants as manner;
 ghost use Rattle.cxx_tree.specs.declared.kinds.Prec.TheVariants as prec;
-ghost use Rattle.cxx_tree.specs.Tree.{Tree, pack, reference, encoding};
+ghost use Rattle.cxx_tree.specs.declared.node.Node.TheVariants as node;
+ghost use Rattle.cxx_tree.specs.Tree.{Tree, pack, reference};
 ghost use Rattle.cxx_tree.specs.Measure.{measure};
-ghost use Rattle.cxx_tree.specs.Stored.{forest, size, tree_at, trees_at, trees_in, option_at, plain_tree, declaration_tree, parts_in, text_at, IsText, IsListBelow, IsOptionBelow, IsPlainBelow, IsDeclarationBelow, IsPartsBelow, IsPartBelow};
+ghost use Rattle.cxx_tree.specs.Stored.{forest, size, tree_of, IsBelow, tree_at, trees_at, trees_in, option_at, plain_tree, declaration_tree, parts_in, text_at, IsText, IsListBelow, IsOptionBelow, IsPlainBelow, IsDeclarationBelow, IsPartsBelow, IsPartBelow};
 ghost use Rattle.cxx_printer.specs.declared.shapes.Ending.TheVariants as ending;
 ghost use Rattle.cxx_printer.specs.Heads as heads;
 ghost use Rattle.cxx_printer.specs.Printing as spec;
 ghost use Rattle.cxx_printer.specs.Words as words;
-ghost use Rattle.cxx_printer.specs.Prints.{Prints, PrintsItem, text_of_part};
+ghost use Rattle.cxx_printer.specs.Prints.{Prints};
+ghost use Rattle.cxx_printer.specs.Asked.{PrintsItem, item, text_of_part};
 
 use crate::env::Env;
 use crate::operands::{
@@ -24,38 +30,48 @@ use crate::shapes::{
     Ending, element, ending_of, ending_of_list, form_of, has_right, is_closed, is_one_sided,
     is_starred, referent_of,
 };
-use crate::words::{closed, cv_text, mark, member_opened, opened, ref_text, std_text};
+use crate::words::member_opened;
+use crate::writing::{
+    write, write_blank_unless, write_closed, write_cv, write_equals, write_id, write_mark,
+    write_number, write_opened, write_ref, write_separator, write_sizeof, write_std, write_styled,
+    write_text,
+};
 use cxx_tree::{
-    Arena, Cv, Declaration, List, Listing, MOST_DIGITS, Manner, Node, Part, Parts, Phrase, Plain,
-    Prec, RefQual, number_bytes,
+    Arena, Cv, Declaration, Encoding, Function, List, Listing, Manner, Node, Part, Parts, Phrase,
+    Plain, Prec,
 };
 use growing_text::Text;
 use std::alloc::AllocError;
 
-// Appends a text.
-#[tactic(auto, using(crate::proofs::Appended::prints_added))]
-fn write(out: &mut Text, text: &[u8]) -> Result<(), AllocError>
-    ensures prints { Prints result out.old out.new text.now }
-{
-    out.add(text)
-}
-
-/// Appends what a tree prints.
+/// Appends what a tree prints. That of a name is copied here, without a call.
+#[inline(always)]
 #[cycle(printer)]
 pub fn print(arena: &Arena, env: Env, i: u32, out: &mut Text) -> Result<(), AllocError>
     requires within { i < size arena.now }
     ensures prints { Prints result out.old out.new (spec.whole (spec.print (tree_at (forest arena.now) i) env)) }
 {
-    match arena.node(i) {
-        Node::Plain(plain) => print_plain(arena, env, i, plain, out),
-        Node::Encoding(ret, name, params, cv, ref_qual, rest) => print_encoding(
-            arena, env, i, ret, name, params, cv, ref_qual, rest, out,
-        ),
+    match *arena.node(i) {
+        Node::Plain(Plain::Name(text)) => write(out, arena.bytes(text)),
+        _ => print_node(arena, env, i, out),
+    }
+}
+
+// Appends what a tree prints.
+#[inline(never)]
+#[cycle(printer)]
+fn print_node(arena: &Arena, env: Env, i: u32, out: &mut Text) -> Result<(), AllocError>
+    requires within { i < size arena.now }
+    ensures prints { Prints result out.old out.new (spec.whole (spec.print (tree_at (forest arena.now) i) env)) }
+{
+    match *arena.node(i) {
+        Node::Plain(ref plain) => print_plain(arena, env, i, plain, out),
+        Node::Encoding(ref encoding) => print_encoding(arena, env, i, encoding, out),
         _ => print_sides(arena, env, i, out),
     }
 }
 
 // Appends what a tree prints on both sides.
+#[inline(never)]
 #[cycle(printer)]
 fn print_sides(arena: &Arena, env: Env, i: u32, out: &mut Text) -> Result<(), AllocError>
     requires within { i < size arena.now }
@@ -69,70 +85,65 @@ fn print_sides(arena: &Arena, env: Env, i: u32, out: &mut Text) -> Result<(), Al
 }
 
 // Appends what a function prints.
+#[inline(never)]
 #[cycle(printer)]
 fn print_encoding(
     arena: &Arena,
     env: Env,
     bound: u32,
-    ret: Option<u32>,
-    name: u32,
-    params: List,
-    cv: Cv,
-    ref_qual: RefQual,
-    rest: Parts,
+    encoding: &Encoding,
     out: &mut Text,
 ) -> Result<(), AllocError>
     requires bound { bound ≤ size arena.now }
-    requires ret { IsOptionBelow bound ret }
-    requires name { name < bound }
-    requires params { IsListBelow arena.now.held bound params }
-    requires rest { IsPartsBelow arena.now.held bound rest }
-    ensures prints { Prints result out.old out.new (spec.whole (spec.print (encoding (option_at (forest arena.now)
-        ret) (tree_at (forest arena.now) name) (trees_in arena.now.held (forest arena.now) params) cv ref_qual
-        (parts_in arena.now.held (forest arena.now) rest)) env)) }
+    requires below { IsBelow arena.now.held bound (node.Encoding encoding.now) }
+    ensures prints { Prints result out.old out.new
+        (spec.whole (spec.print (tree_of arena.now.held (forest arena.now) (node.Encoding encoding.now)) env)) }
 {
-    tri!(left_encoding(arena, env, bound, ret, name, out));
-    right_encoding(arena, env, bound, ret, params, cv, ref_qual, rest, out)
+    tri!(left_encoding(arena, env, bound, encoding, out));
+    right_encoding(arena, env, bound, encoding, out)
 }
 
 /// Appends what a tree prints on the left of a name.
+#[inline(never)]
 #[cycle(printer)]
 pub fn print_left(arena: &Arena, env: Env, i: u32, out: &mut Text) -> Result<(), AllocError>
     requires within { i < size arena.now }
     ensures prints { Prints result out.old out.new ((spec.print (tree_at (forest arena.now) i) env).text.left) }
 {
-    match arena.node(i) {
-        Node::Plain(plain) => left_plain(arena, env, i, plain, out),
-        Node::Declaration(declaration) => left_declaration(arena, env, i, declaration, out),
+    match *arena.node(i) {
+        Node::Plain(ref plain) => left_plain(arena, env, i, plain, out),
+        Node::Declaration(ref declaration) => left_declaration(arena, env, i, declaration, out),
         Node::Qualified(t, cv) => left_qualified(arena, env, t, cv, out),
         Node::Pointer(t) => left_pointer(arena, env, t, out),
         Node::Reference(t, is_lvalue) => left_reference(arena, env, is_lvalue, t, out),
         Node::MemberPointer(class, member) => left_member(arena, env, class, member, out),
         Node::Array(element, _) => print_left(arena, env, element, out),
-        Node::Function(ret, _, _, _, _) => left_function(arena, env, ret, out),
-        Node::Encoding(ret, name, _, _, _, _) => left_encoding(arena, env, i, ret, name, out),
+        Node::Function(ref function) => left_function(arena, env, function.ret, out),
+        Node::Encoding(ref encoding) => left_encoding(arena, env, i, encoding, out),
         Node::Pack(items) => left_pack(arena, env, i, items, out),
     }
 }
 
 // Appends what a tree with one side prints.
+#[inline(always)]
 #[cycle(printer)]
 fn left_plain(
     arena: &Arena,
     env: Env,
     bound: u32,
-    plain: Plain,
+    plain: &Plain,
     out: &mut Text,
 ) -> Result<(), AllocError>
     requires bound { bound ≤ size arena.now }
-    requires below { IsPlainBelow arena.now.held bound plain }
+    requires below { IsPlainBelow arena.now.held bound plain.now }
     ensures prints { Prints result out.old out.new ((spec.print (plain_tree arena.now.held (forest arena.now)
-        plain) env).text.left) }
+        plain.now) env).text.left) }
 {
     print_plain(arena, env, bound, plain, out)
 }
 
 /// Appends what a tree prints on the right of a name. If `joined` holds, no blank is before the bracket of an array.
+#[inline(never)]
 #[cycle(printer)]
 pub fn print_right(
     arena: &Arena,
@@ -145,9 +156,9 @@ pub fn print_right(
     ensures prints { Prints result out.old out.new (spec.right_behind joined (spec.print (tree_at (forest
         arena.now) i) env).text) }
 {
-    match arena.node(i) {
-        Node::Plain(plain) => right_plain(arena, env, plain, joined, out),
-        Node::Declaration(declaration) => right_declaration(arena, env, i, declaration, out),
+    match *arena.node(i) {
+        Node::Plain(ref plain) => right_plain(arena, env, plain, joined, out),
+        Node::Declaration(ref declaration) => right_declaration(arena, env, i, declaration, out),
         Node::Qualified(t, _) => print_right(arena, env, t, joined, out),
         Node::Pointer(t) => right_pointer(arena, env, t, out),
         Node::Reference(t, is_lvalue) => right_reference(arena, env, is_lvalue, t, out),
@@ -155,12 +166,8 @@ pub fn print_right(
         Node::Array(element, dimension) => right_array(
             arena, env, i, element, dimension, joined, out,
         ),
-        Node::Function(ret, params, cv, ref_qual, exception) => right_function(
-            arena, env, i, ret, params, cv, ref_qual, exception, out,
-        ),
-        Node::Encoding(ret, _, params, cv, ref_qual, rest) => right_encoding(
-            arena, env, i, ret, params, cv, ref_qual, rest, out,
-        ),
+        Node::Function(ref function) => right_function(arena, env, i, function, out),
+        Node::Encoding(ref encoding) => right_encoding(arena, env, i, encoding, out),
         Node::Pack(items) => right_pack(arena, env, i, items, joined, out),
     }
 }
@@ -169,14 +176,14 @@ pub fn print_right(
 fn right_plain(
     arena: &Arena,
     env: Env,
-    plain: Plain,
+    plain: &Plain,
     joined: bool,
     out: &mut Text,
 ) -> Result<(), AllocError>
     ensures prints { Prints result out.old out.new (spec.right_behind joined (spec.print (plain_tree arena.now.held
-        (forest arena.now) plain) env).text) }
+        (forest arena.now) plain.now) env).text) }
 {
-    match plain {
+    match *plain {
         Plain::Name(_) | Plain::Leaf(_, _, _) | Plain::StdName(_, _) | Plain::Phrase(_, _) => Ok(
             (),
         ),
@@ -191,38 +198,40 @@ fn right_plain(
 }
 
 // Appends what a tree with one side prints.
+#[inline(always)]
 #[cycle(printer)]
 fn print_plain(
     arena: &Arena,
     env: Env,
     bound: u32,
-    plain: Plain,
+    plain: &Plain,
     out: &mut Text,
 ) -> Result<(), AllocError>
     requires bound { bound ≤ size arena.now }
-    requires below { IsPlainBelow arena.now.held bound plain }
+    requires below { IsPlainBelow arena.now.held bound plain.now }
     ensures prints { Prints result out.old out.new ((spec.print (plain_tree arena.now.held (forest arena.now)
-        plain) env).text.left) }
+        plain.now) env).text.left) }
 {
-    match plain {
-        Plain::Name(text) => write(out, arena.bytes(text)),
-        Plain::Leaf(_, llvm, gnu) => write(out, env.text(arena, llvm, gnu)),
-        Plain::StdName(std, is_expanded) => write(out, std_text(env.style, std, is_expanded)),
+    match *plain {
+        Plain::Name(ref text) => write_text(arena, text, out),
+        Plain::Leaf(_, ref llvm, ref gnu) => write_styled(arena, env, llvm, gnu, out),
+        Plain::StdName(std, is_expanded) => write_std(env, std, is_expanded, out),
         Plain::Phrase(phrase, parts) => print_phrase(arena, env, bound, phrase, parts, out),
         Plain::Scoped(is_friend, scope, name) => print_scoped(
             arena, env, is_friend, scope, name, out,
         ),
         Plain::WithArgs(name, args) => print_with_args(arena, env, bound, name, args, out),
-        Plain::AbiTag(name, tag) => print_abi_tag(arena, env, name, tag, out),
+        Plain::AbiTag(name, ref tag) => print_abi_tag(arena, env, name, tag, out),
         Plain::InModule(name, owner) => print_in_module(arena, env, name, owner, out),
-        Plain::Data(name) => print(arena, env, name, out),
-        Plain::ObjcProtocol(t, protocol) => print_protocol(arena, env, t, protocol, out),
+        Plain::Data(name) => print_node(arena, env, name, out),
+        Plain::ObjcProtocol(t, ref protocol) => print_protocol(arena, env, t, protocol, out),
         Plain::List(items) => print_list(arena, env, bound, arena.items(items), out),
         Plain::Expansion(t) => print_expansion(arena, env, t, out),
         Plain::Param(_, _) => Ok(()),
     }
 }
 
+#[inline(never)]
 #[cycle(printer)]
 fn print_scoped(
     arena: &Arena,
@@ -245,6 +254,7 @@ fn print_scoped(
     print(arena, env, name, out)
 }
 
+#[inline(never)]
 #[cycle(printer)]
 fn print_friend(
     arena: &Arena,
@@ -258,12 +268,13 @@ fn print_friend(
     ensures prints { Prints result out.old out.new (spec.whole (spec.print (tree_at (forest arena.now) scope) env)
         ++ (codes "::friend " ++ spec.whole (spec.print (tree_at (forest arena.now) name) env))) }
 {
-    tri!(print(arena, env, scope, out));
+    tri!(print_node(arena, env, scope, out));
     tri!(write(out, b"::friend "));
-    print(arena, env, name, out)
+    print_node(arena, env, name, out)
 }
 
 /// Appends what a tree prints as a scope. In GNU's style a function has no return type there.
+#[inline(always)]
 #[cycle(printer)]
 pub fn print_scope(arena: &Arena, env: Env, i: u32, out: &mut Text) -> Result<(), AllocError>
     requires within { i < size arena.now }
@@ -273,58 +284,54 @@ pub fn print_scope(arena: &Arena, env: Env, i: u32, out: &mut Text) -> Result<()
     if env.is_llvm() {
         return print(arena, env, i, out);
     }
-    match arena.node(i) {
-        Node::Encoding(_, name, params, cv, ref_qual, rest) => print_signature(
-            arena, env, i, name, params, cv, ref_qual, rest, out,
-        ),
-        Node::Plain(plain) => scope_plain(arena, env, i, plain, out),
+    match *arena.node(i) {
+        Node::Encoding(ref encoding) => print_signature(arena, env, i, encoding, out),
+        Node::Plain(ref plain) => scope_plain(arena, env, i, plain, out),
         _ => print(arena, env, i, out),
     }
 }
 
 // Appends what a tree with one side prints as a scope.
+#[inline(always)]
 #[cycle(printer)]
 fn scope_plain(
     arena: &Arena,
     env: Env,
     bound: u32,
-    plain: Plain,
+    plain: &Plain,
     out: &mut Text,
 ) -> Result<(), AllocError>
     requires bound { bound ≤ size arena.now }
-    requires below { IsPlainBelow arena.now.held bound plain }
-    ensures prints { Prints result out.old out.new (spec.scope_of (spec.print (plain_tree arena.now.held (forest
-        arena.now) plain) env).function (spec.whole (spec.print (plain_tree arena.now.held (forest arena.now)
-        plain) env))) }
+    requires below { IsPlainBelow arena.now.held bound plain.now }
+    ensures prints { Prints result out.old out.new (spec.without_return (spec.print (plain_tree arena.now.held (forest
+        arena.now) plain.now) env)) }
 {
     print_plain(arena, env, bound, plain, out)
 }
 
 /// Appends a function without its return type.
+#[inline(never)]
 #[cycle(printer)]
 pub fn print_signature(
     arena: &Arena,
     env: Env,
     bound: u32,
-    name: u32,
-    params: List,
-    cv: Cv,
-    ref_qual: RefQual,
-    rest: Parts,
+    encoding: &Encoding,
     out: &mut Text,
 ) -> Result<(), AllocError>
     requires bound { bound ≤ size arena.now }
-    requires name { name < bound }
-    requires params { IsListBelow arena.now.held bound params }
-    requires rest { IsPartsBelow arena.now.held bound rest }
-    ensures prints { Prints result out.old out.new (spec.whole (spec.print (tree_at (forest arena.now) name) env)
-        ++ spec.signature_right env [] (spec.items_of (trees_in arena.now.held (forest arena.now) params)) cv
-        ref_qual (spec.print_parts (parts_in arena.now.held (forest arena.now) rest) env)) }
+    requires below { IsBelow arena.now.held bound (node.Encoding encoding.now) }
+    ensures prints { Prints result out.old out.new
+        (spec.whole (spec.print (tree_at (forest arena.now) encoding.now.name) env)
+        ++ spec.signature_right env [] (spec.items_of (trees_in arena.now.held (forest arena.now) encoding.now.params))
+        encoding.now.cv encoding.now.ref_qual
+        (spec.print_parts (parts_in arena.now.held (forest arena.now) encoding.now.rest) env)) }
 {
-    tri!(print(arena, env, name, out));
-    right_signature(arena, env, bound, params, cv, ref_qual, rest, out)
+    tri!(print_node(arena, env, encoding.name, out));
+    right_signature(arena, env, bound, encoding, out)
 }
 
+#[inline(never)]
 #[cycle(printer)]
 fn print_with_args(
     arena: &Arena,
@@ -345,7 +352,7 @@ fn print_with_args(
     print_angles(arena, env, bound, args, out)
 }
 
-// Appends a blank behind a name that ends with a `<`, in GNU's style.
+// Appends a blank after a name that ends with a `<`, in GNU's style.
 fn blank_behind_less(arena: &Arena, env: Env, name: u32, out: &mut Text) -> Result<(), AllocError>
     requires name { name < size arena.now }
     ensures prints { Prints result out.old out.new (spec.gnu_blank env ending.Less (spec.print (tree_at (forest
@@ -360,25 +367,27 @@ fn blank_behind_less(arena: &Arena, env: Env, name: u32, out: &mut Text) -> Resu
     }
 }
 
+#[inline(never)]
 #[cycle(printer)]
 fn print_abi_tag(
     arena: &Arena,
     env: Env,
     name: u32,
-    tag: cxx_tree::Text,
+    tag: &cxx_tree::Text,
     out: &mut Text,
 ) -> Result<(), AllocError>
     requires name { name < size arena.now }
-    requires tag { IsText arena.now.held tag }
+    requires tag { IsText arena.now.held tag.now }
     ensures prints { Prints result out.old out.new ((spec.print (tree_at (forest arena.now) name) env).text.left ++
-        (codes "[abi:" ++ (text_at arena.now.held tag ++ codes "]"))) }
+        (codes "[abi:" ++ (text_at arena.now.held tag.now ++ codes "]"))) }
 {
     tri!(print_left(arena, env, name, out));
     tri!(write(out, b"[abi:"));
-    tri!(write(out, arena.bytes(tag)));
+    tri!(write(out, arena.bytes(*tag)));
     write(out, b"]")
 }
 
+#[inline(never)]
 #[cycle(printer)]
 fn print_in_module(
     arena: &Arena,
@@ -392,39 +401,41 @@ fn print_in_module(
     ensures prints { Prints result out.old out.new (spec.whole (spec.print (tree_at (forest arena.now) name) env)
         ++ (codes "@" ++ spec.whole (spec.print (tree_at (forest arena.now) owner) env))) }
 {
-    tri!(print(arena, env, name, out));
+    tri!(print_node(arena, env, name, out));
     tri!(write(out, b"@"));
-    print(arena, env, owner, out)
+    print_node(arena, env, owner, out)
 }
 
+#[inline(never)]
 #[cycle(printer)]
 fn print_protocol(
     arena: &Arena,
     env: Env,
     t: u32,
-    protocol: cxx_tree::Text,
+    protocol: &cxx_tree::Text,
     out: &mut Text,
 ) -> Result<(), AllocError>
     requires within { t < size arena.now }
-    requires protocol { IsText arena.now.held protocol }
+    requires protocol { IsText arena.now.held protocol.now }
     ensures prints { Prints result out.old out.new (spec.whole (spec.print (tree_at (forest arena.now) t) env) ++
-        (codes "<" ++ (text_at arena.now.held protocol ++ codes ">"))) }
+        (codes "<" ++ (text_at arena.now.held protocol.now ++ codes ">"))) }
 {
-    tri!(print(arena, env, t, out));
+    tri!(print_node(arena, env, t, out));
     tri!(write(out, b"<"));
-    tri!(write(out, arena.bytes(protocol)));
+    tri!(write(out, arena.bytes(*protocol)));
     write(out, b">")
 }
 
 /// Appends an expansion: its pattern for each element of the packs in it, or the pattern and an ellipsis.
+#[inline(never)]
 #[cycle(printer)]
 fn print_expansion(arena: &Arena, env: Env, t: u32, out: &mut Text) -> Result<(), AllocError>
     requires within { t < size arena.now }
     ensures prints { Prints result out.old out.new (spec.expansion_text env (measure (tree_at (forest arena.now)
-        t)).elements (spec.item (tree_at (forest arena.now) t))) }
+        t)).elements (item (tree_at (forest arena.now) t))) }
 {
     match arena.elements(t) {
-        None => print_unexpanded(arena, env.at(None), t, out),
+        None => print_unexpanded(arena, env.at(0), t, out),
         Some(n) => print_repeated(arena, env, n, t, out),
     }
 }
@@ -432,7 +443,7 @@ fn print_expansion(arena: &Arena, env: Env, t: u32, out: &mut Text) -> Result<()
 #[cycle(printer)]
 fn print_unexpanded(arena: &Arena, env: Env, t: u32, out: &mut Text) -> Result<(), AllocError>
     requires within { t < size arena.now }
-    ensures prints { Prints result out.old out.new (spec.operand env prec.Comma true (spec.item (tree_at (forest
+    ensures prints { Prints result out.old out.new (spec.operand env prec.Comma true (item (tree_at (forest
         arena.now) t)) ++ codes "...") }
 {
     tri!(print_operand(arena, env, Prec::Comma, true, t, out));
@@ -443,7 +454,7 @@ fn print_unexpanded(arena: &Arena, env: Env, t: u32, out: &mut Text) -> Result<(
 #[cycle(printer)]
 fn print_repeated(arena: &Arena, env: Env, n: u32, t: u32, out: &mut Text) -> Result<(), AllocError>
     requires within { t < size arena.now }
-    ensures prints { Prints result out.old out.new (spec.repeated n 0 env (spec.item (tree_at (forest arena.now) t))) }
+    ensures prints { Prints result out.old out.new (spec.repeated n 0 env (item (tree_at (forest arena.now) t))) }
 {
     for k in 0..n {
         tri!(print_element(arena, env, k, t, out));
@@ -452,26 +463,19 @@ fn print_repeated(arena: &Arena, env: Env, n: u32, t: u32, out: &mut Text) -> Re
 }
 
 /// Appends a pattern at an index of its packs, with a comma before it if it isn't the first.
+#[inline(never)]
 #[cycle(printer)]
 fn print_element(arena: &Arena, env: Env, k: u32, t: u32, out: &mut Text) -> Result<(), AllocError>
     requires within { t < size arena.now }
     ensures prints { Prints result out.old out.new (spec.separator (nat_eq k 0) ++ spec.whole (spec.print (tree_at
-        (forest arena.now) t) (words.at env (Some k)))) }
+        (forest arena.now) t) (words.at env k))) }
 {
     tri!(write_separator(k == 0, out));
-    print(arena, env.at(Some(k)), t, out)
-}
-
-fn write_separator(is_first: bool, out: &mut Text) -> Result<(), AllocError>
-    ensures prints { Prints result out.old out.new (spec.separator is_first) }
-{
-    if is_first {
-        return Ok(());
-    }
-    write(out, b", ")
+    print_node(arena, env.at(k), t, out)
 }
 
 /// Appends a list. What prints nothing has no comma.
+#[inline(never)]
 #[cycle(printer)]
 fn print_list(
     arena: &Arena,
@@ -482,7 +486,7 @@ fn print_list(
 ) -> Result<(), AllocError>
     requires bound { bound ≤ size arena.now }
     requires below { AllByRecursion (λ t. t < bound) items.now }
-    ensures prints { Prints result out.old out.new (spec.list_text env (spec.items_of (trees_at (forest arena.now)
+    ensures prints { Prints result out.old out.new (spec.list_from true env (spec.items_of (trees_at (forest arena.now)
         items.now))) }
 {
     let mut is_first = true;
@@ -493,6 +497,7 @@ fn print_list(
 }
 
 /// Appends an item of a list, with a comma before it if it isn't the first. Returns whether the next one is the first.
+#[inline(always)]
 #[cycle(printer)]
 fn print_item(
     arena: &Arena,
@@ -502,7 +507,7 @@ fn print_item(
     out: &mut Text,
 ) -> Result<bool, AllocError>
     requires within { t < size arena.now }
-    ensures prints { PrintsItem result out.old out.new is_first (spec.item_text env (spec.item (tree_at (forest
+    ensures prints { PrintsItem result out.old out.new is_first (spec.item_text env (item (tree_at (forest
         arena.now) t))) }
 {
     let before = out.len();
@@ -516,19 +521,21 @@ fn print_item(
     Ok(false)
 }
 
+#[inline(never)]
 #[cycle(printer)]
 fn print_item_text(arena: &Arena, env: Env, t: u32, out: &mut Text) -> Result<(), AllocError>
     requires within { t < size arena.now }
-    ensures prints { Prints result out.old out.new (spec.item_text env (spec.item (tree_at (forest arena.now) t))) }
+    ensures prints { Prints result out.old out.new (spec.item_text env (item (tree_at (forest arena.now) t))) }
 {
     if env.is_llvm() {
         return print_operand(arena, env, Prec::Comma, false, t, out);
     }
-    print(arena, env, t, out)
+    print_node(arena, env, t, out)
 }
 
 /// Appends an operand: the tree, in parentheses if it is looser than the precedence, or as loose and `loose` is false.
 /// In GNU's style it is in parentheses if it isn't a name.
+#[inline(always)]
 #[cycle(printer)]
 fn print_operand(
     arena: &Arena,
@@ -539,19 +546,20 @@ fn print_operand(
     out: &mut Text,
 ) -> Result<(), AllocError>
     requires within { t < size arena.now }
-    ensures prints { Prints result out.old out.new (spec.operand env prec loose (spec.item (tree_at (forest
+    ensures prints { Prints result out.old out.new (spec.operand env prec loose (item (tree_at (forest
         arena.now) t))) }
 {
     if is_bare(arena, env, prec, loose, t) {
-        return print(arena, env, t, out);
+        return print_node(arena, env, t, out);
     }
     print_enclosed(arena, env, t, out)
 }
 
 // Whether an operand needs no parentheses.
+#[inline(always)]
 fn is_bare(arena: &Arena, env: Env, prec: Prec, loose: bool, t: u32) -> bool
     requires within { t < size arena.now }
-    ensures value { result ≡ spec.is_bare env prec loose (spec.item (tree_at (forest arena.now) t)) }
+    ensures value { result ≡ spec.is_bare env prec loose (item (tree_at (forest arena.now) t)) }
 {
     if env.is_llvm() {
         return is_tight(prec_of(arena, t), prec, loose);
@@ -560,16 +568,18 @@ fn is_bare(arena: &Arena, env: Env, prec: Prec, loose: bool, t: u32) -> bool
 }
 
 /// Appends a tree in parentheses.
+#[inline(never)]
 #[cycle(printer)]
 fn print_enclosed(arena: &Arena, env: Env, t: u32, out: &mut Text) -> Result<(), AllocError>
     requires within { t < size arena.now }
-    ensures prints { Prints result out.old out.new (spec.in_parens env (spec.item (tree_at (forest arena.now) t))) }
+    ensures prints { Prints result out.old out.new (spec.in_parens env (item (tree_at (forest arena.now) t))) }
 {
     tri!(write(out, b"("));
-    tri!(print(arena, env.enclosed(), t, out));
+    tri!(print_node(arena, env.enclosed(), t, out));
     write(out, b")")
 }
 
+#[inline(never)]
 #[cycle(printer)]
 fn print_phrase(
     arena: &Arena,
@@ -591,6 +601,7 @@ fn print_phrase(
     print_guarded(arena, inner, bound, parts, out)
 }
 
+#[inline(never)]
 #[cycle(printer)]
 fn print_guarded(
     arena: &Arena,
@@ -609,6 +620,7 @@ fn print_guarded(
     write(out, b")")
 }
 
+#[inline(never)]
 #[cycle(printer)]
 fn print_parts(
     arena: &Arena,
@@ -624,30 +636,32 @@ fn print_parts(
 {
     let list = arena.parts_of(parts);
     for part in list {
-        tri!(print_part(arena, env, bound, *part, out));
+        tri!(print_part(arena, env, bound, part, out));
     }
     Ok(())
 }
 
+#[inline(never)]
 #[cycle(printer)]
 fn print_part(
     arena: &Arena,
     env: Env,
     bound: u32,
-    part: Part,
+    part: &Part,
     out: &mut Text,
 ) -> Result<(), AllocError>
     requires bound { bound ≤ size arena.now }
-    requires below { IsPartBelow arena.now.held bound part }
-    ensures prints { Prints result out.old out.new (text_of_part arena.now.held (forest arena.now) env part) }
+    requires below { IsPartBelow arena.now.held bound part.now }
+    ensures prints { Prints result out.old out.new (text_of_part arena.now.held (forest arena.now) env part.now) }
 {
-    match part {
-        Part::Text(llvm, gnu) => write(out, env.text(arena, llvm, gnu)),
+    match *part {
+        Part::Text(ref llvm, ref gnu) => write_styled(arena, env, llvm, gnu, out),
         Part::Tree(manner, t) => print_tree(arena, env, manner, t, out),
         Part::Trees(listing, items) => print_trees(arena, env, bound, listing, items, out),
     }
 }
 
+#[inline(never)]
 #[cycle(printer)]
 fn print_tree(
     arena: &Arena,
@@ -657,12 +671,10 @@ fn print_tree(
     out: &mut Text,
 ) -> Result<(), AllocError>
     requires within { t < size arena.now }
-    ensures prints { Prints result out.old out.new (spec.part_text manner (heads.is_designator (tree_at (forest
-        arena.now) t)) (heads.count_of (tree_at (forest arena.now) t)) (measure (tree_at (forest arena.now)
-        t)).elements env (spec.item (tree_at (forest arena.now) t))) }
+    ensures prints { Prints result out.old out.new (spec.part_text manner env (item (tree_at (forest arena.now) t))) }
 {
     match manner {
-        Manner::Whole(context) => print(arena, env.in_context(context), t, out),
+        Manner::Whole(context) => print_node(arena, env.in_context(context), t, out),
         Manner::Operand(prec, loose) => print_operand(arena, env, prec, loose, t, out),
         Manner::Scope => print_scope(arena, env, t, out),
         Manner::Callee => print_callee(arena, env, t, out),
@@ -675,21 +687,23 @@ fn print_tree(
 }
 
 /// Appends a function that is called. In GNU's style it has no parameters.
+#[inline(never)]
 #[cycle(printer)]
 fn print_callee(arena: &Arena, env: Env, t: u32, out: &mut Text) -> Result<(), AllocError>
     requires within { t < size arena.now }
-    ensures prints { Prints result out.old out.new (spec.callee_text env (spec.item (tree_at (forest arena.now) t))) }
+    ensures prints { Prints result out.old out.new (spec.part_text manner.Callee env (item (tree_at (forest
+        arena.now) t))) }
 {
     if env.is_llvm() {
-        return print(arena, env, t, out);
+        return print_node(arena, env, t, out);
     }
-    match arena.node(t) {
-        Node::Encoding(_, name, _, _, _, _) => print_operand(
+    match *arena.node(t) {
+        Node::Encoding(ref encoding) => print_operand(
             arena,
             env,
             Prec::Comma,
             true,
-            name,
+            encoding.name,
             out,
         ),
         _ => print_operand(arena, env, Prec::Comma, true, t, out),
@@ -697,6 +711,7 @@ fn print_callee(arena: &Arena, env: Env, t: u32, out: &mut Text) -> Result<(), A
 }
 
 /// Appends the operand of an `&`. In GNU's style some functions have no parameters.
+#[inline(never)]
 #[cycle(printer)]
 fn print_address(
     arena: &Arena,
@@ -706,16 +721,16 @@ fn print_address(
     out: &mut Text,
 ) -> Result<(), AllocError>
     requires within { t < size arena.now }
-    ensures prints { Prints result out.old out.new (spec.address_text env prec (spec.item (tree_at (forest
+    ensures prints { Prints result out.old out.new (spec.part_text (manner.Address prec) env (item (tree_at (forest
         arena.now) t))) }
 {
     if env.is_llvm() {
         return print_operand(arena, env, prec, false, t, out);
     }
-    match arena.node(t) {
-        Node::Encoding(_, name, _, cv, ref_qual, _) => {
-            if is_named_address(arena, name, cv, ref_qual) {
-                return print(arena, env, name, out);
+    match *arena.node(t) {
+        Node::Encoding(ref encoding) => {
+            if is_named_address(arena, encoding.name, encoding.cv, encoding.ref_qual) {
+                return print_node(arena, env, encoding.name, out);
             }
             print_operand(arena, env, prec, false, t, out)
         }
@@ -723,34 +738,28 @@ fn print_address(
     }
 }
 
-/// Appends a value behind a designator.
+/// Appends a value after a designator.
+#[inline(never)]
 #[cycle(printer)]
 fn print_value(arena: &Arena, env: Env, t: u32, out: &mut Text) -> Result<(), AllocError>
     requires within { t < size arena.now }
-    ensures prints { Prints result out.old out.new (spec.value_text env (heads.is_designator (tree_at (forest
-        arena.now) t)) (spec.item (tree_at (forest arena.now) t))) }
+    ensures prints { Prints result out.old out.new (spec.part_text manner.Value env (item (tree_at (forest
+        arena.now) t))) }
 {
     if is_designator(arena, t) {
-        return print(arena, env, t, out);
+        return print_node(arena, env, t, out);
     }
     tri!(write_equals(env, out));
     print_operand(arena, env, Prec::Comma, true, t, out)
 }
 
-fn write_equals(env: Env, out: &mut Text) -> Result<(), AllocError>
-    ensures prints { Prints result out.old out.new (words.styled env (codes " = ") (codes "=")) }
-{
-    if env.is_llvm() {
-        return write(out, b" = ");
-    }
-    write(out, b"=")
-}
-
 /// Appends the only argument of a conversion.
+#[inline(never)]
 #[cycle(printer)]
 fn print_argument(arena: &Arena, env: Env, t: u32, out: &mut Text) -> Result<(), AllocError>
     requires within { t < size arena.now }
-    ensures prints { Prints result out.old out.new (spec.argument_text env (spec.item (tree_at (forest arena.now) t))) }
+    ensures prints { Prints result out.old out.new (spec.part_text manner.Argument env (item (tree_at (forest
+        arena.now) t))) }
 {
     if !env.is_llvm() {
         return print_operand(arena, env, Prec::Comma, true, t, out);
@@ -761,6 +770,7 @@ fn print_argument(arena: &Arena, env: Env, t: u32, out: &mut Text) -> Result<(),
 }
 
 /// Appends `sizeof...` and a pack, in GNU's style the number of its elements if it is known.
+#[inline(never)]
 #[cycle(printer)]
 fn print_count(
     arena: &Arena,
@@ -770,8 +780,8 @@ fn print_count(
     out: &mut Text,
 ) -> Result<(), AllocError>
     requires within { t < size arena.now }
-    ensures prints { Prints result out.old out.new (spec.count_text env has_blank (heads.count_of (tree_at (forest
-        arena.now) t)) (spec.item (tree_at (forest arena.now) t))) }
+    ensures prints { Prints result out.old out.new (spec.part_text (manner.Count has_blank) env (item (tree_at
+        (forest arena.now) t))) }
 {
     if env.is_llvm() {
         return print_sizeof(arena, env, has_blank, t, out);
@@ -791,36 +801,20 @@ fn print_sizeof(
     out: &mut Text,
 ) -> Result<(), AllocError>
     requires within { t < size arena.now }
-    ensures prints { Prints result out.old out.new (spec.sizeof_word has_blank ++ spec.in_parens env (spec.item
-        (tree_at (forest arena.now) t))) }
+    ensures prints { Prints result out.old out.new (spec.sizeof_text has_blank env (item (tree_at (forest
+        arena.now) t))) }
 {
     tri!(write_sizeof(has_blank, out));
     print_enclosed(arena, env, t, out)
 }
 
-fn write_sizeof(has_blank: bool, out: &mut Text) -> Result<(), AllocError>
-    ensures prints { Prints result out.old out.new (spec.sizeof_word has_blank) }
-{
-    if has_blank {
-        return write(out, b"sizeof... ");
-    }
-    write(out, b"sizeof...")
-}
-
-// Appends a number.
-fn write_number(n: u64, out: &mut Text) -> Result<(), AllocError>
-    ensures prints { Prints result out.old out.new (decimal n) }
-{
-    let mut spare = [0; MOST_DIGITS];
-    write(out, number_bytes(&mut spare, n as u128))
-}
-
 /// Appends a pack that a fold expression folds.
+#[inline(never)]
 #[cycle(printer)]
 fn print_folded(arena: &Arena, env: Env, t: u32, out: &mut Text) -> Result<(), AllocError>
     requires within { t < size arena.now }
     ensures prints { Prints result out.old out.new (spec.folded_text env (measure (tree_at (forest arena.now)
-        t)).elements (spec.item (tree_at (forest arena.now) t))) }
+        t)).elements (item (tree_at (forest arena.now) t))) }
 {
     if !env.is_llvm() {
         if arena.elements(t).is_none() {
@@ -832,6 +826,7 @@ fn print_folded(arena: &Arena, env: Env, t: u32, out: &mut Text) -> Result<(), A
     write(out, b")")
 }
 
+#[inline(never)]
 #[cycle(printer)]
 fn print_trees(
     arena: &Arena,
@@ -856,6 +851,7 @@ fn print_trees(
     }
 }
 
+#[inline(never)]
 #[cycle(printer)]
 pub fn print_parens(
     arena: &Arena,
@@ -874,6 +870,7 @@ pub fn print_parens(
     write(out, b")")
 }
 
+#[inline(never)]
 #[cycle(printer)]
 fn print_angles(
     arena: &Arena,
@@ -893,7 +890,7 @@ fn print_angles(
     write(out, b">")
 }
 
-// Appends a blank behind a list that ends with a `>`, in GNU's style.
+// Appends a blank after a list that ends with a `>`, in GNU's style.
 fn blank_behind_greater(
     arena: &Arena,
     env: Env,
@@ -915,6 +912,7 @@ fn blank_behind_greater(
     }
 }
 
+#[inline(never)]
 #[cycle(printer)]
 fn print_sequence(
     arena: &Arena,
@@ -929,12 +927,13 @@ fn print_sequence(
         items.now))) }
 {
     for t in items {
-        tri!(print(arena, env, *t, out));
+        tri!(print_node(arena, env, *t, out));
     }
     Ok(())
 }
 
 /// Appends the declarations of a closure's template parameters.
+#[inline(never)]
 #[cycle(printer)]
 fn print_declarations(
     arena: &Arena,
@@ -945,7 +944,7 @@ fn print_declarations(
 ) -> Result<(), AllocError>
     requires bound { bound ≤ size arena.now }
     requires below { IsListBelow arena.now.held bound list }
-    ensures prints { Prints result out.old out.new (spec.declarations_text env (spec.items_of (trees_in
+    ensures prints { Prints result out.old out.new (spec.list_of listing.Declarations env (spec.items_of (trees_in
         arena.now.held (forest arena.now) list))) }
 {
     if env.is_llvm() {
@@ -966,7 +965,8 @@ fn print_declared_list(
 ) -> Result<(), AllocError>
     requires bound { bound ≤ size arena.now }
     requires below { AllByRecursion (λ t. t < bound) items.now }
-    ensures prints { Prints result out.old out.new (spec.declarations true env (spec.items_of (trees_at (forest
+    ensures prints { Prints result out.old out.new (spec.separated spec.declared true env (spec.items_of (trees_at
+        (forest
         arena.now) items.now))) }
 {
     let mut is_first = true;
@@ -977,6 +977,7 @@ fn print_declared_list(
     Ok(())
 }
 
+#[inline(never)]
 #[cycle(printer)]
 fn print_declared(
     arena: &Arena,
@@ -1014,10 +1015,10 @@ fn print_head(arena: &Arena, env: Env, t: u32, out: &mut Text) -> Result<(), All
     requires within { t < size arena.now }
     ensures prints { Prints result out.old out.new (spec.head (spec.print (tree_at (forest arena.now) t) env)) }
 {
-    match arena.node(t) {
-        Node::Declaration(declaration) => head_of_declaration(arena, env, t, declaration, out),
-        Node::Plain(plain) => head_of_plain(arena, env, t, plain, out),
-        _ => print(arena, env, t, out),
+    match *arena.node(t) {
+        Node::Declaration(ref declaration) => head_of_declaration(arena, env, t, declaration, out),
+        Node::Plain(ref plain) => head_of_plain(arena, env, t, plain, out),
+        _ => print_node(arena, env, t, out),
     }
 }
 
@@ -1026,13 +1027,13 @@ fn head_of_plain(
     arena: &Arena,
     env: Env,
     bound: u32,
-    plain: Plain,
+    plain: &Plain,
     out: &mut Text,
 ) -> Result<(), AllocError>
     requires bound { bound ≤ size arena.now }
-    requires below { IsPlainBelow arena.now.held bound plain }
+    requires below { IsPlainBelow arena.now.held bound plain.now }
     ensures prints { Prints result out.old out.new (spec.head (spec.print (plain_tree arena.now.held (forest
-        arena.now) plain) env)) }
+        arena.now) plain.now) env)) }
 {
     print_plain(arena, env, bound, plain, out)
 }
@@ -1042,17 +1043,17 @@ fn head_of_declaration(
     arena: &Arena,
     env: Env,
     bound: u32,
-    declaration: Declaration,
+    declaration: &Declaration,
     out: &mut Text,
 ) -> Result<(), AllocError>
     requires bound { bound ≤ size arena.now }
-    requires below { IsDeclarationBelow arena.now.held bound declaration }
+    requires below { IsDeclarationBelow arena.now.held bound declaration.now }
     ensures prints { Prints result out.old out.new (spec.head (spec.print (declaration_tree arena.now.held (forest
-        arena.now) declaration) env)) }
+        arena.now) declaration.now) env)) }
 {
-    match declaration {
-        Declaration::TypeParam(constraint, _) => print(arena, env, constraint, out),
-        Declaration::NonTypeParam(_, t) => print(arena, env, t, out),
+    match *declaration {
+        Declaration::TypeParam(constraint, _) => print_node(arena, env, constraint, out),
+        Declaration::NonTypeParam(_, t) => print_node(arena, env, t, out),
         Declaration::TemplateParam(_, declarations, _) => print_template_head(
             arena,
             env,
@@ -1084,7 +1085,8 @@ fn print_template_head(
 ) -> Result<(), AllocError>
     requires bound { bound ≤ size arena.now }
     requires below { AllByRecursion (λ t. t < bound) items.now }
-    ensures prints { Prints result out.old out.new (codes "template<" ++ (spec.heads true env (spec.items_of
+    ensures prints { Prints result out.old out.new (codes "template<" ++ (spec.separated spec.head true env
+        (spec.items_of
         (trees_at (forest arena.now) items.now)) ++ codes "> class")) }
 {
     tri!(write(out, b"template<"));
@@ -1102,7 +1104,8 @@ fn print_heads(
 ) -> Result<(), AllocError>
     requires bound { bound ≤ size arena.now }
     requires below { AllByRecursion (λ t. t < bound) items.now }
-    ensures prints { Prints result out.old out.new (spec.heads true env (spec.items_of (trees_at (forest arena.now)
+    ensures prints { Prints result out.old out.new (spec.separated spec.head true env (spec.items_of (trees_at
+        (forest arena.now)
         items.now))) }
 {
     let mut is_first = true;
@@ -1113,6 +1116,7 @@ fn print_heads(
     Ok(())
 }
 
+#[inline(never)]
 #[cycle(printer)]
 fn print_next_head(
     arena: &Arena,
@@ -1136,19 +1140,19 @@ fn print_declared_name(arena: &Arena, env: Env, t: u32, out: &mut Text) -> Resul
     ensures prints { Prints result out.old out.new (spec.declared_name (spec.print (tree_at (forest arena.now) t)
         env)) }
 {
-    match arena.node(t) {
-        Node::Declaration(declaration) => name_of_declaration(arena, env, t, declaration, out),
-        Node::Plain(plain) => name_of_plain(arena, env, plain, out),
+    match *arena.node(t) {
+        Node::Declaration(ref declaration) => name_of_declaration(arena, env, t, declaration, out),
+        Node::Plain(ref plain) => name_of_plain(arena, env, plain, out),
         _ => Ok(()),
     }
 }
 
 // Appends nothing, since a tree with one side declares nothing.
-fn name_of_plain(arena: &Arena, env: Env, plain: Plain, out: &mut Text) -> Result<(), AllocError>
+fn name_of_plain(arena: &Arena, env: Env, plain: &Plain, out: &mut Text) -> Result<(), AllocError>
     ensures prints { Prints result out.old out.new (spec.declared_name (spec.print (plain_tree arena.now.held
-        (forest arena.now) plain) env)) }
+        (forest arena.now) plain.now) env)) }
 {
-    match plain {
+    match *plain {
         Plain::Scoped(is_friend, _, _) => if is_friend { Ok(()) } else { Ok(()) },
         _ => Ok(()),
     }
@@ -1159,36 +1163,37 @@ fn name_of_declaration(
     arena: &Arena,
     env: Env,
     bound: u32,
-    declaration: Declaration,
+    declaration: &Declaration,
     out: &mut Text,
 ) -> Result<(), AllocError>
     requires bound { bound ≤ size arena.now }
-    requires below { IsDeclarationBelow arena.now.held bound declaration }
+    requires below { IsDeclarationBelow arena.now.held bound declaration.now }
     ensures prints { Prints result out.old out.new (spec.declared_name (spec.print (declaration_tree arena.now.held
-        (forest arena.now) declaration) env)) }
+        (forest arena.now) declaration.now) env)) }
 {
-    match declaration {
-        Declaration::TypeParam(_, name) => print(arena, env, name, out),
-        Declaration::NonTypeParam(name, _) => print(arena, env, name, out),
-        Declaration::TemplateParam(name, _, _) => print(arena, env, name, out),
+    match *declaration {
+        Declaration::TypeParam(_, name) => print_node(arena, env, name, out),
+        Declaration::NonTypeParam(name, _) => print_node(arena, env, name, out),
+        Declaration::TemplateParam(name, _, _) => print_node(arena, env, name, out),
         Declaration::PackParam(d) => print_declared_name(arena, env, d, out),
     }
 }
 
+#[inline(never)]
 #[cycle(printer)]
 fn left_declaration(
     arena: &Arena,
     env: Env,
     bound: u32,
-    declaration: Declaration,
+    declaration: &Declaration,
     out: &mut Text,
 ) -> Result<(), AllocError>
     requires bound { bound ≤ size arena.now }
-    requires below { IsDeclarationBelow arena.now.held bound declaration }
+    requires below { IsDeclarationBelow arena.now.held bound declaration.now }
     ensures prints { Prints result out.old out.new ((spec.print (declaration_tree arena.now.held (forest arena.now)
-        declaration) env).text.left) }
+        declaration.now) env).text.left) }
 {
-    match declaration {
+    match *declaration {
         Declaration::TypeParam(constraint, _) => left_type_param(arena, env, constraint, out),
         Declaration::NonTypeParam(_, t) => left_non_type(arena, env, t, out),
         Declaration::TemplateParam(_, declarations, _) => left_template(
@@ -1213,11 +1218,12 @@ fn left_type_param(
     ensures prints { Prints result out.old out.new (spec.whole (spec.print (tree_at (forest arena.now) constraint)
         env) ++ codes " ") }
 {
-    tri!(print(arena, env, constraint, out));
+    tri!(print_node(arena, env, constraint, out));
     write(out, b" ")
 }
 
 /// Appends the left side of a type, and a blank unless it has a right one.
+#[inline(never)]
 #[cycle(printer)]
 fn left_non_type(arena: &Arena, env: Env, t: u32, out: &mut Text) -> Result<(), AllocError>
     requires within { t < size arena.now }
@@ -1226,15 +1232,6 @@ fn left_non_type(arena: &Arena, env: Env, t: u32, out: &mut Text) -> Result<(), 
 {
     tri!(print_left(arena, env, t, out));
     write_blank_unless(has_right(arena, env, t), out)
-}
-
-fn write_blank_unless(has_right: bool, out: &mut Text) -> Result<(), AllocError>
-    ensures prints { Prints result out.old out.new (spec.blank_unless has_right) }
-{
-    if has_right {
-        return Ok(());
-    }
-    write(out, b" ")
 }
 
 #[cycle(printer)]
@@ -1265,21 +1262,22 @@ fn left_pack_param(arena: &Arena, env: Env, d: u32, out: &mut Text) -> Result<()
     write(out, b"...")
 }
 
+#[inline(never)]
 #[cycle(printer)]
 fn right_declaration(
     arena: &Arena,
     env: Env,
     bound: u32,
-    declaration: Declaration,
+    declaration: &Declaration,
     out: &mut Text,
 ) -> Result<(), AllocError>
     requires bound { bound ≤ size arena.now }
-    requires below { IsDeclarationBelow arena.now.held bound declaration }
+    requires below { IsDeclarationBelow arena.now.held bound declaration.now }
     ensures prints { Prints result out.old out.new ((spec.print (declaration_tree arena.now.held (forest arena.now)
-        declaration) env).text.right) }
+        declaration.now) env).text.right) }
 {
-    match declaration {
-        Declaration::TypeParam(_, name) => print(arena, env, name, out),
+    match *declaration {
+        Declaration::TypeParam(_, name) => print_node(arena, env, name, out),
         Declaration::NonTypeParam(name, t) => right_non_type(arena, env, name, t, out),
         Declaration::TemplateParam(name, _, rest) => right_template(
             arena, env, bound, name, rest, out,
@@ -1301,7 +1299,7 @@ fn right_non_type(
     ensures prints { Prints result out.old out.new (spec.whole (spec.print (tree_at (forest arena.now) name) env)
         ++ spec.right_behind false (spec.print (tree_at (forest arena.now) t) env).text) }
 {
-    tri!(print(arena, env, name, out));
+    tri!(print_node(arena, env, name, out));
     print_right(arena, env, t, false, out)
 }
 
@@ -1320,10 +1318,11 @@ fn right_template(
     ensures prints { Prints result out.old out.new (spec.whole (spec.print (tree_at (forest arena.now) name) env)
         ++ (spec.print_parts (parts_in arena.now.held (forest arena.now) rest) env).text) }
 {
-    tri!(print(arena, env, name, out));
+    tri!(print_node(arena, env, name, out));
     print_parts(arena, env, bound, rest, out)
 }
 
+#[inline(never)]
 #[cycle(printer)]
 fn left_qualified(arena: &Arena, env: Env, t: u32, cv: Cv, out: &mut Text) -> Result<(), AllocError>
     requires within { t < size arena.now }
@@ -1331,9 +1330,10 @@ fn left_qualified(arena: &Arena, env: Env, t: u32, cv: Cv, out: &mut Text) -> Re
         words.cv_text cv) }
 {
     tri!(print_left(arena, env, t, out));
-    write(out, cv_text(cv))
+    write_cv(cv, out)
 }
 
+#[inline(never)]
 #[cycle(printer)]
 fn left_pointer(arena: &Arena, env: Env, t: u32, out: &mut Text) -> Result<(), AllocError>
     requires within { t < size arena.now }
@@ -1346,14 +1346,7 @@ fn left_pointer(arena: &Arena, env: Env, t: u32, out: &mut Text) -> Result<(), A
     }
 }
 
-fn write_id(protocol: &[u8], out: &mut Text) -> Result<(), AllocError>
-    ensures prints { Prints result out.old out.new (codes "id<" ++ (protocol.now ++ codes ">")) }
-{
-    tri!(write(out, b"id<"));
-    tri!(write(out, protocol));
-    write(out, b">")
-}
-
+#[inline(never)]
 #[cycle(printer)]
 fn left_plain_pointer(arena: &Arena, env: Env, t: u32, out: &mut Text) -> Result<(), AllocError>
     requires within { t < size arena.now }
@@ -1361,10 +1354,11 @@ fn left_plain_pointer(arena: &Arena, env: Env, t: u32, out: &mut Text) -> Result
         (words.opened (spec.print (tree_at (forest arena.now) t) env).text.form ++ codes "*")) }
 {
     tri!(print_left(arena, env, t, out));
-    tri!(write(out, opened(form_of(arena, env, t))));
+    tri!(write_opened(form_of(arena, env, t), out));
     write(out, b"*")
 }
 
+#[inline(never)]
 #[cycle(printer)]
 fn right_pointer(arena: &Arena, env: Env, t: u32, out: &mut Text) -> Result<(), AllocError>
     requires within { t < size arena.now }
@@ -1377,17 +1371,19 @@ fn right_pointer(arena: &Arena, env: Env, t: u32, out: &mut Text) -> Result<(), 
     }
 }
 
-/// Appends the right side of a type behind a pointer to it.
+/// Appends the right side of a type after a pointer to it.
+#[inline(never)]
 #[cycle(printer)]
 fn right_behind(arena: &Arena, env: Env, t: u32, out: &mut Text) -> Result<(), AllocError>
     requires within { t < size arena.now }
     ensures prints { Prints result out.old out.new (words.closed (spec.print (tree_at (forest arena.now) t)
         env).text.form ++ spec.right_behind false (spec.print (tree_at (forest arena.now) t) env).text) }
 {
-    tri!(write(out, closed(form_of(arena, env, t))));
+    tri!(write_closed(form_of(arena, env, t), out));
     print_right(arena, env, t, false, out)
 }
 
+#[inline(never)]
 #[cycle(printer)]
 fn left_reference(
     arena: &Arena,
@@ -1402,11 +1398,12 @@ fn left_reference(
 {
     let referent = referent_of(arena, env, is_lvalue, t);
     match referent.base {
-        None => write(out, mark(referent.is_lvalue)),
+        None => write_mark(referent.is_lvalue, out),
         Some(base) => left_base(arena, env, referent.is_lvalue, base, out),
     }
 }
 
+#[inline(never)]
 #[cycle(printer)]
 fn left_base(
     arena: &Arena,
@@ -1420,10 +1417,11 @@ fn left_base(
         t) env).text).left) }
 {
     tri!(print_left(arena, env, t, out));
-    tri!(write(out, opened(form_of(arena, env, t))));
-    write(out, mark(is_lvalue))
+    tri!(write_opened(form_of(arena, env, t), out));
+    write_mark(is_lvalue, out)
 }
 
+#[inline(never)]
 #[cycle(printer)]
 fn right_reference(
     arena: &Arena,
@@ -1442,6 +1440,7 @@ fn right_reference(
     }
 }
 
+#[inline(never)]
 #[cycle(printer)]
 fn left_member(
     arena: &Arena,
@@ -1457,7 +1456,7 @@ fn left_member(
 {
     tri!(print_left(arena, env, member, out));
     tri!(write(out, member_opened(env.style, form_of(arena, env, member))));
-    tri!(print(arena, env, class, out));
+    tri!(print_node(arena, env, class, out));
     write(out, b"::*")
 }
 
@@ -1482,6 +1481,7 @@ fn right_array(
     right_bracket(arena, env, bound, element, dimension, out)
 }
 
+#[inline(never)]
 #[cycle(printer)]
 fn right_bracket(
     arena: &Arena,
@@ -1504,7 +1504,7 @@ fn right_bracket(
     print_joined(arena, env, element, out)
 }
 
-// Appends the right side of a type behind a bracket.
+// Appends the right side of a type after a bracket.
 #[cycle(printer)]
 fn print_joined(arena: &Arena, env: Env, t: u32, out: &mut Text) -> Result<(), AllocError>
     requires within { t < size arena.now }
@@ -1513,6 +1513,7 @@ fn print_joined(arena: &Arena, env: Env, t: u32, out: &mut Text) -> Result<(), A
     print_right(arena, env, t, true, out)
 }
 
+#[inline(never)]
 #[cycle(printer)]
 fn left_function(arena: &Arena, env: Env, ret: u32, out: &mut Text) -> Result<(), AllocError>
     requires ret { ret < size arena.now }
@@ -1537,98 +1538,89 @@ fn blank_behind_ret(arena: &Arena, env: Env, ret: u32, out: &mut Text) -> Result
     )
 }
 
+#[inline(never)]
 #[cycle(printer)]
 fn right_function(
     arena: &Arena,
     env: Env,
     bound: u32,
-    ret: u32,
-    params: List,
-    cv: Cv,
-    ref_qual: RefQual,
-    exception: Parts,
+    function: &Function,
     out: &mut Text,
 ) -> Result<(), AllocError>
     requires bound { bound ≤ size arena.now }
-    requires ret { ret < bound }
-    requires params { IsListBelow arena.now.held bound params }
-    requires exception { IsPartsBelow arena.now.held bound exception }
-    ensures prints { Prints result out.old out.new ((spec.called env (spec.print (tree_at (forest arena.now) ret)
-        env) (spec.items_of (trees_in arena.now.held (forest arena.now) params)) cv ref_qual (spec.print_parts
-        (parts_in arena.now.held (forest arena.now) exception) env)).text.right) }
+    requires below { IsBelow arena.now.held bound (node.Function function.now) }
+    ensures prints { Prints result out.old out.new
+        ((spec.called env (spec.print (tree_at (forest arena.now) function.now.ret) env)
+        (spec.items_of (trees_in arena.now.held (forest arena.now) function.now.params))
+        function.now.cv function.now.ref_qual
+        (spec.print_parts (parts_in arena.now.held (forest arena.now) function.now.exception) env)).text.right) }
 {
-    tri!(print_parens(arena, env, bound, params, out));
+    tri!(print_parens(arena, env, bound, function.params, out));
     if env.is_llvm() {
-        return behind_params(arena, env, bound, ret, cv, ref_qual, exception, out);
+        return after_params(arena, env, bound, function, out);
     }
-    gnu_behind_params(arena, env, bound, ret, cv, ref_qual, exception, out)
+    gnu_after_params(arena, env, bound, function, out)
 }
 
 #[cycle(printer)]
-fn behind_params(
+fn after_params(
     arena: &Arena,
     env: Env,
     bound: u32,
-    ret: u32,
-    cv: Cv,
-    ref_qual: RefQual,
-    exception: Parts,
+    function: &Function,
     out: &mut Text,
 ) -> Result<(), AllocError>
     requires bound { bound ≤ size arena.now }
-    requires ret { ret < bound }
-    requires exception { IsPartsBelow arena.now.held bound exception }
-    ensures prints { Prints result out.old out.new (spec.right_behind false (spec.print (tree_at (forest arena.now)
-        ret) env).text ++ (words.cv_text cv ++ (words.ref_text ref_qual ++ (spec.print_parts (parts_in
-        arena.now.held (forest arena.now) exception) env).text))) }
+    requires below { IsBelow arena.now.held bound (node.Function function.now) }
+    ensures prints { Prints result out.old out.new
+        (spec.right_behind false (spec.print (tree_at (forest arena.now) function.now.ret) env).text
+        ++ (words.cv_text function.now.cv ++ (words.ref_text function.now.ref_qual
+        ++ (spec.print_parts (parts_in arena.now.held (forest arena.now) function.now.exception) env).text))) }
 {
-    tri!(print_right(arena, env, ret, false, out));
-    tri!(write(out, cv_text(cv)));
-    tri!(write(out, ref_text(ref_qual)));
-    print_parts(arena, env, bound, exception, out)
+    tri!(print_right(arena, env, function.ret, false, out));
+    tri!(write_cv(function.cv, out));
+    tri!(write_ref(function.ref_qual, out));
+    print_parts(arena, env, bound, function.exception, out)
 }
 
 #[cycle(printer)]
-fn gnu_behind_params(
+fn gnu_after_params(
     arena: &Arena,
     env: Env,
     bound: u32,
-    ret: u32,
-    cv: Cv,
-    ref_qual: RefQual,
-    exception: Parts,
+    function: &Function,
     out: &mut Text,
 ) -> Result<(), AllocError>
     requires bound { bound ≤ size arena.now }
-    requires ret { ret < bound }
-    requires exception { IsPartsBelow arena.now.held bound exception }
-    ensures prints { Prints result out.old out.new ((spec.print_parts (parts_in arena.now.held (forest arena.now)
-        exception) env).text ++ (words.cv_text cv ++ (words.ref_text ref_qual ++ spec.right_behind false
-        (spec.print (tree_at (forest arena.now) ret) env).text))) }
+    requires below { IsBelow arena.now.held bound (node.Function function.now) }
+    ensures prints { Prints result out.old out.new
+        ((spec.print_parts (parts_in arena.now.held (forest arena.now) function.now.exception) env).text
+        ++ (words.cv_text function.now.cv ++ (words.ref_text function.now.ref_qual
+        ++ spec.right_behind false (spec.print (tree_at (forest arena.now) function.now.ret) env).text))) }
 {
-    tri!(print_parts(arena, env, bound, exception, out));
-    tri!(write(out, cv_text(cv)));
-    tri!(write(out, ref_text(ref_qual)));
-    print_right(arena, env, ret, false, out)
+    tri!(print_parts(arena, env, bound, function.exception, out));
+    tri!(write_cv(function.cv, out));
+    tri!(write_ref(function.ref_qual, out));
+    print_right(arena, env, function.ret, false, out)
 }
 
+#[inline(never)]
 #[cycle(printer)]
 fn left_encoding(
     arena: &Arena,
     env: Env,
     bound: u32,
-    ret: Option<u32>,
-    name: u32,
+    encoding: &Encoding,
     out: &mut Text,
 ) -> Result<(), AllocError>
     requires bound { bound ≤ size arena.now }
-    requires ret { IsOptionBelow bound ret }
-    requires name { name < bound }
-    ensures prints { Prints result out.old out.new (spec.ret_text_left (spec.items_of (option_at (forest arena.now)
-        ret)) env ++ spec.whole (spec.print (tree_at (forest arena.now) name) env)) }
+    requires below { IsBelow arena.now.held bound (node.Encoding encoding.now) }
+    ensures prints { Prints result out.old out.new
+        (spec.of_return spec.left_of env (spec.items_of (option_at (forest arena.now) encoding.now.ret))
+        ++ spec.whole (spec.print (tree_at (forest arena.now) encoding.now.name) env)) }
 {
-    tri!(left_ret(arena, env, bound, ret, out));
-    print(arena, env, name, out)
+    tri!(left_ret(arena, env, bound, encoding.ret, out));
+    print(arena, env, encoding.name, out)
 }
 
 #[cycle(printer)]
@@ -1641,8 +1633,9 @@ fn left_ret(
 ) -> Result<(), AllocError>
     requires bound { bound ≤ size arena.now }
     requires ret { IsOptionBelow bound ret }
-    ensures prints { Prints result out.old out.new (spec.ret_text_left (spec.items_of (option_at (forest arena.now)
-        ret)) env) }
+    ensures prints { Prints result out.old out.new (spec.of_return spec.left_of env (spec.items_of (option_at
+        (forest arena.now)
+        ret))) }
 {
     match ret {
         None => Ok(()),
@@ -1660,8 +1653,8 @@ fn right_ret(
 ) -> Result<(), AllocError>
     requires bound { bound ≤ size arena.now }
     requires ret { IsOptionBelow bound ret }
-    ensures prints { Prints result out.old out.new (spec.ret_text_right (spec.items_of (option_at (forest
-        arena.now) ret)) env) }
+    ensures prints { Prints result out.old out.new (spec.of_return spec.behind env (spec.items_of (option_at (forest
+        arena.now) ret))) }
 {
     match ret {
         None => Ok(()),
@@ -1669,79 +1662,88 @@ fn right_ret(
     }
 }
 
+#[inline(never)]
 #[cycle(printer)]
 fn right_encoding(
     arena: &Arena,
     env: Env,
     bound: u32,
-    ret: Option<u32>,
-    params: List,
-    cv: Cv,
-    ref_qual: RefQual,
-    rest: Parts,
+    encoding: &Encoding,
     out: &mut Text,
 ) -> Result<(), AllocError>
     requires bound { bound ≤ size arena.now }
-    requires ret { IsOptionBelow bound ret }
-    requires params { IsListBelow arena.now.held bound params }
-    requires rest { IsPartsBelow arena.now.held bound rest }
-    ensures prints { Prints result out.old out.new (spec.signature_right env (spec.ret_text_right (spec.items_of
-        (option_at (forest arena.now) ret)) env) (spec.items_of (trees_in arena.now.held (forest arena.now)
-        params)) cv ref_qual (spec.print_parts (parts_in arena.now.held (forest arena.now) rest) env)) }
+    requires below { IsBelow arena.now.held bound (node.Encoding encoding.now) }
+    ensures prints { Prints result out.old out.new (spec.signature_right env
+        (spec.of_return spec.behind env (spec.items_of (option_at (forest arena.now) encoding.now.ret)))
+        (spec.items_of (trees_in arena.now.held (forest arena.now) encoding.now.params))
+        encoding.now.cv encoding.now.ref_qual
+        (spec.print_parts (parts_in arena.now.held (forest arena.now) encoding.now.rest) env)) }
 {
-    tri!(print_parens(arena, env, bound, params, out));
+    tri!(print_parens(arena, env, bound, encoding.params, out));
     if env.is_llvm() {
-        return behind_signature(arena, env, bound, ret, cv, ref_qual, rest, out);
+        return after_signature(arena, env, bound, encoding, out);
     }
-    gnu_behind_signature(arena, env, bound, ret, cv, ref_qual, rest, out)
+    gnu_after_signature(arena, env, bound, encoding, out)
 }
 
 #[cycle(printer)]
-fn behind_signature(
+fn after_signature(
     arena: &Arena,
     env: Env,
     bound: u32,
-    ret: Option<u32>,
-    cv: Cv,
-    ref_qual: RefQual,
-    rest: Parts,
+    encoding: &Encoding,
     out: &mut Text,
 ) -> Result<(), AllocError>
     requires bound { bound ≤ size arena.now }
-    requires ret { IsOptionBelow bound ret }
-    requires rest { IsPartsBelow arena.now.held bound rest }
-    ensures prints { Prints result out.old out.new (spec.ret_text_right (spec.items_of (option_at (forest
-        arena.now) ret)) env ++ (words.cv_text cv ++ (words.ref_text ref_qual ++ (spec.print_parts (parts_in
-        arena.now.held (forest arena.now) rest) env).text))) }
+    requires below { IsBelow arena.now.held bound (node.Encoding encoding.now) }
+    ensures prints { Prints result out.old out.new
+        (spec.of_return spec.behind env (spec.items_of (option_at (forest arena.now) encoding.now.ret))
+        ++ (words.cv_text encoding.now.cv ++ (words.ref_text encoding.now.ref_qual
+        ++ (spec.print_parts (parts_in arena.now.held (forest arena.now) encoding.now.rest) env).text))) }
 {
-    tri!(right_ret(arena, env, bound, ret, out));
-    tri!(write(out, cv_text(cv)));
-    tri!(write(out, ref_text(ref_qual)));
-    print_parts(arena, env, bound, rest, out)
+    tri!(right_ret(arena, env, bound, encoding.ret, out));
+    print_qualifiers(arena, env, bound, encoding, out)
+}
+
+// Appends the qualifiers of a function, and what follows them.
+#[cycle(printer)]
+fn print_qualifiers(
+    arena: &Arena,
+    env: Env,
+    bound: u32,
+    encoding: &Encoding,
+    out: &mut Text,
+) -> Result<(), AllocError>
+    requires bound { bound ≤ size arena.now }
+    requires below { IsBelow arena.now.held bound (node.Encoding encoding.now) }
+    ensures prints { Prints result out.old out.new
+        (words.cv_text encoding.now.cv ++ (words.ref_text encoding.now.ref_qual
+        ++ (spec.print_parts (parts_in arena.now.held (forest arena.now) encoding.now.rest) env).text)) }
+{
+    tri!(write_cv(encoding.cv, out));
+    tri!(write_ref(encoding.ref_qual, out));
+    print_parts(arena, env, bound, encoding.rest, out)
 }
 
 #[cycle(printer)]
-fn gnu_behind_signature(
+fn gnu_after_signature(
     arena: &Arena,
     env: Env,
     bound: u32,
-    ret: Option<u32>,
-    cv: Cv,
-    ref_qual: RefQual,
-    rest: Parts,
+    encoding: &Encoding,
     out: &mut Text,
 ) -> Result<(), AllocError>
     requires bound { bound ≤ size arena.now }
-    requires ret { IsOptionBelow bound ret }
-    requires rest { IsPartsBelow arena.now.held bound rest }
-    ensures prints { Prints result out.old out.new (words.cv_text cv ++ (words.ref_text ref_qual ++
-        (spec.ret_text_right (spec.items_of (option_at (forest arena.now) ret)) env ++ (spec.print_parts (parts_in
-        arena.now.held (forest arena.now) rest) env).text))) }
+    requires below { IsBelow arena.now.held bound (node.Encoding encoding.now) }
+    ensures prints { Prints result out.old out.new
+        (words.cv_text encoding.now.cv ++ (words.ref_text encoding.now.ref_qual
+        ++ (spec.of_return spec.behind env (spec.items_of (option_at (forest arena.now) encoding.now.ret))
+        ++ (spec.print_parts (parts_in arena.now.held (forest arena.now) encoding.now.rest) env).text))) }
 {
-    tri!(write(out, cv_text(cv)));
-    tri!(write(out, ref_text(ref_qual)));
-    tri!(right_ret(arena, env, bound, ret, out));
-    print_parts(arena, env, bound, rest, out)
+    tri!(write_cv(encoding.cv, out));
+    tri!(write_ref(encoding.ref_qual, out));
+    tri!(right_ret(arena, env, bound, encoding.ret, out));
+    print_parts(arena, env, bound, encoding.rest, out)
 }
 
 // Appends what follows the name of a function without its return type.
@@ -1750,22 +1752,24 @@ fn right_signature(
     arena: &Arena,
     env: Env,
     bound: u32,
-    params: List,
-    cv: Cv,
-    ref_qual: RefQual,
-    rest: Parts,
+    encoding: &Encoding,
     out: &mut Text,
 ) -> Result<(), AllocError>
     requires bound { bound ≤ size arena.now }
-    requires params { IsListBelow arena.now.held bound params }
-    requires rest { IsPartsBelow arena.now.held bound rest }
-    ensures prints { Prints result out.old out.new (spec.signature_right env [] (spec.items_of (trees_in
-        arena.now.held (forest arena.now) params)) cv ref_qual (spec.print_parts (parts_in arena.now.held (forest
-        arena.now) rest) env)) }
+    requires below { IsBelow arena.now.held bound (node.Encoding encoding.now) }
+    ensures prints { Prints result out.old out.new (spec.signature_right env []
+        (spec.items_of (trees_in arena.now.held (forest arena.now) encoding.now.params))
+        encoding.now.cv encoding.now.ref_qual
+        (spec.print_parts (parts_in arena.now.held (forest arena.now) encoding.now.rest) env)) }
 {
-    right_encoding(arena, env, bound, None, params, cv, ref_qual, rest, out)
+    tri!(print_parens(arena, env, bound, encoding.params, out));
+    if env.is_llvm() {
+        return print_qualifiers(arena, env, bound, encoding, out);
+    }
+    print_qualifiers(arena, env, bound, encoding, out)
 }
 
+#[inline(never)]
 #[cycle(printer)]
 fn left_pack(
     arena: &Arena,
@@ -1785,6 +1789,7 @@ fn left_pack(
     }
 }
 
+#[inline(never)]
 #[cycle(printer)]
 fn right_pack(
     arena: &Arena,

@@ -9,7 +9,7 @@ ghost use Rattle.cxx_printer.specs.Printing as spec;
 ghost use Rattle.cxx_printer.specs.Words.{ending, ending_of_byte, within};
 ghost use Rattle.cxx_tree.specs.Measure.{measure};
 ghost use Rattle.cxx_printer.specs.Heads as heads;
-ghost use Rattle.cxx_printer.specs.Asked.{OneSided, Refers, ends_of_part};
+ghost use Rattle.cxx_printer.specs.Asked.{OneSided, Refers, ends_of_part, item, run_ends};
 
 use crate::env::Env;
 use crate::operands::{is_named_address, is_simple, protocol_of};
@@ -26,20 +26,11 @@ pub fn element(arena: &Arena, env: Env, bound: u32, list: List) -> Option<u32>
     ensures below { IfSome result (λ t. t < bound) }
 {
     let items = arena.items(list);
-    let k = index_or_zero(env.pack);
+    let k = env.pack as usize;
     if k >= items.len() {
         return None;
     }
     Some(items[k])
-}
-
-fn index_or_zero(pack: Option<u32>) -> usize
-    ensures value { result ≡ spec.index_or_zero pack }
-{
-    match pack {
-        None => 0,
-        Some(k) => k as usize,
-    }
 }
 
 /// Returns the form of a type.
@@ -47,14 +38,14 @@ pub fn form_of(arena: &Arena, env: Env, i: u32) -> Form
     requires within { i < size arena.now }
     ensures value { result ≡ (spec.print (tree_at (forest arena.now) i) env).text.form }
 {
-    match arena.node(i) {
+    match *arena.node(i) {
         Node::Plain(_) => Form::Plain,
         Node::Declaration(_)
         | Node::Pointer(_)
         | Node::Reference(_, _)
         | Node::MemberPointer(_, _) => Form::Plain,
         Node::Array(_, _) => Form::Arrayed,
-        Node::Function(_, _, _, _, _) | Node::Encoding(_, _, _, _, _, _) => Form::Callable,
+        Node::Function(_) | Node::Encoding(_) => Form::Callable,
         Node::Qualified(t, _) => form_of(arena, env, t),
         Node::Pack(items) => match element(arena, env, i, items) {
             None => Form::Plain,
@@ -68,7 +59,7 @@ pub fn is_one_sided(arena: &Arena, i: u32) -> bool
     requires within { i < size arena.now }
     ensures value { result ≡ true → OneSided (tree_at (forest arena.now) i) }
 {
-    match arena.node(i) {
+    match *arena.node(i) {
         Node::Plain(_) => true,
         Node::Qualified(t, _) => is_one_sided(arena, t),
         Node::Pointer(t) => is_one_sided(arena, t),
@@ -82,11 +73,10 @@ pub fn has_right(arena: &Arena, env: Env, i: u32) -> bool
     requires within { i < size arena.now }
     ensures value { result ≡ (spec.print (tree_at (forest arena.now) i) env).has_right }
 {
-    match arena.node(i) {
+    match *arena.node(i) {
         Node::Plain(_) => false,
         Node::Declaration(_) => true,
-        Node::Array(_, _) | Node::Function(_, _, _, _, _) | Node::Encoding(_, _, _, _, _, _) =>
-            true,
+        Node::Array(_, _) | Node::Function(_) | Node::Encoding(_) => true,
         Node::Qualified(t, _) | Node::Pointer(t) | Node::Reference(t, _) => has_right(
             arena, env, t,
         ),
@@ -103,7 +93,7 @@ pub fn is_starred(arena: &Arena, env: Env, i: u32) -> bool
     requires within { i < size arena.now }
     ensures value { result ≡ (spec.print (tree_at (forest arena.now) i) env).star }
 {
-    match arena.node(i) {
+    match *arena.node(i) {
         Node::Plain(_) => false,
         Node::Pointer(_) | Node::MemberPointer(_, _) => true,
         Node::Pack(items) => match element(arena, env, i, items) {
@@ -114,14 +104,14 @@ pub fn is_starred(arena: &Arena, env: Env, i: u32) -> bool
     }
 }
 
-/// Returns whether the left side of a tree ends with a bracket that joins one behind it.
+/// Returns whether the left side of a tree ends with a bracket that joins one after it.
 #[cycle(closings)]
 pub fn is_closed(arena: &Arena, env: Env, i: u32) -> bool
     requires within { i < size arena.now }
     ensures value { result ≡ (spec.print (tree_at (forest arena.now) i) env).closed }
 {
-    match arena.node(i) {
-        Node::Plain(plain) => is_plain_closed(arena, env, i, plain),
+    match *arena.node(i) {
+        Node::Plain(ref plain) => is_plain_closed(arena, env, i, plain),
         Node::Array(t, _) => is_closed(arena, env, t),
         Node::Pack(items) => match element(arena, env, i, items) {
             None => false,
@@ -132,12 +122,12 @@ pub fn is_closed(arena: &Arena, env: Env, i: u32) -> bool
 }
 
 #[cycle(closings)]
-fn is_plain_closed(arena: &Arena, env: Env, bound: u32, plain: Plain) -> bool
+fn is_plain_closed(arena: &Arena, env: Env, bound: u32, plain: &Plain) -> bool
     requires bound { bound ≤ size arena.now }
-    requires below { IsPlainBelow arena.now.held bound plain }
-    ensures value { result ≡ (spec.print (plain_tree arena.now.held (forest arena.now) plain) env).closed }
+    requires below { IsPlainBelow arena.now.held bound plain.now }
+    ensures value { result ≡ (spec.print (plain_tree arena.now.held (forest arena.now) plain.now) env).closed }
 {
-    match plain {
+    match *plain {
         Plain::Phrase(phrase, _) => env.is_llvm() && phrase.is_closed,
         Plain::AbiTag(_, _) => env.is_llvm(),
         Plain::Scoped(is_friend, _, name) => is_scoped_closed(arena, env, is_friend, name),
@@ -169,7 +159,7 @@ pub fn referent_of(arena: &Arena, env: Env, is_lvalue: bool, i: u32) -> Referent
     ensures base { Refers result.base i (spec.print (tree_at (forest arena.now) i) env).base
         (λ j. spec.print (tree_at (forest arena.now) j) env) }
 {
-    match arena.node(i) {
+    match *arena.node(i) {
         Node::Reference(t, inner) => referent_of(arena, env, is_lvalue || inner, t),
         Node::Pack(items) => match element(arena, env, i, items) {
             None => Referent {
@@ -184,8 +174,8 @@ pub fn referent_of(arena: &Arena, env: Env, is_lvalue: bool, i: u32) -> Referent
         Node::Pointer(_) => itself(is_lvalue, i),
         Node::MemberPointer(_, _) => itself(is_lvalue, i),
         Node::Array(_, _) => itself(is_lvalue, i),
-        Node::Function(_, _, _, _, _) => itself(is_lvalue, i),
-        Node::Encoding(_, _, _, _, _, _) => itself(is_lvalue, i),
+        Node::Function(_) => itself(is_lvalue, i),
+        Node::Encoding(_) => itself(is_lvalue, i),
     }
 }
 
@@ -234,8 +224,8 @@ pub fn ending_of(arena: &Arena, env: Env, i: u32) -> Ending
     requires within { i < size arena.now }
     ensures value { result ≡ (spec.print (tree_at (forest arena.now) i) env).ends }
 {
-    match arena.node(i) {
-        Node::Plain(plain) => ending_of_plain(arena, env, i, plain),
+    match *arena.node(i) {
+        Node::Plain(ref plain) => ending_of_plain(arena, env, i, plain),
         Node::Pointer(t) => ending_of_pointer(arena, t),
         Node::Pack(items) => match element(arena, env, i, items) {
             None => Ending::Other,
@@ -257,12 +247,12 @@ fn ending_of_pointer(arena: &Arena, t: u32) -> Ending
 }
 
 #[cycle(endings)]
-fn ending_of_plain(arena: &Arena, env: Env, bound: u32, plain: Plain) -> Ending
+fn ending_of_plain(arena: &Arena, env: Env, bound: u32, plain: &Plain) -> Ending
     requires bound { bound ≤ size arena.now }
-    requires below { IsPlainBelow arena.now.held bound plain }
-    ensures value { result ≡ (spec.print (plain_tree arena.now.held (forest arena.now) plain) env).ends }
+    requires below { IsPlainBelow arena.now.held bound plain.now }
+    ensures value { result ≡ (spec.print (plain_tree arena.now.held (forest arena.now) plain.now) env).ends }
 {
-    match plain {
+    match *plain {
         Plain::Name(text) => ending_of_text(arena.bytes(text)),
         Plain::Leaf(_, _, _) => Ending::Other,
         Plain::StdName(std, is_expanded) => ending_of_text(std_text(env.style, std, is_expanded)),
@@ -311,7 +301,7 @@ fn ending_of_phrase(arena: &Arena, env: Env, bound: u32, phrase: Phrase, parts: 
 fn ending_of_parts(arena: &Arena, env: Env, bound: u32, parts: &[Part]) -> Ending
     requires bound { bound ≤ size arena.now }
     requires below { AllByRecursion (IsPartBelow arena.now.held bound) parts.now }
-    ensures value { result ≡ spec.run_ends (spec.print_parts (parts_of arena.now.held (forest arena.now) parts.now)
+    ensures value { result ≡ run_ends (spec.print_parts (parts_of arena.now.held (forest arena.now) parts.now)
         env).ends }
 {
     let n = parts.len();
@@ -340,7 +330,7 @@ fn ending_of_part(arena: &Arena, env: Env, bound: u32, part: Part) -> Ending
 #[cycle(endings)]
 fn ending_of_tree(arena: &Arena, env: Env, manner: Manner, t: u32) -> Ending
     requires within { t < size arena.now }
-    ensures value { result ≡ spec.part_ends manner env (spec.item (tree_at (forest arena.now) t)) }
+    ensures value { result ≡ spec.part_ends manner env (item (tree_at (forest arena.now) t)) }
 {
     match manner {
         Manner::Whole(context) => ending_of(arena, env.in_context(context), t),
@@ -353,14 +343,12 @@ fn ending_of_tree(arena: &Arena, env: Env, manner: Manner, t: u32) -> Ending
 #[cycle(endings)]
 fn ending_of_address(arena: &Arena, env: Env, t: u32) -> Ending
     requires within { t < size arena.now }
-    ensures value { result ≡ spec.address_ends (spec.named_address (spec.print (tree_at (forest arena.now) t)
-        env).function)
-        (spec.operand_ends env (spec.item (tree_at (forest arena.now) t))) }
+    ensures value { result ≡ spec.address_ends env (item (tree_at (forest arena.now) t)) }
 {
-    match arena.node(t) {
-        Node::Encoding(_, name, _, cv, ref_qual, _) => {
-            if is_named_address(arena, name, cv, ref_qual) {
-                return ending_of(arena, env, name);
+    match *arena.node(t) {
+        Node::Encoding(ref encoding) => {
+            if is_named_address(arena, encoding.name, encoding.cv, encoding.ref_qual) {
+                return ending_of(arena, env, encoding.name);
             }
             ending_of_operand(arena, env, t)
         }
@@ -371,7 +359,7 @@ fn ending_of_address(arena: &Arena, env: Env, t: u32) -> Ending
 #[cycle(endings)]
 fn ending_of_operand(arena: &Arena, env: Env, t: u32) -> Ending
     requires within { t < size arena.now }
-    ensures value { result ≡ spec.operand_ends env (spec.item (tree_at (forest arena.now) t)) }
+    ensures value { result ≡ spec.operand_ends env (item (tree_at (forest arena.now) t)) }
 {
     if is_simple(arena, t) {
         return ending_of(arena, env, t);
@@ -397,10 +385,10 @@ pub fn ending_of_list(arena: &Arena, env: Env, bound: u32, items: &[u32]) -> End
 fn ending_of_expansion(arena: &Arena, env: Env, t: u32) -> Ending
     requires within { t < size arena.now }
     ensures value { result ≡ spec.expansion_ends env (measure (tree_at (forest arena.now) t)).elements
-        (spec.item (tree_at (forest arena.now) t)) }
+        (item (tree_at (forest arena.now) t)) }
 {
     match arena.elements(t) {
         None | Some(0) => Ending::Other,
-        Some(n) => ending_of(arena, env.at(Some(n - 1)), t),
+        Some(n) => ending_of(arena, env.at(n - 1), t),
     }
 }

@@ -1,14 +1,15 @@
 //! The printings of a symbol.
-#![tactic(auto, using(crate::proofs::Appended::prints), unfolding(cxx_tree::specs::Stored::tree_of, cxx_tree::specs::Stored::plain_tree, cxx_tree::specs::Stored::declaration_tree, cxx_tree::specs::Stored::IsBelow, crate::specs::Symbol::name_text, crate::specs::Symbol::signature_text, crate::specs::Symbol::mode_text, crate::specs::Symbol::block_text, crate::specs::Symbol::suffix_text, crate::specs::Symbol::symbol_in))]
+#![tactic(auto, using(crate::proofs::Appended::prints), unfolding(cxx_tree::specs::Stored::tree_of, cxx_tree::specs::Stored::plain_tree, cxx_tree::specs::Stored::declaration_tree, cxx_tree::specs::Stored::IsBelow, crate::specs::Symbol::mode_text, crate::specs::Symbol::block_text, crate::specs::Symbol::suffix_text, crate::specs::Symbol::symbol_in))]
 
-ghost use Rattle.std.specs.Prelude.{◌≡◌, ◌<◌, ◌++◌, take, length, Some};
-ghost use Rattle.cxx_tree.specs.Stored.{forest, size, tree_at};
+ghost use Rattle.std.specs.Prelude.{◌≡◌, ◌<◌, ◌++◌, take, length, Some, option_map, IfSome};
+ghost use Rattle.cxx_tree.specs.Stored.{forest, size, tree_at, text_at, IsText};
+ghost use Rattle.cxx_printer.specs.declared.symbol.Mode.TheVariants as modes;
 ghost use Rattle.cxx_printer.specs.Prints.{Prints};
 ghost use Rattle.cxx_printer.specs.Symbol as spec;
-ghost use Rattle.cxx_printer.specs.Symbol.{IsSuffix};
 
 use crate::env::{Env, Style};
 use crate::print::{print, print_signature};
+use crate::writing::write;
 use cxx_tree::{Arena, Node};
 use growing_text::Text;
 use std::alloc::AllocError;
@@ -35,14 +36,6 @@ pub struct Symbol {
     pub suffix: Option<cxx_tree::Text>,
 }
 
-/// Appends a text.
-#[tactic(auto, using(crate::proofs::Appended::prints_added))]
-pub fn write(out: &mut Text, text: &[u8]) -> Result<(), AllocError>
-    ensures prints { Prints result out.old out.new text.now }
-{
-    out.add(text)
-}
-
 /// Appends what a symbol prints.
 pub fn print_symbol(
     arena: &Arena,
@@ -52,7 +45,7 @@ pub fn print_symbol(
     out: &mut Text,
 ) -> Result<(), AllocError>
     requires within { symbol.tree < size arena.now }
-    requires suffix { IsSuffix arena.now.held symbol.suffix }
+    requires suffix { IfSome symbol.suffix (IsText arena.now.held) }
     ensures prints { Prints result out.old out.new (spec.symbol_text mode style (spec.symbol_at arena.now symbol)) }
 {
     print_symbol_in(arena, Env::top(style), symbol, mode, out)
@@ -66,7 +59,7 @@ fn print_symbol_in(
     out: &mut Text,
 ) -> Result<(), AllocError>
     requires within { symbol.tree < size arena.now }
-    requires suffix { IsSuffix arena.now.held symbol.suffix }
+    requires suffix { IfSome symbol.suffix (IsText arena.now.held) }
     ensures prints { Prints result out.old out.new (spec.symbol_in env mode (spec.symbol_at arena.now symbol)) }
 {
     tri!(write_block(symbol.is_block, out));
@@ -98,10 +91,10 @@ fn print_mode(arena: &Arena, env: Env, i: u32, mode: Mode, out: &mut Text) -> Re
 // Appends the name of a function, or what any other tree prints.
 fn print_name(arena: &Arena, env: Env, i: u32, out: &mut Text) -> Result<(), AllocError>
     requires within { i < size arena.now }
-    ensures prints { Prints result out.old out.new (spec.name_text env (tree_at (forest arena.now) i)) }
+    ensures prints { Prints result out.old out.new (spec.mode_text modes.Name env (tree_at (forest arena.now) i)) }
 {
-    match arena.node(i) {
-        Node::Encoding(_, name, _, _, _, _) => print(arena, env, name, out),
+    match *arena.node(i) {
+        Node::Encoding(ref encoding) => print(arena, env, encoding.name, out),
         _ => print(arena, env, i, out),
     }
 }
@@ -114,12 +107,10 @@ fn print_without_return_type(
     out: &mut Text,
 ) -> Result<(), AllocError>
     requires within { i < size arena.now }
-    ensures prints { Prints result out.old out.new (spec.signature_text env (tree_at (forest arena.now) i)) }
+    ensures prints { Prints result out.old out.new (spec.mode_text modes.Signature env (tree_at (forest arena.now) i)) }
 {
-    match arena.node(i) {
-        Node::Encoding(_, name, params, cv, ref_qual, rest) => print_signature(
-            arena, env, i, name, params, cv, ref_qual, rest, out,
-        ),
+    match *arena.node(i) {
+        Node::Encoding(ref encoding) => print_signature(arena, env, i, encoding, out),
         _ => print(arena, env, i, out),
     }
 }
@@ -131,8 +122,8 @@ fn print_suffix(
     suffix: Option<cxx_tree::Text>,
     out: &mut Text,
 ) -> Result<(), AllocError>
-    requires suffix { IsSuffix arena.now.held suffix }
-    ensures prints { Prints result out.old out.new (spec.suffix_text env (spec.suffix_at arena.now.held suffix)) }
+    requires suffix { IfSome suffix (IsText arena.now.held) }
+    ensures prints { Prints result out.old out.new (spec.suffix_text env (option_map (text_at arena.now.held) suffix)) }
 {
     match suffix {
         None => Ok(()),
@@ -172,7 +163,7 @@ fn print_pieces(suffix: &[u8], out: &mut Text) -> Result<(), AllocError>
     }
 }
 
-// Appends the bytes of a suffix behind its first one.
+// Appends the bytes of a suffix after its first one.
 fn print_behind(behind: &[u8], out: &mut Text) -> Result<(), AllocError>
     ensures prints { Prints result out.old out.new (spec.pieces_behind behind.now) }
 {
@@ -182,7 +173,7 @@ fn print_behind(behind: &[u8], out: &mut Text) -> Result<(), AllocError>
     write(out, b"]")
 }
 
-// Appends the first byte of what is left of a suffix, behind what stands between two pieces if it begins one.
+// Appends the first byte of what is left of a suffix, after what stands between two pieces if it begins one.
 fn print_byte(rest: &[u8], out: &mut Text) -> Result<(), AllocError>
     requires some { 0 < length rest.now }
     ensures prints { Prints result out.old out.new (spec.between rest.now ++ take 1 rest.now) }

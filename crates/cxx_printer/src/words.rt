@@ -1,11 +1,11 @@
 //! Words that are printed.
-#![tactic(auto, unfolding(crate::specs::Words::std_text, crate::specs::Words::short_std_text, crate::specs::Words::llvm_std_text, crate::specs::Words::gnu_std_text, crate::specs::Words::cv_text, crate::specs::Words::ref_text, crate::specs::Words::mark, crate::specs::Words::opened, crate::specs::Words::member_opened, crate::specs::Words::closed))]
+#![tactic(auto, unfolding(crate::specs::Words::std_text, crate::specs::Words::short_std_text, crate::specs::Words::long_std_text, crate::specs::Words::cv_text, crate::specs::Words::member_opened))]
 
-ghost use Rattle.std.specs.Prelude.{◌≡◌, ℕ, Bool, List};
+ghost use Rattle.std.specs.Prelude.{◌≡◌, ℕ, Bool, List, codes};
 ghost use Rattle.cxx_printer.specs.Words as spec;
 
 use crate::env::Style;
-use cxx_tree::{Cv, RefQual, Std};
+use cxx_tree::{Cv, Std};
 
 /// The form of a type, as the declarators around it see it.
 #[derive(Clone, Copy, PartialEq)]
@@ -46,7 +46,7 @@ fn short_std_text(std: Std) -> &'static [u8]
 }
 
 fn llvm_std_text(std: Std) -> &'static [u8]
-    ensures value { result.now ≡ spec.llvm_std_text std }
+    ensures value { result.now ≡ spec.long_std_text (codes ">>") std }
 {
     match std {
         Std::Allocator => b"std::allocator",
@@ -59,7 +59,7 @@ fn llvm_std_text(std: Std) -> &'static [u8]
 }
 
 fn gnu_std_text(std: Std) -> &'static [u8]
-    ensures value { result.now ≡ spec.gnu_std_text std }
+    ensures value { result.now ≡ spec.long_std_text (codes "> >") std }
 {
     match std {
         Std::Allocator => b"std::allocator",
@@ -71,7 +71,7 @@ fn gnu_std_text(std: Std) -> &'static [u8]
     }
 }
 
-/// Returns qualifiers, each behind a blank.
+/// Returns qualifiers, each after a blank.
 pub fn cv_text(cv: Cv) -> &'static [u8]
     ensures value { result.now ≡ spec.cv_text cv }
 {
@@ -87,35 +87,6 @@ pub fn cv_text(cv: Cv) -> &'static [u8]
     }
 }
 
-/// Returns the reference qualifier of a function.
-pub fn ref_text(ref_qual: RefQual) -> &'static [u8]
-    ensures value { result.now ≡ spec.ref_text ref_qual }
-{
-    match ref_qual {
-        RefQual::None => b"",
-        RefQual::Lvalue => b" &",
-        RefQual::Rvalue => b" &&",
-    }
-}
-
-/// Returns the mark of a reference.
-pub fn mark(is_lvalue: bool) -> &'static [u8]
-    ensures value { result.now ≡ spec.mark is_lvalue }
-{
-    if is_lvalue { b"&" } else { b"&&" }
-}
-
-/// Returns what stands before the mark of a pointer or a reference to a type.
-pub fn opened(form: Form) -> &'static [u8]
-    ensures value { result.now ≡ spec.opened form }
-{
-    match form {
-        Form::Plain => b"",
-        Form::Arrayed => b" (",
-        Form::Callable => b"(",
-    }
-}
-
 /// Returns what stands before the class of a pointer to a member.
 pub fn member_opened(style: Style, form: Form) -> &'static [u8]
     ensures value { result.now ≡ spec.member_opened style form }
@@ -127,15 +98,5 @@ pub fn member_opened(style: Style, form: Form) -> &'static [u8]
             Style::Gnu | Style::GnuShort => b" (",
         },
         Form::Callable => b"(",
-    }
-}
-
-/// Returns what stands before the right side of a type that a pointer or a reference refers to.
-pub fn closed(form: Form) -> &'static [u8]
-    ensures value { result.now ≡ spec.closed form }
-{
-    match form {
-        Form::Plain => b"",
-        Form::Arrayed | Form::Callable => b")",
     }
 }

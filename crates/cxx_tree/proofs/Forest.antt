@@ -19,7 +19,8 @@ use Rattle.cxx_tree.specs.declared.node.Declaration.TheVariants as declaration
 use Rattle.cxx_tree.specs.declared.node.Node.{Node}
 use Rattle.cxx_tree.specs.declared.node.Node.TheVariants as node
 use Rattle.cxx_tree.specs.Tree.{Tree, named, phrase, with_args, abi_tag, data_name, objc_protocol, listed, expansion, pack_param, qualified, pointer, reference, array, pack, no_trees, more_trees, text, tree}
-use Rattle.cxx_tree.specs.Stored.{Held, Store, text_at, list_at, parts_at, tree_at, trees_at, trees_in, option_at, parts_of, parts_in, plain_tree, declaration_tree, tree_of, IsRange, IsText, IsListBelow, IsPartBelow, IsPartsBelow, IsOptionBelow, IsPlainBelow, IsDeclarationBelow, IsBelow, trees_from, AreStored, IsStore, forest, size, Begins, Extends}
+use Rattle.cxx_tree.specs.Stored.{Held, Store, text_at, list_at, parts_at, tree_at, trees_at, trees_in, option_at, parts_of, parts_in, plain_tree, declaration_tree, tree_of, IsRange, IsText, IsListBelow, IsPartBelow, IsPartsBelow, IsOptionBelow, IsPlainBelow, IsDeclarationBelow, IsBelow, trees_from, forest, size, Begins, Extends}
+use Rattle.cxx_tree.specs.View.{AreStored, IsStore}
 
 -- a node at the end
 pub trees_from-push : (h : Held) (ts : List Tree) (ns : List Node) (n : Node) → trees_from h ts (ns ++ n ∷ []) ≡ trees_from h ts ns ++ tree_of h (trees_from h ts ns) n ∷ []
@@ -99,16 +100,16 @@ tree_of-same h n ts us agree (node.MemberPointer class member) b =
     let one = agree class b.0 in let two = agree member b.1 in cc
 tree_of-same h n ts us agree (node.Array element dimension) b =
     let one = agree element b.0 in let two = parts_of-same h n ts us agree (parts_at h dimension) b.1.1 in cc
-tree_of-same h n ts us agree (node.Function ret params cv ref exception) b =
-    let one = agree ret b.0 in
-    let two = trees_at-same n ts us agree (list_at h params) b.1.1 in
-    let three = parts_of-same h n ts us agree (parts_at h exception) b.2.1 in
+tree_of-same h n ts us agree (node.Function f) b =
+    let one = agree f.ret b.0 in
+    let two = trees_at-same n ts us agree (list_at h f.params) b.1.1 in
+    let three = parts_of-same h n ts us agree (parts_at h f.exception) b.2.1 in
     cc
-tree_of-same h n ts us agree (node.Encoding ret name params cv ref rest) b =
-    let zero = option_at-same n ts us agree ret b.0 in
-    let one = agree name b.1 in
-    let two = trees_at-same n ts us agree (list_at h params) b.2.1 in
-    let three = parts_of-same h n ts us agree (parts_at h rest) b.3.1 in
+tree_of-same h n ts us agree (node.Encoding f) b =
+    let zero = option_at-same n ts us agree f.ret b.0 in
+    let one = agree f.name b.1 in
+    let two = trees_at-same n ts us agree (list_at h f.params) b.2.1 in
+    let three = parts_of-same h n ts us agree (parts_at h f.rest) b.3.1 in
     cc
 tree_of-same h n ts us agree (node.Pack items) b = ap pack (trees_at-same n ts us agree (list_at h items) b.1)
 
@@ -211,10 +212,10 @@ tree_of-more h g e n ts (node.Pointer t) b = refl
 tree_of-more h g e n ts (node.Reference t lvalue) b = refl
 tree_of-more h g e n ts (node.MemberPointer class member) b = refl
 tree_of-more h g e n ts (node.Array element dimension) b = ap (array (tree_at ts element)) (parts_in-more h g e n ts dimension b.1)
-tree_of-more h g e n ts (node.Function ret params cv ref exception) b =
-    let one = trees_in-more h g e n ts params b.1 in let two = parts_in-more h g e n ts exception b.2 in cc
-tree_of-more h g e n ts (node.Encoding ret name params cv ref rest) b =
-    let one = trees_in-more h g e n ts params b.2 in let two = parts_in-more h g e n ts rest b.3 in cc
+tree_of-more h g e n ts (node.Function f) b =
+    let one = trees_in-more h g e n ts f.params b.1 in let two = parts_in-more h g e n ts f.exception b.2 in cc
+tree_of-more h g e n ts (node.Encoding f) b =
+    let one = trees_in-more h g e n ts f.params b.2 in let two = parts_in-more h g e n ts f.rest b.3 in cc
 tree_of-more h g e n ts (node.Pack items) b = ap pack (trees_in-more h g e n ts items b)
 
 pub IsRange-more : (n m : ℕ) (r : Range) → n ≤ m → IsRange n r → IsRange m r
@@ -289,10 +290,10 @@ IsBelow-more h g e n m le (node.Pointer t) b = omega (arith, le, b)
 IsBelow-more h g e n m le (node.Reference t lvalue) b = omega (arith, le, b)
 IsBelow-more h g e n m le (node.MemberPointer class member) b = (omega (arith, le, b.0), omega (arith, le, b.1))
 IsBelow-more h g e n m le (node.Array element dimension) b = (omega (arith, le, b.0), IsPartsBelow-more h g e n m le dimension b.1)
-IsBelow-more h g e n m le (node.Function ret params cv ref exception) b =
-    (omega (arith, le, b.0), IsListBelow-more h g e n m le params b.1, IsPartsBelow-more h g e n m le exception b.2)
-IsBelow-more h g e n m le (node.Encoding ret name params cv ref rest) b =
-    (IsOptionBelow-more n m le ret b.0, omega (arith, le, b.1), IsListBelow-more h g e n m le params b.2, IsPartsBelow-more h g e n m le rest b.3)
+IsBelow-more h g e n m le (node.Function f) b =
+    (omega (arith, le, b.0), IsListBelow-more h g e n m le f.params b.1, IsPartsBelow-more h g e n m le f.exception b.2)
+IsBelow-more h g e n m le (node.Encoding f) b =
+    (IsOptionBelow-more n m le f.ret b.0, omega (arith, le, b.1), IsListBelow-more h g e n m le f.params b.2, IsPartsBelow-more h g e n m le f.rest b.3)
 IsBelow-more h g e n m le (node.Pack items) b = IsListBelow-more h g e n m le items b
 
 pub AreStored-more : (h g : Held) → Extends h g → (k : ℕ) (ns : List Node) → AreStored h k ns → AreStored g k ns

@@ -1,5 +1,5 @@
 -- How an arena grows.
-use Rattle.std.proofs.Common.{ℕ, ◌≡◌, ◌+◌, ◌<◌, List, [], ◌∷◌, ◌++◌, length, refl, ap, ◌∙◌, arith, append_assoc, false, Result, Ok, Err}
+use Rattle.std.proofs.Common.{ℕ, ◌≡◌, ◌+◌, ◌<◌, List, [], ◌∷◌, ◌++◌, length, refl, ap, ◌∙◌, arith, append_assoc, true, false, Result, Ok, Err}
 use Rattle.std.proofs.Math.ListN.{get_or-append}
 use Rattle.std.proofs.Math.Seq.{get_or-append_seam}
 use Rattle.std.specs.List.{AllByRecursion}
@@ -74,14 +74,14 @@ pub Makes-limit : (a b : Store) (t : Tree) → (measure t).fits ≡ false → Gr
 unfolding Makes
 Makes-limit a b t f g = (f, g)
 
-pub Makes-node : (a b : Store) (t : Tree) (i : ℕ) → i < size b → tree_at (forest b) i ≡ t → Grows a b → Makes (Ok i) a b t
+pub Makes-node : (a b : Store) (t : Tree) (i : ℕ) → i < size b → tree_at (forest b) i ≡ t → Grows a b → (measure t).fits ≡ true → Makes (Ok i) a b t
 unfolding Makes
-Makes-node a b t i l e g = (l, e, g)
+Makes-node a b t i l e g f = (l, e, g, f)
 
 -- after what is held grew
 pub Makes-after : (r : Result ℕ PushError) (a b c : Store) (t : Tree) → Grows a b → Makes r b c t → Makes r a c t
 unfolding Makes
-Makes-after (Ok i) a b c t g m = (m.0, m.1, Grows-trans a b c g m.2)
+Makes-after (Ok i) a b c t g m = (m.0, m.1, Grows-trans a b c g m.2, m.3)
 Makes-after (Err Limit) a b c t g m = (m.0, Grows-trans a b c g m.1)
 Makes-after (Err Memory) a b c t g m = Grows-trans a b c g m
 

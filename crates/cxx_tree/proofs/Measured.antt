@@ -103,6 +103,10 @@ count-range h ts n l b =
     count-trees_at ts (list_at h l) ∙ long
 
 -- a tree that is within the limits
+pub row-fit : (c : stored.Measure) (m : Measure) → Row c m → m.fits ≡ true
+unfolding Row
+row-fit c m r = r.1
+
 pub row-fits : (c : stored.Measure) (m : Measure) → Tallied c m → m.fits ≡ true → Row c m
 unfolding Row Tallied
 row-fits c m t f = (t.0, f, (within-low m.height m.each m.packs (sym t.1 ∙ f)).0)

@@ -26,7 +26,7 @@ use Rattle.cxx_tree.specs.declared.arena.PushError.{PushError}
 use Rattle.cxx_tree.specs.declared.arena.PushError.TheVariants.{Memory, Limit}
 use Rattle.cxx_tree.proofs.Grown.{Grows-trans, Makes-after, Makes-refused, Makes-limit, Grows-same, Extends-same, trees_at-grows, below-grows}
 use Rattle.cxx_tree.proofs.Forest.{trees_at-same, option_at-same, parts_of-same, parts_of-more, trees_in-more, parts_in-more, IsListBelow-more, IsPartsBelow-more, IsPartBelow-more, all_parts-more}
-use Rattle.cxx_tree.specs.Bind.{Binding, bind, bind_each, bind_parts, binding_at, AreNamed, bound_at, bound_list, bound_parts, part_at, bound, has_name, other}
+use Rattle.cxx_tree.specs.Bind.{Binding, bind, bind_each, bind_parts, binding_at, AreNamed, bound_at, bound_list, bound_parts, part_at, bound, has_name, other, as_pack}
 
 -- what isn't within the limits makes the whole so
 pub unfit_left : (a b : Bool) → a ≡ false → a && b ≡ false
@@ -310,13 +310,13 @@ get_or-names ts (i ∷ is) zero d h = refl
 get_or-names ts (i ∷ is) (suc k) d h = get_or-names ts is k d (omega arith)
 
 pub bound-name : (a : Store) (x : given.Binding) (level index d : ℕ) → level ≡ x.level
-    → index < length x.names.now → tree_at (forest a) (get_or x.names.now index d)
+    → index < length x.names.now → as_pack (tree_at (forest a) (get_or x.names.now index d))
     ≡ bound (binding_at a x) level index
 bound-name a x level index d e h =
     let yes : has_name (binding_at a x) level index ≡ true = grind (arith, common_steps, e, h) in
-    sym (get_or-names (forest a) x.names.now index d h)
+    sym (ap as_pack (get_or-names (forest a) x.names.now index d h))
     ∙ sym
-    (ap (λ (q : Bool). if q then tree_at (binding_at a x).names index else other x.rest x.level level index) yes)
+    (ap (λ (q : Bool). if q then as_pack (tree_at (binding_at a x).names index) else other x.rest x.level level index) yes)
 
 -- an error is passed on
 pub limit_second : (A B : Type 0) (e : PushError) (x y z : Bool) → (IsErrOf {T = A} (Err e) Limit → z ≡ false)

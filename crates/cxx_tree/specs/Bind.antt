@@ -42,10 +42,15 @@ other Written binder level index = named (written level index)
 abbrev pub has_name : Binding → ℕ → ℕ → Bool
 has_name b level index = nat_eq level b.level && nat_lt index (length b.names)
 
+-- where a parameter stands for a list of arguments, it stands for a pack of them
+unfoldable pub as_pack : Tree → Tree
+as_pack (listed ts) = pack ts
+as_pack t = t
+
 -- what becomes of a parameter
 abbrev pub bound : Binding → ℕ → ℕ → Tree
 bound b level index =
-    if has_name b level index then tree_at b.names index else other b.rest b.level level index
+    if has_name b level index then as_pack (tree_at b.names index) else other b.rest b.level level index
 
 -- a tree whose template parameters are replaced
 unfoldable mutual

@@ -1,46 +1,36 @@
 -- What is known of a tree without walking it: height, pack, work, and template parameters.
-use Rattle.std.specs.Prelude.{ℕ, zero, suc, ◌+◌, ◌*◌, max, nat_le, Bool, true, false, ◌&&◌, Option, Some, None, length}
+use Rattle.std.specs.Prelude.{ℕ, zero, suc, ◌+◌, ◌*◌, max, nat_le, Bool, true, false, ◌&&◌, if◌then◌else◌, Option, Some, None, length}
+use Rattle.std.specs.Option.{option_or}
 use Rattle.cxx_tree.specs.declared.kinds.Manner.{Manner}
-use Rattle.cxx_tree.specs.declared.kinds.Manner.TheVariants.{Whole, Operand, Scope, Callee, Address, Value, Argument, Count, Folded}
+use Rattle.cxx_tree.specs.declared.kinds.Manner.TheVariants.{Folded}
 use Rattle.cxx_tree.specs.Tree.{Tree, Trees, Parts, named, leaf, std_name, phrase, scoped, with_args, abi_tag, in_module, data_name, objc_protocol, listed, expansion, param, type_param, non_type_param, template_param, pack_param, qualified, pointer, reference, member_pointer, array, function, encoding, pack, no_trees, more_trees, no_parts, text, tree, trees}
 
 pub record Measure : Type 0 where
-  -- of a leaf 1, of another tree one more than that of its highest child
-  pub height : ℕ
-  -- the number of elements of the first pack in it, outside of expansions
-  pub elements : Option ℕ
-  -- the work of printing it, without the elements of packs
-  pub each : ℕ
-  -- the work of printing all elements of the packs in it
-  pub packs : ℕ
-  -- how many nodes of it are a template parameter or contain one
-  pub params : ℕ
-  -- it and all trees in it are within the limits
-  pub fits : Bool
+  pub height : ℕ  -- of a leaf 1, of another tree one more than that of its highest child
+  pub elements : Option ℕ  -- the number of elements of the first pack in it, outside of expansions
+  pub each : ℕ  -- the work of printing it, without the elements of packs
+  pub packs : ℕ  -- the work of printing all elements of the packs in it
+  pub params : ℕ  -- how many nodes of it are a template parameter or contain one
+  pub fits : Bool  -- it and all trees in it are within the limits
 
--- no tree at all
+-- of no tree
 abbrev pub nothing : Measure
 nothing = record { height = 0; elements = None; each = 0; packs = 0; params = 0; fits = true }
 
-abbrev pub either : Option ℕ → Option ℕ → Option ℕ
-either None b = b
-either (Some n) b = Some n
-
--- two children
+-- of two trees in a row
 abbrev pub join : Measure → Measure → Measure
 join a b = record {
   height = max a.height b.height;
-  elements = either a.elements b.elements;
+  elements = option_or a.elements b.elements;
   each = a.each + b.each;
   packs = a.packs + b.packs;
   params = a.params + b.params;
   fits = a.fits && b.fits;
 }
 
--- two children, where the pack of the second one comes first if the flag says so
+-- of two trees in a row. The flag says that the pack of the second one comes first
 abbrev pub join_as : Bool → Measure → Measure → Measure
-join_as false a b = join a b
-join_as true a b = join b a
+join_as reversed a b = if reversed then join b a else join a b
 
 -- a node that contains template parameters is one more
 abbrev pub counted : ℕ → ℕ
@@ -51,7 +41,7 @@ counted (suc n) = suc n + 1
 abbrev pub within : ℕ → ℕ → ℕ → Bool
 within height each packs = nat_le height 1024 && nat_le (each + packs) 1048576
 
--- a tree with these children, whose own work is given
+-- of a tree, from its own work and what is known of its children
 abbrev pub around : ℕ → Measure → Measure
 around own m = record {
   height = m.height + 1;
@@ -62,61 +52,40 @@ around own m = record {
   fits = m.fits && within (m.height + 1) (own + m.each) m.packs;
 }
 
-abbrev pub leaf_measure : ℕ → Measure
-leaf_measure own = around own nothing
-
 -- the work of a pattern, by the number of elements of its packs
 abbrev pub repeated_work : Option ℕ → ℕ → ℕ → ℕ
 repeated_work None each packs = each + packs
 repeated_work (Some zero) each packs = 0
 repeated_work (Some (suc n)) each packs = suc n * each + packs
 
--- a pattern that is repeated for each element of its packs
+-- of a pattern that is repeated for each element of its packs
 abbrev pub repeated : Measure → Measure
-repeated m = record {
-  height = m.height;
-  elements = None;
-  each = repeated_work m.elements m.each m.packs;
-  packs = 0;
-  params = m.params;
-  fits = m.fits;
-}
+repeated m = record m { elements = None; each = repeated_work m.elements m.each m.packs; packs = 0 }
 
--- the arguments of a pack, by their number
+-- of a pack, from the number of its arguments and what is known of them. One of them is printed at a time
 abbrev pub packed : ℕ → Measure → Measure
-packed n m = record {
-  height = m.height + 1;
-  elements = Some n;
-  each = 1;
-  packs = m.each + m.packs;
-  params = counted m.params;
-  fits = m.fits && within (m.height + 1) 1 (m.each + m.packs);
-}
+packed n m = around 1 (record m { elements = Some n; each = 0; packs = m.each + m.packs })
 
--- a template parameter
+-- of a template parameter
 abbrev pub param_measure : Measure
-param_measure = record { height = 1; elements = None; each = 1; packs = 0; params = 1; fits = true }
+param_measure = record (around 1 nothing) { params = 1 }
 
+-- of a part of a phrase
 abbrev pub part_measure : Manner → Measure → Measure
-part_measure (Whole context) m = m
-part_measure (Operand prec looser) m = m
-part_measure Scope m = m
-part_measure Callee m = m
-part_measure (Address prec) m = m
-part_measure Value m = m
-part_measure Argument m = m
-part_measure (Count blank) m = m
 part_measure Folded m = repeated m
+part_measure manner m = m
 
+-- the number of trees
 unfoldable pub count : Trees → ℕ
 count no_trees = 0
 count (more_trees t ts) = count ts + 1
 
 unfoldable mutual
+  -- of a tree. Its work is 1 and the bytes that it holds itself, and the work of its children
   pub measure : Tree → Measure
-  measure (named bytes) = leaf_measure (1 + length bytes)
-  measure (leaf simple a b) = leaf_measure (1 + max (length a) (length b))
-  measure (std_name std expanded) = leaf_measure 1
+  measure (named bytes) = around (1 + length bytes) nothing
+  measure (leaf simple a b) = around (1 + max (length a) (length b)) nothing
+  measure (std_name std expanded) = around 1 nothing
   measure (phrase attributes ps) = around attributes.own (measure_parts attributes.is_reversed ps)
   measure (scoped friend scope name) = around 1 (join (measure scope) (measure name))
   measure (with_args name args) = around 1 (join (measure name) (measure_each args))
@@ -143,11 +112,12 @@ unfoldable mutual
       around 1 (join (measure_each ret) (join (measure name) (join (measure_each params) (measure_parts false rest))))
   measure (pack ts) = packed (count ts) (measure_each ts)
 
+  -- of trees in a row
   pub measure_each : Trees → Measure
   measure_each no_trees = nothing
   measure_each (more_trees t ts) = join (measure t) (measure_each ts)
 
-  -- the flag says that the last pack comes first
+  -- of the parts of a phrase. The flag says that the last pack comes first
   pub measure_parts : Bool → Parts → Measure
   measure_parts reversed no_parts = nothing
   measure_parts reversed (text a b ps) = measure_parts reversed ps

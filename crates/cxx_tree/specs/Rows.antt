@@ -1,12 +1,5 @@
--- The trees whose text is texts and trees in a row. Each definition below the helpers is named after a constructor of
--- the definition of declarations, and has its fields in the same order. A text that GNU's style has otherwise follows
--- that of LLVM's.
---
--- The other constructors of that definition are constructors of Tree: Name is `named`, Nested and Friend are `scoped`,
--- InModule is `in_module`, WithArgs is `with_args`, AbiTag is `abi_tag`, StdName is `std_name`, Qualified, Pointer,
--- Reference and MemberPointer have their own names, ObjcProtocol is `objc_protocol`, TypeParam is `type_param`,
--- NonTypeParam is `non_type_param`, PackParam is `pack_param`, Pack is `pack`, List is `listed`, Expansion is
--- `expansion`, Param is `param`, and Data is `data_name`.
+-- The trees whose text is texts and trees in a row, each with its fields. A text that GNU's style has otherwise follows
+-- that of LLVM's. All other trees are constructors of Tree: a name in a scope and a friend are both `scoped`.
 use Prim.Native.String.{String}
 use Rattle.std.specs.Prelude.{ℕ, ◌+◌, Bool, true, false, not, if◌then◌else◌, Option, Some, None, List, [], ◌∷◌, length}
 use Rattle.std.specs.Prelude.{codes, bytes_eq}
@@ -78,6 +71,11 @@ parens ts = trees listing.Parens ts
 abbrev pub parens_if_any : Trees → Parts → Parts
 parens_if_any no_trees behind = behind
 parens_if_any (more_trees t ts) behind = parens (more_trees t ts) behind
+
+-- a tree, if there is one
+abbrev pub optional : Option Tree → Parts → Parts
+optional None behind = behind
+optional (Some t) behind = whole t · behind
 
 -- ` requires ` and a constraint, if there is one
 abbrev pub constrained : Option Tree → Parts → Parts
@@ -177,10 +175,8 @@ bindings names =
 
 -- Types.
 
--- the dimension of an array, if there is one
 abbrev pub dimension_of : Option Tree → Parts
-dimension_of None = no_parts
-dimension_of (Some d) = whole d · no_parts
+dimension_of d = optional d · no_parts
 
 abbrev pub array_of : Tree → Option Tree → Tree
 array_of element dimension = array element (dimension_of dimension)
@@ -204,12 +200,9 @@ vendor_qualified t qualifier (Some args) =
     (whole t · fixed " " · held qualifier · trees listing.Angles args · no_parts)
 
 abbrev pub vector : Tree → Option Tree → Tree
-vector t None =
+vector t d =
     phrase (record (primary 0) { is_closed = true })
-    (whole t · styled " vector[" " __vector(" · styled "]" ")" · no_parts)
-vector t (Some d) =
-    phrase (record (primary 0) { is_closed = true })
-    (whole t · styled " vector[" " __vector(" · whole d · styled "]" ")" · no_parts)
+    (whole t · styled " vector[" " __vector(" · optional d · styled "]" ")" · no_parts)
 
 -- Declarations and encodings.
 
@@ -358,11 +351,9 @@ conversion t (more_trees e no_trees) p =
 conversion t es p = phrase (expression 0 p) (fixed "(" · enclosed t · fixed ")" · parens es · no_parts)
 
 abbrev pub init_list : Option Tree → Trees → Tree
-init_list None es =
-    phrase (record (primary 0) { role = Simple }) (fixed "{" · trees listing.Items es · fixed "}" · no_parts)
-init_list (Some t) es =
+init_list t es =
     phrase (record (primary 0) { role = Simple })
-    (whole t · fixed "{" · trees listing.Items es · fixed "}" · no_parts)
+    (optional t · fixed "{" · trees listing.Items es · fixed "}" · no_parts)
 
 abbrev pub designator : Phrase
 designator = record (primary 0) { role = Designator }

@@ -1,5 +1,5 @@
 -- What an arena holds, and the trees that its nodes stand for.
-use Rattle.std.specs.Prelude.{ℕ, ◌<◌, ◌≤◌, ◌≡◌, ◌+◌, List, [], ◌∷◌, ◌++◌, map, length, slice_range, Option, Some, None, get_or}
+use Rattle.std.specs.Prelude.{ℕ, ◌<◌, ◌≤◌, ◌≡◌, List, [], ◌∷◌, ◌++◌, map, length, slice_range, Option, Some, None, get_or, IfSome}
 use Rattle.std.specs.List.{AllByRecursion}
 use Rattle.cxx_tree.specs.declared.node.Range.{Range}
 use Rattle.cxx_tree.specs.declared.node.Text.{Text}
@@ -92,10 +92,10 @@ tree_of h ts (node.Pointer t) = pointer (tree_at ts t)
 tree_of h ts (node.Reference t lvalue) = reference (tree_at ts t) lvalue
 tree_of h ts (node.MemberPointer class member) = member_pointer (tree_at ts class) (tree_at ts member)
 tree_of h ts (node.Array element dimension) = array (tree_at ts element) (parts_in h ts dimension)
-tree_of h ts (node.Function ret params cv ref exception) =
-    function (tree_at ts ret) (trees_in h ts params) cv ref (parts_in h ts exception)
-tree_of h ts (node.Encoding ret name params cv ref rest) =
-    encoding (option_at ts ret) (tree_at ts name) (trees_in h ts params) cv ref (parts_in h ts rest)
+tree_of h ts (node.Function f) =
+    function (tree_at ts f.ret) (trees_in h ts f.params) f.cv f.ref_qual (parts_in h ts f.exception)
+tree_of h ts (node.Encoding f) =
+    encoding (option_at ts f.ret) (tree_at ts f.name) (trees_in h ts f.params) f.cv f.ref_qual (parts_in h ts f.rest)
 tree_of h ts (node.Pack items) = pack (trees_in h ts items)
 
 abbrev pub IsRange : ℕ → Range → Type 0
@@ -119,14 +119,12 @@ abbrev pub IsPartsBelow : Held → ℕ → handles.Parts → Type 0
 IsPartsBelow h n ps = IsRange (length h.parts) ps.range × AllByRecursion (IsPartBelow h n) (parts_at h ps)
 
 abbrev pub IsOptionBelow : ℕ → Option ℕ → Type 0
-IsOptionBelow n None = Unit {0}
-IsOptionBelow n (Some i) = i < n
+IsOptionBelow n o = IfSome o (λ i. i < n)
 
 -- what a node refers to is in the arena, and its children stand before an index
 unfoldable pub IsPlainBelow : Held → ℕ → Plain → Type 0
 IsPlainBelow h n (plain.Name bytes) = IsText h bytes
 IsPlainBelow h n (plain.Leaf simple a b) = IsText h a × IsText h b
-IsPlainBelow h n (plain.StdName std expanded) = Unit {0}
 IsPlainBelow h n (plain.Phrase attributes ps) = IsPartsBelow h n ps
 IsPlainBelow h n (plain.Scoped friend scope name) = (scope < n) × (name < n)
 IsPlainBelow h n (plain.WithArgs name args) = (name < n) × IsListBelow h n args
@@ -136,7 +134,7 @@ IsPlainBelow h n (plain.Data name) = name < n
 IsPlainBelow h n (plain.ObjcProtocol t protocol) = (t < n) × IsText h protocol
 IsPlainBelow h n (plain.List items) = IsListBelow h n items
 IsPlainBelow h n (plain.Expansion t) = t < n
-IsPlainBelow h n (plain.Param level index) = Unit {0}
+IsPlainBelow h n p = Unit {0}
 
 unfoldable pub IsDeclarationBelow : Held → ℕ → Declaration → Type 0
 IsDeclarationBelow h n (declaration.TypeParam constraint name) = (constraint < n) × (name < n)
@@ -153,10 +151,9 @@ IsBelow h n (node.Pointer t) = t < n
 IsBelow h n (node.Reference t lvalue) = t < n
 IsBelow h n (node.MemberPointer class member) = (class < n) × (member < n)
 IsBelow h n (node.Array element dimension) = (element < n) × IsPartsBelow h n dimension
-IsBelow h n (node.Function ret params cv ref exception) =
-    (ret < n) × IsListBelow h n params × IsPartsBelow h n exception
-IsBelow h n (node.Encoding ret name params cv ref rest) =
-    IsOptionBelow n ret × (name < n) × IsListBelow h n params × IsPartsBelow h n rest
+IsBelow h n (node.Function f) = (f.ret < n) × IsListBelow h n f.params × IsPartsBelow h n f.exception
+IsBelow h n (node.Encoding f) =
+    IsOptionBelow n f.ret × (f.name < n) × IsListBelow h n f.params × IsPartsBelow h n f.rest
 IsBelow h n (node.Pack items) = IsListBelow h n items
 
 -- what an arena holds: nodes, and what they refer to
@@ -168,14 +165,6 @@ pub record Store : Type 0 where
 abbrev pub trees_from : Held → List Tree → List Node → List Tree
 trees_from h ts [] = ts
 trees_from h ts (n ∷ ns) = trees_from h (ts ++ tree_of h ts n ∷ []) ns
-
--- the children of each node stand before it
-abbrev pub AreStored : Held → ℕ → List Node → Type 0
-AreStored h k [] = Unit {0}
-AreStored h k (n ∷ ns) = IsBelow h k n × AreStored h (k + 1) ns
-
-abbrev pub IsStore : Store → Type 0
-IsStore s = AreStored s.held 0 s.nodes
 
 -- the trees that the nodes stand for, in order
 unfoldable pub forest : Store → List Tree

@@ -1,5 +1,8 @@
+-- What an arena keeps of the nodes that it holds.
+use Rattle.std.specs.Prelude.{ℕ, ◌+◌, List, [], ◌∷◌}
 use Rattle.cxx_tree.specs.declared.arena.Arena.TheInside.{Inside}
-use Rattle.cxx_tree.specs.Stored.{Store, IsStore, forest}
+use Rattle.cxx_tree.specs.declared.node.Node.{Node}
+use Rattle.cxx_tree.specs.Stored.{Held, Store, IsBelow, forest}
 use Rattle.cxx_tree.specs.Counts.{AreCounted}
 
 abbrev pub store_of : Inside → Store
@@ -7,6 +10,14 @@ store_of a = record {
   nodes = a.nodes.items;
   held = record { lists = a.lists.items; parts = a.parts.items; texts = a.texts.items };
 }
+
+-- the children of each node stand before it
+abbrev pub AreStored : Held → ℕ → List Node → Type 0
+AreStored h k [] = Unit {0}
+AreStored h k (n ∷ ns) = IsBelow h k n × AreStored h (k + 1) ns
+
+abbrev pub IsStore : Store → Type 0
+IsStore s = AreStored s.held 0 s.nodes
 
 abbrev pub IsConsistent : Inside → Type 0
 IsConsistent a = IsStore (store_of a) × AreCounted a.counts.items (forest (store_of a))

@@ -64,6 +64,7 @@ impl Arena {
     pub fn new(alloc: Global) -> Self
         ensures empty { forest result ≡ [] }
         ensures size { size result ≡ 0 }
+        ensures held { (result.held.lists ≡ []) × (result.held.parts ≡ []) × (result.held.texts ≡ []) }
     {
         Arena {
             nodes: Vec::new(alloc),
@@ -78,6 +79,7 @@ impl Arena {
     pub fn clear(&mut self)
         ensures empty { forest self.new ≡ [] }
         ensures size { size self.new ≡ 0 }
+        ensures held { (self.new.held.lists ≡ []) × (self.new.held.parts ≡ []) × (self.new.held.texts ≡ []) }
     {
         self.nodes.clear();
         self.counts.clear();
@@ -94,15 +96,18 @@ impl Arena {
     }
 
     /// Returns a node.
-    pub fn node(&self, i: u32) -> Node
+    #[inline(always)]
+    pub fn node(&self, i: u32) -> &Node
         requires within { i < size self.now }
-        ensures tree { tree_at (forest self.now) i ≡ tree_of self.now.held (forest self.now) result }
-        ensures below { IsBelow self.now.held i result }
+        ensures tree { tree_at (forest self.now) i ≡ tree_of self.now.held (forest self.now) result.now }
+        ensures below { IsBelow self.now.held i result.now }
+        ensures fits { (spec.measure (tree_at (forest self.now) i)).fits ≡ true }
     {
-        self.nodes[i as usize]
+        &self.nodes[i as usize]
     }
 
     /// Returns the bytes of a text.
+    #[inline(always)]
     pub fn bytes(&self, text: Text) -> &[u8]
         requires within { IsText self.now.held text }
         ensures value { result.now ≡ text_at self.now.held text }
@@ -114,6 +119,7 @@ impl Arena {
     }
 
     /// Returns the nodes of a list.
+    #[inline(always)]
     pub fn items(&self, list: List) -> &[u32]
         requires within { IsRange (length self.now.held.lists) list.range }
         ensures value { result.now ≡ list_at self.now.held list }
@@ -122,6 +128,7 @@ impl Arena {
     }
 
     /// Returns the parts of a phrase.
+    #[inline(always)]
     pub fn parts_of(&self, parts: Parts) -> &[Part]
         requires within { IsRange (length self.now.held.parts) parts.range }
         ensures value { result.now ≡ parts_at self.now.held parts }
@@ -237,7 +244,7 @@ impl Arena {
     }
 }
 
-// The range of `more` items behind `len` others.
+// The range of `more` items after `len` others.
 fn range_behind(len: usize, more: usize) -> Result<Range, AllocError>
     ensures from { IfOk result (λ r. r.from ≡ len) }
     ensures to { IfOk result (λ r. r.to ≡ len + more) }

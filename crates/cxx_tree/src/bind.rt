@@ -1,21 +1,21 @@
 //! Replaces template parameters when their binder is complete.
-#![tactic(auto, using(crate::proofs::Replaced::binding), unfolding(crate::specs::Stored::tree_of, crate::specs::Stored::plain_tree, crate::specs::Stored::declaration_tree, crate::specs::Stored::IsBelow, crate::specs::Stored::IsPlainBelow, crate::specs::Stored::IsDeclarationBelow, crate::specs::Measure::measure, crate::specs::Bind::bind))]
+#![tactic(auto, using(crate::proofs::Replaced::binding), unfolding(crate::specs::Stored::tree_of, crate::specs::Stored::plain_tree, crate::specs::Stored::declaration_tree, crate::specs::Stored::IsBelow, crate::specs::Stored::IsPlainBelow, crate::specs::Stored::IsDeclarationBelow, crate::specs::Measure::measure, crate::specs::Bind::bind, crate::specs::Bind::as_pack))]
 
-ghost use Rattle.std.specs.Prelude.{◌≡◌, ◌+◌, ◌-◌, ◌<◌, ◌≤◌, ◌&&◌, false, IfOk, IsErrOf, MatchOption};
+ghost use Rattle.std.specs.Prelude.{◌≡◌, ◌+◌, ◌-◌, ◌<◌, ◌≤◌, ◌&&◌, true, false, IfOk, IfSome, IsErrOf, MatchOption};
 ghost use Rattle.cxx_tree.specs.Measure.{measure};
 ghost use Rattle.cxx_tree.specs.Grows.{Grows, Makes};
 ghost use Rattle.cxx_tree.specs.Bind as spec;
-ghost use Rattle.cxx_tree.specs.Tree.{named, param};
+ghost use Rattle.cxx_tree.specs.Tree.{named, param, pack};
 ghost use Rattle.cxx_tree.specs.Bind.{AreNamed, binding_at, bound_at, IsInner};
 ghost use Rattle.cxx_tree.specs.declared.arena.PushError.TheVariants as PushError;
 ghost use Rattle.cxx_tree.specs.declared.node.Node.TheVariants as Node;
 ghost use Rattle.cxx_tree.specs.declared.node.Plain.TheVariants as Plain;
-ghost use Rattle.cxx_tree.specs.Stored.{forest, size, tree_of, plain_tree, declaration_tree, tree_at, IsBelow, IsPlainBelow, IsDeclarationBelow};
+ghost use Rattle.cxx_tree.specs.Stored.{forest, size, tree_of, plain_tree, declaration_tree, tree_at, trees_in, IsListBelow, IsBelow, IsPlainBelow, IsDeclarationBelow};
 
 use crate::arena::{Arena, PushError};
 use crate::children::bind_node;
 use crate::digits::push_number;
-use crate::node::{Node, Plain, Text};
+use crate::node::{List, Node, Plain, Text};
 use std::alloc::{AllocError, Global};
 
 /// What becomes of a template parameter that has no name.
@@ -105,6 +105,32 @@ fn without_name(
     }
 }
 
+// The items of a list. Returns nothing for another node.
+fn items_of(arena: &Arena, i: u32) -> Option<List>
+    requires within { i < size arena.now }
+    ensures items { MatchOption result (spec.as_pack (tree_at (forest arena.now) i) ≡ tree_at (forest arena.now) i)
+        (λ l. spec.as_pack (tree_at (forest arena.now) i) ≡ pack (trees_in arena.now.held (forest arena.now) l)) }
+    ensures below { IfSome result (λ l. IsListBelow arena.now.held (size arena.now) l) }
+    ensures fits { (measure (tree_at (forest arena.now) i)).fits ≡ true }
+{
+    match *arena.node(i) {
+        Node::Plain(Plain::List(items)) => Some(items),
+        _ => None,
+    }
+}
+
+// Makes what a template parameter stands for: of a list of arguments, a pack.
+fn as_pack(arena: &mut Arena, i: u32) -> Result<u32, PushError>
+    requires within { i < size arena.old }
+    ensures makes { Makes result arena.old arena.new (spec.as_pack (tree_at (forest arena.old) i)) }
+    ensures few { size arena.new ≤ size arena.old + 1 }
+{
+    match items_of(arena, i) {
+        Some(items) => arena.push(Node::Pack(items)),
+        None => Ok(i),
+    }
+}
+
 // Makes what becomes of the template parameter that is node `i`.
 fn replaced(
     arena: &mut Arena,
@@ -121,7 +147,7 @@ fn replaced(
     ensures few { size arena.new ≤ size arena.old + 1 }
 {
     if level == binding.level && index < binding.names.len() as u64 {
-        return Ok(binding.names[index as usize]);
+        return as_pack(arena, binding.names[index as usize]);
     }
     without_name(arena, alloc, binding, i, level, index)
 }
@@ -151,7 +177,7 @@ pub fn bind(arena: &mut Arena, alloc: Global, binding: &Binding, i: u32) -> Resu
     if arena.measure(i).params == 0 {
         return Ok(i);
     }
-    let node = arena.node(i);
+    let node = *arena.node(i);
     match param_of(node) {
         Some((level, index)) => replaced(arena, alloc, binding, i, level, index),
         None => {

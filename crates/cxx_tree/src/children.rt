@@ -8,11 +8,12 @@ ghost use Rattle.cxx_tree.specs.Bind as spec;
 ghost use Rattle.cxx_tree.specs.Tree.{named};
 ghost use Rattle.cxx_tree.specs.Bind.{AreNamed, binding_at, bound_at, bound_list, bound_parts, bound_option, part_at, plain_at, declaration_at, node_at, IsInner, IsInnerPlain};
 ghost use Rattle.cxx_tree.specs.declared.arena.PushError.TheVariants as PushError;
+ghost use Rattle.cxx_tree.specs.declared.node.Node.TheVariants as Node;
 ghost use Rattle.cxx_tree.specs.Stored.{forest, size, tree_of, plain_tree, declaration_tree, tree_at, option_at, trees_in, parts_in, IsBelow, IsPlainBelow, IsDeclarationBelow, IsListBelow, IsPartsBelow, IsPartBelow, IsOptionBelow};
 
 use crate::arena::{Arena, PushError};
 use crate::bind::{Binding, bind};
-use crate::node::{Declaration, List, Node, Part, Parts, Plain};
+use crate::node::{Declaration, Encoding, Function, List, Node, Part, Parts, Plain};
 use std::alloc::Global;
 
 // The children of a node, bound: two.
@@ -378,7 +379,8 @@ fn bind_declaration(
     ensures few { size arena.new ≤ size arena.old + ((measure (declaration_at arena.old declaration)).params - 1) }
     ensures below { IfOk result (IsDeclarationBelow arena.new.held (size arena.new)) }
     ensures bound { IfOk result (λ n.
-        declaration_at arena.new n ≡ spec.bind (binding_at arena.old binding.now) (declaration_at arena.old declaration)) }
+        declaration_at arena.new n
+        ≡ spec.bind (binding_at arena.old binding.now) (declaration_at arena.old declaration)) }
     ensures limit { IsErrOf result PushError.Limit →
         (measure (spec.bind (binding_at arena.old binding.now) (declaration_at arena.old declaration))).fits ≡ false }
 {
@@ -408,6 +410,88 @@ fn bind_declaration(
             Ok(Declaration::PackParam(d))
         }
     }
+}
+
+// The type of a function, with its children bound.
+#[cycle(binding)]
+fn bind_function(
+    arena: &mut Arena,
+    alloc: Global,
+    binding: &Binding,
+    i: u32,
+    function: Function,
+) -> Result<Function, PushError>
+    requires within { i ≤ size arena.old }
+    requires named { AreNamed arena.old binding.now }
+    requires below { IsBelow arena.old.held i (Node.Function function) }
+    ensures grows { Grows arena.old arena.new }
+    ensures few { size arena.new
+        ≤ size arena.old + ((measure (node_at arena.old (Node.Function function))).params - 1) }
+    ensures below { IfOk result (λ n. IsBelow arena.new.held (size arena.new) (Node.Function n)) }
+    ensures bound { IfOk result (λ n. node_at arena.new (Node.Function n)
+        ≡ spec.bind (binding_at arena.old binding.now) (node_at arena.old (Node.Function function))) }
+    ensures limit { IsErrOf result PushError.Limit →
+        (measure (spec.bind (binding_at arena.old binding.now)
+        (node_at arena.old (Node.Function function)))).fits ≡ false }
+{
+    let (ret, params, exception) = tri!(bind_three(
+        arena,
+        alloc,
+        binding,
+        i,
+        function.ret,
+        function.params,
+        function.exception
+    ));
+    Ok(Function {
+        ret,
+        params,
+        cv: function.cv,
+        ref_qual: function.ref_qual,
+        exception,
+    })
+}
+
+// A function with its name, with its children bound.
+#[cycle(binding)]
+fn bind_encoding(
+    arena: &mut Arena,
+    alloc: Global,
+    binding: &Binding,
+    i: u32,
+    encoding: Encoding,
+) -> Result<Encoding, PushError>
+    requires within { i ≤ size arena.old }
+    requires named { AreNamed arena.old binding.now }
+    requires below { IsBelow arena.old.held i (Node.Encoding encoding) }
+    ensures grows { Grows arena.old arena.new }
+    ensures few { size arena.new
+        ≤ size arena.old + ((measure (node_at arena.old (Node.Encoding encoding))).params - 1) }
+    ensures below { IfOk result (λ n. IsBelow arena.new.held (size arena.new) (Node.Encoding n)) }
+    ensures bound { IfOk result (λ n. node_at arena.new (Node.Encoding n)
+        ≡ spec.bind (binding_at arena.old binding.now) (node_at arena.old (Node.Encoding encoding))) }
+    ensures limit { IsErrOf result PushError.Limit →
+        (measure (spec.bind (binding_at arena.old binding.now)
+        (node_at arena.old (Node.Encoding encoding)))).fits ≡ false }
+{
+    let (ret, name, params, rest) = tri!(bind_four(
+        arena,
+        alloc,
+        binding,
+        i,
+        encoding.ret,
+        encoding.name,
+        encoding.params,
+        encoding.rest
+    ));
+    Ok(Encoding {
+        ret,
+        name,
+        params,
+        cv: encoding.cv,
+        ref_qual: encoding.ref_qual,
+        rest,
+    })
 }
 
 // A node that isn't a template parameter, with its children bound.
@@ -462,17 +546,13 @@ pub fn bind_node(
             ));
             Ok(Node::Array(element, dimension))
         }
-        Node::Function(ret, params, cv, ref_qual, exception) => {
-            let (ret, params, exception) = tri!(bind_three(
-                arena, alloc, binding, i, ret, params, exception
-            ));
-            Ok(Node::Function(ret, params, cv, ref_qual, exception))
+        Node::Function(function) => {
+            let function = tri!(bind_function(arena, alloc, binding, i, function));
+            Ok(Node::Function(function))
         }
-        Node::Encoding(ret, name, params, cv, ref_qual, rest) => {
-            let (ret, name, params, rest) = tri!(bind_four(
-                arena, alloc, binding, i, ret, name, params, rest
-            ));
-            Ok(Node::Encoding(ret, name, params, cv, ref_qual, rest))
+        Node::Encoding(encoding) => {
+            let encoding = tri!(bind_encoding(arena, alloc, binding, i, encoding));
+            Ok(Node::Encoding(encoding))
         }
         Node::Pack(items) => {
             let items = tri!(bind_list(arena, alloc, binding, i, items));

@@ -120,7 +120,7 @@ pub enum Manner {
     Value,
     /// The only argument of a conversion.
     Argument,
-    /// `sizeof...`, with a blank behind it if the field says so, and the tree in parentheses. GNU's style has the number
+    /// `sizeof...`, with a blank after it if the field says so, and the tree in parentheses. GNU's style has the number
     /// of elements where it is known.
     Count(bool),
     /// A pack that a fold expression folds.

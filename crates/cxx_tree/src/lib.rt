@@ -24,4 +24,6 @@ pub use crate::arena::{Arena, PushError};
 pub use crate::counts::Measure;
 pub use crate::digits::{MOST_DIGITS, number_bytes};
 pub use crate::kinds::{Context, Cv, Guard, Listing, Manner, Phrase, Prec, RefQual, Role, Std};
-pub use crate::node::{Declaration, List, Node, Part, Parts, Plain, Range, Text};
+pub use crate::node::{
+    Declaration, Encoding, Function, List, Node, Part, Parts, Plain, Range, Text,
+};

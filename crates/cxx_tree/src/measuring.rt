@@ -57,7 +57,7 @@ fn join_as(reversed: bool, a: Measure, b: Measure) -> Measure
     if reversed { join(b, a) } else { join(a, b) }
 }
 
-// The counts of a part and of those behind it.
+// The counts of a part and of those after it.
 fn with_part(arena: &Arena, reversed: bool, part: Part, rest: Measure) -> Measure
     requires below { IsPartBelow arena.now.held (size arena.now) part }
     ensures counts { (m : spec.Measure) → Row rest m → Row result
@@ -137,8 +137,8 @@ fn of_declaration(arena: &Arena, declaration: Declaration) -> Measure
             join(arena.measure(name), arena.measure(t)),
         ),
         Declaration::TemplateParam(name, declarations, rest) => {
-            let behind = join(of_list(arena, declarations), of_parts(arena, false, rest));
-            around(1, join(arena.measure(name), behind))
+            let after = join(of_list(arena, declarations), of_parts(arena, false, rest));
+            around(1, join(arena.measure(name), after))
         }
         Declaration::PackParam(d) => around(1, arena.measure(d)),
     }
@@ -164,14 +164,20 @@ pub fn of_node(arena: &Arena, node: Node) -> Measure
             1,
             join(arena.measure(element), of_parts(arena, false, dimension)),
         ),
-        Node::Function(ret, params, _, _, exception) => {
-            let behind = join(of_list(arena, params), of_parts(arena, false, exception));
-            around(1, join(arena.measure(ret), behind))
+        Node::Function(function) => {
+            let after = join(
+                of_list(arena, function.params),
+                of_parts(arena, false, function.exception),
+            );
+            around(1, join(arena.measure(function.ret), after))
         }
-        Node::Encoding(ret, name, params, _, _, rest) => {
-            let behind = join(of_list(arena, params), of_parts(arena, false, rest));
-            let named = join(arena.measure(name), behind);
-            around(1, join(of_option(arena, ret), named))
+        Node::Encoding(encoding) => {
+            let after = join(
+                of_list(arena, encoding.params),
+                of_parts(arena, false, encoding.rest),
+            );
+            let named = join(arena.measure(encoding.name), after);
+            around(1, join(of_option(arena, encoding.ret), named))
         }
         Node::Pack(items) => pack_of(arena, items),
     }

@@ -74,6 +74,30 @@ pub enum Declaration {
     PackParam(u32),
 }
 
+/// The type of a function. A `u32` is the index of a node.
+#[derive(Clone, Copy)]
+pub struct Function {
+    /// The return type.
+    pub ret: u32,
+    pub params: List,
+    pub cv: Cv,
+    pub ref_qual: RefQual,
+    pub exception: Parts,
+}
+
+/// A function with its name. A `u32` is the index of a node.
+#[derive(Clone, Copy)]
+pub struct Encoding {
+    /// The return type, if there is one.
+    pub ret: Option<u32>,
+    pub name: u32,
+    pub params: List,
+    pub cv: Cv,
+    pub ref_qual: RefQual,
+    /// What follows the qualifiers.
+    pub rest: Parts,
+}
+
 /// A node of an arena: what stands for a tree. A `u32` is the index of a node.
 #[derive(Clone, Copy)]
 pub enum Node {
@@ -87,9 +111,7 @@ pub enum Node {
     MemberPointer(u32, u32),
     /// The element, and the dimension.
     Array(u32, Parts),
-    /// The return type, the parameters, the qualifiers and the exception specification.
-    Function(u32, List, Cv, RefQual, Parts),
-    /// The return type, the name, the parameters, the qualifiers, and what follows them.
-    Encoding(Option<u32>, u32, List, Cv, RefQual, Parts),
+    Function(Function),
+    Encoding(Encoding),
     Pack(List),
 }

@@ -3,9 +3,10 @@
 
 use crate::extracted::cxx_nodes as rows;
 use crate::extracted::cxx_printer::{Mode, Style, Symbol, print_symbol};
-use crate::extracted::cxx_tree::{Arena, Cv, Node, Plain, PushError, RefQual};
+use crate::extracted::cxx_tree::{Arena, Cv, Encoding, Node, Plain, PushError, RefQual};
 use crate::extracted::growing_text::Text;
 use crate::rattle::alloc::{AllocError, Global};
+use crate::stacks::stacks;
 use std::alloc::{GlobalAlloc, Layout, System};
 use std::process::ExitCode;
 use std::sync::atomic::{AtomicUsize, Ordering};
@@ -117,6 +118,13 @@ fn heights(counts: &mut Counts) {
     counts.check("an arena after a limit", text_of(&arena, other) == b"x&");
 }
 
+/// Trees of each shape, of the greatest height.
+fn shapes(counts: &mut Counts) {
+    for (what, is_printed) in stacks(MAX_HEIGHT) {
+        counts.check(&format!("{what}, of the greatest height"), is_printed);
+    }
+}
+
 /// Lists of a list twice: the work doubles, up to the most.
 fn works(counts: &mut Counts) {
     let mut arena = Arena::new(Global);
@@ -178,7 +186,7 @@ fn declared(arena: &mut Arena) -> Result<u32, PushError> {
     let reference = arena.push(Node::Reference(qualified, true))?;
     let (params, rest) = (arena.list(&[reference, g])?, arena.parts(&[])?);
     let cv = Cv { is_const: false, is_volatile: false, is_restrict: false };
-    arena.push(Node::Encoding(Some(pointer), named, params, cv, RefQual::None, rest))
+    arena.push(Node::Encoding(Encoding { ret: Some(pointer), name: named, params, cv, ref_qual: RefQual::None, rest }))
 }
 
 /// Whether a function is made and printed. The error says whether it was want of memory.
@@ -209,7 +217,7 @@ fn refusals(counts: &mut Counts) {
 /// Runs all tests.
 pub fn run() -> ExitCode {
     let mut counts = Counts::default();
-    for test in [heights, works, packs, texts, refusals] {
+    for test in [heights, shapes, works, packs, texts, refusals] {
         test(&mut counts);
     }
     println!("{} passed, {} failed", counts.passed, counts.failed);

@@ -17,6 +17,7 @@
 //! `limits.rs` says what is tested. If the argument is another, the status is 2.
 
 mod limits;
+mod stacks;
 mod tree;
 mod value;
 

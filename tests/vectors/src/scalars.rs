@@ -1,5 +1,7 @@
-//! Tests the readers of numbers, sequence ids, source names, call offsets and operator codes.
+//! Tests the readers of numbers, sequence ids, source names, identifiers, call offsets and operator codes.
 
+use crate::extracted::abi_scalars::numerals::{Radix, index_of, level_of};
+use crate::extracted::abi_scalars::texts::{digits, identifier, number_text, optional_number_text};
 use crate::extracted::itanium_demangle::scalar::{
     CallOffset, Signed, call_offset, expression_refused, number, operator_arity, operator_text, sequence_id,
     source_name,
@@ -52,6 +54,85 @@ fn source_names() {
     for (text, at, expected) in rows {
         assert_eq!(source_name(text.as_bytes(), at), expected, "{text}");
     }
+}
+
+#[test]
+fn indices_and_levels() {
+    let rows: [(&str, Option<(usize, &str)>, Option<(usize, &str)>); 9] = [
+        ("_E", Some((0, "E")), None),
+        ("0_", Some((1, "")), Some((1, ""))),
+        ("12_0_", Some((13, "0_")), Some((13, "0_"))),
+        ("18446744073709551614_", Some((usize::MAX, "")), Some((usize::MAX, ""))),
+        ("18446744073709551615_", None, None),
+        ("99999999999999999999999999_", None, None),
+        ("1", None, None),
+        ("A_", None, None),
+        ("", None, None),
+    ];
+    for (text, index, level) in rows {
+        let found = |(number, rest): (usize, &[u8])| (number, String::from_utf8_lossy(rest).into_owned());
+        let expected = |(number, rest): (usize, &str)| (number, rest.to_owned());
+        assert_eq!(index_of(Radix::Decimal, text.as_bytes()).map(found), index.map(expected), "{text}");
+        assert_eq!(level_of(text.as_bytes()).map(found), level.map(expected), "{text}");
+    }
+}
+
+/// A reader of a text, and of the bytes after it.
+type Texts = fn(&[u8]) -> Option<(&[u8], &[u8])>;
+
+/// Tests that a reader returns these texts for the rows, which begin with what it is given.
+fn assert_texts(reader: Texts, rows: &[(&str, Option<(&str, &str)>)]) {
+    for (text, expected) in rows {
+        let expected = expected.map(|(front, rest)| (front.as_bytes(), rest.as_bytes()));
+        assert_eq!(reader(text.as_bytes()), expected, "{text}");
+    }
+}
+
+#[test]
+fn texts_of_digits() {
+    assert_texts(
+        |bytes| Some(digits(Radix::Decimal, bytes)),
+        &[
+            ("0070y", Some(("0070", "y"))),
+            ("99999999999999999999999999_", Some(("99999999999999999999999999", "_"))),
+            ("n1", Some(("", "n1"))),
+            ("", Some(("", ""))),
+        ],
+    );
+    assert_texts(|bytes| Some(digits(Radix::Base36, bytes)), &[("1ZA_", Some(("1ZA", "_"))), ("a", Some(("", "a")))]);
+}
+
+#[test]
+fn texts_of_numbers() {
+    let numbers = [
+        ("n007E", Some(("n007", "E"))),
+        ("12345678901234567890123_", Some(("12345678901234567890123", "_"))),
+        ("nn1", None),
+        ("nE", None),
+        ("n", None),
+    ];
+    let others: [(&str, Option<(&str, &str)>); 2] = [("E", Some(("", "E"))), ("", Some(("", "")))];
+    assert_texts(number_text, &numbers);
+    assert_texts(number_text, &others.map(|(text, _)| (text, None)));
+    assert_texts(optional_number_text, &numbers);
+    assert_texts(optional_number_text, &others);
+}
+
+#[test]
+fn identifiers() {
+    assert_texts(
+        identifier,
+        &[
+            ("3foov", Some(("foo", "v"))),
+            ("12_GLOBAL__N_1x", Some(("_GLOBAL__N_1", "x"))),
+            ("03foo", None),
+            ("4foo", None),
+            ("0", None),
+            ("18446744073709551617x", None),
+            ("foo", None),
+            ("", None),
+        ],
+    );
 }
 
 /// Returns a number without a minus.

@@ -8,6 +8,7 @@ use Rattle.cxx_tree.specs.Stored.{forest, size, tree_at, trees_at, parts_of, tre
 use Rattle.cxx_tree.specs.Bind.{bind, bind_each, bind_parts, bound, binding_at, bound_at, node_at}
 use Rattle.cxx_tree.proofs.Grown.{Makes-node, Grows-same, Grows-trans, below-grows}
 use Rattle.cxx_tree.proofs.Replaced.{stays, Makes-err, Makes-grows, Makes-below, Makes-tree, Makes-unfit, few-pushed, some-params, limit_second, limit_of, tree-after, list-after, parts-after, option_at-grows, trees_in-grows, AreNamed-grows, all-push, each-unfit, Listed, listed_below, list-few, list-bound, list-end, list-below, parts-unfit, Parted, parted_below, part-after, parts-few, parts-bound, parts-end, parts-below, all_parts-grows, IsPartBelow-grows, limit_third, IsListBelow-grows, IsPartsBelow-grows, list_below-grows, three_same, joined_trees, joined_parts}
+use Rattle.cxx_tree.proofs.Measured.{row-fit}
 use Rattle.cxx_tree.proofs.+binding.Goals as goal
 
 pub bind::bind-returns-then-measure-eq0-clause-makes : goal.bind::bind-returns-then-measure-eq0-clause-makes
@@ -17,6 +18,7 @@ bind::bind-returns-then-measure-eq0-clause-makes t c =
     stays c.measure.result (binding_at a c.args.binding.now) (tree_at (forest a) c.args.i) c.measure.ensures.counts
     c.if-measure-eq0.true in
     Makes-node a a (bound_at a c.args.binding.now c.args.i) c.args.i c.requires.within same (Grows-same a a refl)
+    (ap (λ (u : Tree). (measure u).fits) (sym same) ∙ row-fit _ _ c.measure.ensures.counts)
 
 pub bind::bind-returns-then-measure-eq0-clause-bound : goal.bind::bind-returns-then-measure-eq0-clause-bound
 bind::bind-returns-then-measure-eq0-clause-bound t c =
@@ -27,7 +29,7 @@ pub bind::bind-returns-in-Err-clause-makes : goal.bind::bind-returns-in-Err-clau
 bind::bind-returns-in-Err-clause-makes t c =
     let a = c.args.arena.now in
     Makes-err c.in-Err.error a c.bind_node.new.arena
-    (bind (binding_at a c.args.binding.now) (node_at a c.node-node.result)) (bound_at a c.args.binding.now c.args.i)
+    (bind (binding_at a c.args.binding.now) (node_at a c.node-node.result.now)) (bound_at a c.args.binding.now c.args.i)
     (c.in-Err.ensures {u = tt}).grows (c.in-Err.ensures {u = tt}).limit
     (ap (bind (binding_at a c.args.binding.now)) (sym c.node-node.ensures.tree))
 
@@ -43,7 +45,7 @@ pub bind::bind-returns-in-Some-clause-bound : goal.bind::bind-returns-in-Some-cl
 unfolding bind tree_of plain_tree
 bind::bind-returns-in-Some-clause-bound t c =
     let a = c.args.arena.now in
-    let is : tree_at (forest a) c.args.i ≡ tree_of a.held (forest a) c.node-node.result = c.node-node.ensures.tree in
+    let is : tree_at (forest a) c.args.i ≡ tree_of a.held (forest a) c.node-node.result.now = c.node-node.ensures.tree in
     let e : bound (binding_at a c.args.binding.now) c.in-Some.level c.in-Some.index
     ≡ bound_at a c.args.binding.now c.args.i =
     sym (ap (bind (binding_at a c.args.binding.now))
@@ -54,7 +56,7 @@ pub bind::bind-returns-in-Some-clause-limit : goal.bind::bind-returns-in-Some-cl
 unfolding bind tree_of plain_tree
 bind::bind-returns-in-Some-clause-limit t c =
     let a = c.args.arena.now in
-    let is : tree_at (forest a) c.args.i ≡ tree_of a.held (forest a) c.node-node.result = c.node-node.ensures.tree in
+    let is : tree_at (forest a) c.args.i ≡ tree_of a.held (forest a) c.node-node.result.now = c.node-node.ensures.tree in
     let e : bound (binding_at a c.args.binding.now) c.in-Some.level c.in-Some.index
     ≡ bound_at a c.args.binding.now c.args.i =
     sym (ap (bind (binding_at a c.args.binding.now))

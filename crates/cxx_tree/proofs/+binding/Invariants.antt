@@ -8,43 +8,49 @@ use Rattle.cxx_tree.proofs.Replaced.{joined_trees, joined_parts}
 use Rattle.cxx_tree.proofs.+binding.Given as goal
 
 abbrev pub decreases-bind::bind : goal.decreases-bind::bind
-decreases-bind::bind l = 8 * l.i + 7
+decreases-bind::bind l = 16 * l.i + 8
 
 abbrev pub decreases-children::bind_node : goal.decreases-children::bind_node
-decreases-children::bind_node l = 8 * l.i + 6
+decreases-children::bind_node l = 16 * l.i + 7
 
 abbrev pub decreases-children::bind_plain : goal.decreases-children::bind_plain
-decreases-children::bind_plain l = 8 * l.i + 5
+decreases-children::bind_plain l = 16 * l.i + 6
 
 abbrev pub decreases-children::bind_declaration : goal.decreases-children::bind_declaration
-decreases-children::bind_declaration l = 8 * l.i + 5
+decreases-children::bind_declaration l = 16 * l.i + 6
+
+abbrev pub decreases-children::bind_function : goal.decreases-children::bind_function
+decreases-children::bind_function l = 16 * l.i + 6
+
+abbrev pub decreases-children::bind_encoding : goal.decreases-children::bind_encoding
+decreases-children::bind_encoding l = 16 * l.i + 6
 
 abbrev pub decreases-children::bind_four : goal.decreases-children::bind_four
-decreases-children::bind_four l = 8 * l.i + 5
+decreases-children::bind_four l = 16 * l.i + 5
 
 abbrev pub decreases-children::bind_three : goal.decreases-children::bind_three
-decreases-children::bind_three l = 8 * l.i + 4
+decreases-children::bind_three l = 16 * l.i + 4
 
 abbrev pub decreases-children::bind_with_list : goal.decreases-children::bind_with_list
-decreases-children::bind_with_list l = 8 * l.i + 3
+decreases-children::bind_with_list l = 16 * l.i + 3
 
 abbrev pub decreases-children::bind_with_parts : goal.decreases-children::bind_with_parts
-decreases-children::bind_with_parts l = 8 * l.i + 3
+decreases-children::bind_with_parts l = 16 * l.i + 3
 
 abbrev pub decreases-children::bind_pair : goal.decreases-children::bind_pair
-decreases-children::bind_pair l = 8 * l.i + 3
+decreases-children::bind_pair l = 16 * l.i + 3
 
 abbrev pub decreases-children::bind_option : goal.decreases-children::bind_option
-decreases-children::bind_option l = 8 * l.i + 3
+decreases-children::bind_option l = 16 * l.i + 3
 
 abbrev pub decreases-children::bind_parts : goal.decreases-children::bind_parts
-decreases-children::bind_parts l = 8 * l.i + 2
+decreases-children::bind_parts l = 16 * l.i + 2
 
 abbrev pub decreases-children::bind_part : goal.decreases-children::bind_part
-decreases-children::bind_part l = 8 * l.i + 1
+decreases-children::bind_part l = 16 * l.i + 1
 
 abbrev pub decreases-children::bind_list : goal.decreases-children::bind_list
-decreases-children::bind_list l = 8 * l.i
+decreases-children::bind_list l = 16 * l.i
 
 abbrev pub invariant-children::bind_list-loop-t : goal.invariant-children::bind_list-loop-t
 invariant-children::bind_list-loop-t l = record {

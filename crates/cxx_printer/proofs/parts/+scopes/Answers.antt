@@ -2,7 +2,7 @@ use Rattle.std.proofs.Common.{false}
 use Rattle.cxx_tree.specs.Stored.{forest, tree_at}
 use Rattle.cxx_printer.specs.Prints.{Prints}
 use Rattle.cxx_printer.specs.Printing.{print, scope_text}
-use Rattle.cxx_printer.specs.Parts.{colons, joined, scopes_of}
+use Rattle.cxx_printer.specs.Parts.{colons, joined, split}
 use Rattle.cxx_printer.proofs.Symbols.{prints_three}
 use Rattle.cxx_printer.proofs.parts.+scopes.Goals as goal
 
@@ -14,6 +14,6 @@ print_from_scope-returns t c =
     record {
       prints = prints_three c.print_scopes.result c.args.out.now c.write_colons.new.out c.print_scope.new.out
           c.print_scopes.new.out (colons c.args.is_first) (scope_text env (print (tree_at ts c.args.scope) env))
-          (joined false env (scopes_of (tree_at ts c.args.name))) c.in-Ok.ensures.prints
+          (joined false env (split (tree_at ts c.args.name)).0) c.in-Ok.ensures.prints
           c.in-Ok-print_scope.ensures.prints c.print_scopes.ensures.prints;
     }

@@ -1,7 +1,8 @@
-use Rattle.std.proofs.Common.{ℕ, ◌≡◌, ◌+◌, ◌-◌, ◌<◌, ◌≤◌, ◌++◌, Bool, true, List, sym, subst, ap, ◌∙◌, drop, length, arith}
+use Rattle.std.proofs.Common.{ℕ, ◌≡◌, ◌+◌, ◌++◌, Bool, true, List, sym, subst, ap, ◌∙◌, drop, arith}
 use Rattle.cxx_tree.specs.Stored.{forest, tree_at, trees_at, parts_of}
-use Rattle.cxx_printer.specs.Printing.{item, items_of, print, print_parts, list_from, sequence, declarations, heads, repeated}
-use Rattle.cxx_printer.proofs.Turns.{so_far_step, so_far_end, list_step, list_end, sequence_step, sequence_end, declarations_step, declarations_end, heads_step, heads_end, repeated_step, repeated_end, parts_step, parts_end, whole-left}
+use Rattle.cxx_printer.specs.Asked.{item}
+use Rattle.cxx_printer.specs.Printing.{items_of, print, print_parts, list_from, sequence, separated, declared, head, repeated}
+use Rattle.cxx_printer.proofs.Turns.{so_far_step, so_far_end, list_step, list_end, sequence_step, sequence_end, separated_step, separated_end, repeated_step, repeated_end, parts_step, whole-left}
 use Rattle.cxx_printer.specs.Printing.{collapsed}
 use Rattle.cxx_printer.specs.Prints.{Prints}
 use Rattle.cxx_printer.specs.Words.{mark}
@@ -22,19 +23,19 @@ print_list-returns t c =
 
 pub print_declared_list-loop-t-preserved : goal.print_declared_list-loop-t-preserved
 print_declared_list-loop-t-preserved t c =
-    so_far_step c.args.out.now _ _ (declarations true c.args.env (items_of (trees_at (forest c.args.arena.now) c.args.items.now))) _ _ _ c.loop-t.invariant (declarations_step _ _ _ _ _ 0 c.loop-t-test.true) (c.in-Ok.ensures {u = tt}).prints
+    so_far_step c.args.out.now _ _ (separated declared true c.args.env (items_of (trees_at (forest c.args.arena.now) c.args.items.now))) _ _ _ c.loop-t.invariant (separated_step declared _ _ _ _ _ 0 c.loop-t-test.true) (c.in-Ok.ensures {u = tt}).prints
 
 pub print_declared_list-returns : goal.print_declared_list-returns
 print_declared_list-returns t c =
-    record { prints = so_far_end c.args.out.now c.loop-t.out _ _ c.loop-t.invariant (declarations_end (forest c.args.arena.now) c.args.items.now c.args.env c.loop-t.is_first c.loop-t.t-index (omega (arith, c.loop-t-test.false))) }
+    record { prints = so_far_end c.args.out.now c.loop-t.out _ _ c.loop-t.invariant (separated_end declared (forest c.args.arena.now) c.args.items.now c.args.env c.loop-t.is_first c.loop-t.t-index (omega (arith, c.loop-t-test.false))) }
 
 pub print_heads-loop-t-preserved : goal.print_heads-loop-t-preserved
 print_heads-loop-t-preserved t c =
-    so_far_step c.args.out.now _ _ (heads true c.args.env (items_of (trees_at (forest c.args.arena.now) c.args.items.now))) _ _ _ c.loop-t.invariant (heads_step _ _ _ _ _ 0 c.loop-t-test.true) (c.in-Ok.ensures {u = tt}).prints
+    so_far_step c.args.out.now _ _ (separated head true c.args.env (items_of (trees_at (forest c.args.arena.now) c.args.items.now))) _ _ _ c.loop-t.invariant (separated_step head _ _ _ _ _ 0 c.loop-t-test.true) (c.in-Ok.ensures {u = tt}).prints
 
 pub print_heads-returns : goal.print_heads-returns
 print_heads-returns t c =
-    record { prints = so_far_end c.args.out.now c.loop-t.out _ _ c.loop-t.invariant (heads_end (forest c.args.arena.now) c.args.items.now c.args.env c.loop-t.is_first c.loop-t.t-index (omega (arith, c.loop-t-test.false))) }
+    record { prints = so_far_end c.args.out.now c.loop-t.out _ _ c.loop-t.invariant (separated_end head (forest c.args.arena.now) c.args.items.now c.args.env c.loop-t.is_first c.loop-t.t-index (omega (arith, c.loop-t-test.false))) }
 
 pub print_sequence-loop-t-preserved : goal.print_sequence-loop-t-preserved
 print_sequence-loop-t-preserved t c =
@@ -68,9 +69,9 @@ pub left_reference-returns-in-None : goal.left_reference-returns-in-None
 left_reference-returns-in-None t c =
     let p = print (tree_at (forest c.args.arena.now) c.args.t) c.args.env in
     let none = refers-none c.referent_of-referent.result.base c.args.t p.base (λ j. print (tree_at (forest c.args.arena.now) j) c.args.env) c.in-None.is c.referent_of-referent.ensures.base in
-    let marked = c.mark.ensures.value ∙ ap mark c.referent_of-referent.ensures.kind in
+    let marked = ap mark c.referent_of-referent.ensures.kind in
     record {
-      prints = subst (λ (l : List ℕ). Prints c.write.result c.args.out.now c.write.new.out l) (marked ∙ sym (left-none p.base (mark (collapsed c.args.is_lvalue p.kind)) none)) c.write.ensures.prints;
+      prints = subst (λ (l : List ℕ). Prints c.write_mark.result c.args.out.now c.write_mark.new.out l) (marked ∙ sym (left-none p.base (mark (collapsed c.args.is_lvalue p.kind)) none)) c.write_mark.ensures.prints;
     }
 
 pub right_reference-returns-in-None : goal.right_reference-returns-in-None

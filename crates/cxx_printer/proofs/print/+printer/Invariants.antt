@@ -1,13 +1,17 @@
-use Rattle.std.proofs.Common.{ℕ, ◌≡◌, ◌≤◌, ◌+◌, ◌-◌, ◌*◌, ◌++◌, max, drop, length, true}
+use Rattle.std.proofs.Common.{◌≡◌, ◌+◌, ◌-◌, ◌*◌, ◌++◌, max, drop, true}
 use Rattle.cxx_tree.specs.Stored.{forest, tree_at, trees_at, parts_of}
-use Rattle.cxx_printer.specs.Printing.{item, items_of, print_parts, list_from, sequence, declarations, heads, repeated}
+use Rattle.cxx_printer.specs.Asked.{item}
+use Rattle.cxx_printer.specs.Printing.{items_of, print_parts, list_from, sequence, separated, declared, head, repeated}
 use Rattle.cxx_printer.proofs.print.+printer.Given as goal
 
 abbrev pub decreases-print : goal.decreases-print
 decreases-print l = 64 * l.i + 40
 
+abbrev pub decreases-print_node : goal.decreases-print_node
+decreases-print_node l = 64 * l.i + 39
+
 abbrev pub decreases-print_sides : goal.decreases-print_sides
-decreases-print_sides l = 64 * l.i + 39
+decreases-print_sides l = 64 * l.i + 38
 
 abbrev pub decreases-print_left : goal.decreases-print_left
 decreases-print_left l = 64 * l.i + 30
@@ -33,11 +37,14 @@ decreases-right_ret l = 64 * l.bound + 5
 abbrev pub decreases-right_encoding : goal.decreases-right_encoding
 decreases-right_encoding l = 64 * l.bound + 18
 
-abbrev pub decreases-behind_signature : goal.decreases-behind_signature
-decreases-behind_signature l = 64 * l.bound + 17
+abbrev pub decreases-after_signature : goal.decreases-after_signature
+decreases-after_signature l = 64 * l.bound + 17
 
-abbrev pub decreases-gnu_behind_signature : goal.decreases-gnu_behind_signature
-decreases-gnu_behind_signature l = 64 * l.bound + 17
+abbrev pub decreases-gnu_after_signature : goal.decreases-gnu_after_signature
+decreases-gnu_after_signature l = 64 * l.bound + 17
+
+abbrev pub decreases-print_qualifiers : goal.decreases-print_qualifiers
+decreases-print_qualifiers l = 64 * l.bound + 16
 
 abbrev pub decreases-print_signature : goal.decreases-print_signature
 decreases-print_signature l = 64 * l.bound + 25
@@ -114,11 +121,11 @@ decreases-print_joined l = 64 * l.t + 31
 abbrev pub decreases-right_function : goal.decreases-right_function
 decreases-right_function l = 64 * l.bound + 18
 
-abbrev pub decreases-behind_params : goal.decreases-behind_params
-decreases-behind_params l = 64 * l.bound + 17
+abbrev pub decreases-after_params : goal.decreases-after_params
+decreases-after_params l = 64 * l.bound + 17
 
-abbrev pub decreases-gnu_behind_params : goal.decreases-gnu_behind_params
-decreases-gnu_behind_params l = 64 * l.bound + 17
+abbrev pub decreases-gnu_after_params : goal.decreases-gnu_after_params
+decreases-gnu_after_params l = 64 * l.bound + 17
 
 abbrev pub decreases-right_pack : goal.decreases-right_pack
 decreases-right_pack l = 64 * l.bound + 5
@@ -286,10 +293,10 @@ invariant-print_sequence-loop-t l =
 
 abbrev pub invariant-print_declared_list-loop-t : goal.invariant-print_declared_list-loop-t
 invariant-print_declared_list-loop-t l =
-    l.fn.out ++ declarations true l.env (items_of (trees_at (forest l.arena) l.items))
-    ≡ l.out ++ declarations l.is_first l.env (items_of (trees_at (forest l.arena) (drop l.t-index l.items)))
+    l.fn.out ++ separated declared true l.env (items_of (trees_at (forest l.arena) l.items))
+    ≡ l.out ++ separated declared l.is_first l.env (items_of (trees_at (forest l.arena) (drop l.t-index l.items)))
 
 abbrev pub invariant-print_heads-loop-t : goal.invariant-print_heads-loop-t
 invariant-print_heads-loop-t l =
-    l.fn.out ++ heads true l.env (items_of (trees_at (forest l.arena) l.items))
-    ≡ l.out ++ heads l.is_first l.env (items_of (trees_at (forest l.arena) (drop l.t-index l.items)))
+    l.fn.out ++ separated head true l.env (items_of (trees_at (forest l.arena) l.items))
+    ≡ l.out ++ separated head l.is_first l.env (items_of (trees_at (forest l.arena) (drop l.t-index l.items)))

@@ -8,8 +8,8 @@ use Rattle.cxx_tree.proofs.measuring.of_node.Goals as goal
 pub returns-in-Function : goal.returns-in-Function
 unfolding measure tree_of
 returns-in-Function c =
-    let behind = c.join-behind.ensures.counts _ _ c.of_list.ensures.counts c.of_parts-in-Function.ensures.counts in
-    let all = c.join-in-Function.ensures.counts _ _ c.measure-in-Function.ensures.counts behind in
+    let after = c.join-after.ensures.counts _ _ c.of_list.ensures.counts c.of_parts-in-Function.ensures.counts in
+    let all = c.join-in-Function.ensures.counts _ _ c.measure-in-Function.ensures.counts after in
     record {
       counts = subst (λ (x : Node). Tallied c.around-in-Function.result (measure (tree_of c.args.arena.now.held (forest c.args.arena.now) x))) (sym c.in-Function.is)
           (c.around-in-Function.ensures.counts _ all);
@@ -18,8 +18,8 @@ returns-in-Function c =
 pub returns-in-Encoding : goal.returns-in-Encoding
 unfolding measure tree_of
 returns-in-Encoding c =
-    let behind = c.join-behind-in-Encoding.ensures.counts _ _ c.of_list-in-Encoding.ensures.counts c.of_parts-in-Encoding.ensures.counts in
-    let named = c.join-named.ensures.counts _ _ c.measure-in-Encoding.ensures.counts behind in
+    let after = c.join-after-in-Encoding.ensures.counts _ _ c.of_list-in-Encoding.ensures.counts c.of_parts-in-Encoding.ensures.counts in
+    let named = c.join-named.ensures.counts _ _ c.measure-in-Encoding.ensures.counts after in
     let all = c.join-in-Encoding.ensures.counts _ _ c.of_option.ensures.counts named in
     record {
       counts = subst (λ (x : Node). Tallied c.around-in-Encoding.result (measure (tree_of c.args.arena.now.held (forest c.args.arena.now) x))) (sym c.in-Encoding.is)

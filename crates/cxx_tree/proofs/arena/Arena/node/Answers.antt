@@ -1,8 +1,13 @@
-use Rattle.std.proofs.Common.{◌≡◌, ◌<◌, [], ◌∙◌, sym, subst, length, ap, arith}
+use Rattle.std.proofs.Common.{◌≡◌, ◌<◌, true, None, [], ◌∙◌, sym, subst, length, ap, arith}
 use Rattle.cxx_tree.specs.declared.node.Node.{Node}
 use Rattle.cxx_tree.specs.Stored.{Store, forest, trees_from, tree_of, tree_at, IsBelow}
 use Rattle.cxx_tree.specs.View.{store_of}
-use Rattle.cxx_tree.proofs.Forest.{forest-at, stored-at}
+use Rattle.cxx_tree.specs.declared.counts.Measure as stored
+use Rattle.cxx_tree.specs.Measure.{measure}
+use Rattle.cxx_tree.specs.Counts.{Row}
+use Rattle.cxx_tree.specs.Stored.{size}
+use Rattle.cxx_tree.proofs.Forest.{forest-at, stored-at, length-forest}
+use Rattle.cxx_tree.proofs.Measured.{counted-at, row-fit}
 use Rattle.cxx_tree.proofs.arena.Arena.node.Goals as goal
 
 pub returns-clause-tree : goal.returns-clause-tree
@@ -19,3 +24,10 @@ returns-clause-below c =
     subst (λ (s : Store). IsBelow s.held c.args.i c.index.result.now) c.self.view_is
     (subst (λ (n : Node). IsBelow (store_of c.self.inside).held c.args.i n) (sym c.index.ensures)
     (stored-at (store_of c.self.inside).held c.self.inside.nodes.items c.args.i c.index.result.now c.self.invariant.0 small))
+
+pub returns-clause-fits : goal.returns-clause-fits
+returns-clause-fits c =
+    let s = store_of c.self.inside in
+    let small : c.args.i < length (forest s) = omega (arith, c.requires.within, ap size c.self.view_is, length-forest s) in
+    subst (λ (r : Store). (measure (tree_at (forest r) c.args.i)).fits ≡ true) c.self.view_is
+    (row-fit _ _ (counted-at c.self.inside.counts.items (forest s) c.self.invariant.1 c.args.i (record { height = 0; elements = None; each = 0; packs = 0; params = 0 }) small).0)

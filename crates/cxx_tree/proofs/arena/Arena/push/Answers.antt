@@ -4,8 +4,8 @@ use Rattle.cxx_tree.specs.declared.counts.Measure as stored
 use Rattle.cxx_tree.specs.Tree.{Tree}
 use Rattle.cxx_tree.specs.Measure.{measure}
 use Rattle.cxx_tree.specs.Counts.{Tallied, AreCounted}
-use Rattle.cxx_tree.specs.Stored.{Store, Held, forest, size, tree_of, IsBelow, AreStored}
-use Rattle.cxx_tree.specs.View.{store_of}
+use Rattle.cxx_tree.specs.Stored.{Store, Held, forest, size, tree_of, IsBelow}
+use Rattle.cxx_tree.specs.View.{store_of, AreStored}
 use Rattle.cxx_tree.proofs.Forest.{pushed-forest, stored-push}
 use Rattle.cxx_tree.proofs.Measured.{counted-push, row-fits, exact-fits}
 use Rattle.cxx_tree.proofs.Grown.{Makes-refused, Makes-limit, Makes-node, Grows-same, Grows-push, new-tree}
@@ -76,3 +76,4 @@ returns-clause-makes c =
     let made = returns-clause-forest c in
     Makes-node a b t c.len-index.result (omega (arith, long, index)) (new-tree a b t c.len-index.result index made)
     (Grows-push a b t long made (ap (λ (r : Store). r.held) c.self.view_is))
+    (sym (c.fits.ensures.value (measure t) c.of_node-measure.ensures.counts) ∙ c.if-not-fits.false)

@@ -1,7 +1,6 @@
-use Rattle.std.proofs.Common.{ℕ, ◌≡◌, ◌++◌, codes}
+use Rattle.std.proofs.Common.{codes}
 use Rattle.cxx_printer.proofs.Appended.{prints_then}
-use Rattle.cxx_printer.specs.Prints.{Prints}
-use Rattle.cxx_printer.proofs.print.write_id.Goals as goal
+use Rattle.cxx_printer.proofs.writing.write_id.Goals as goal
 
 pub returns : goal.returns
 returns c =
