@@ -4,7 +4,7 @@ use Rattle.std.proofs.Common.{ne_eqb, eq-eqb}
 use Rattle.std.proofs.lemmas.List.{length-drop}
 use Rattle.std.proofs.Math.Seq.{drop-cons}
 use Rattle.std.specs.List.{starts_with}
-use Rattle.itanium_syntax.specs.Bytes.{begins}
+use Rattle.abi_scalars.specs.Bytes.{begins}
 use Rattle.cosvigle.specs.declared.options.Flags.{Flags}
 use Rattle.cosvigle.specs.declared.options.EarlyExit.TheVariants as instead
 use Rattle.cosvigle.specs.declared.options.OptionState.{OptionState}

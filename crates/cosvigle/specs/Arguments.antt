@@ -1,6 +1,6 @@
 -- What is printed for an argument that is a symbol.
 use Rattle.std.specs.Prelude.{ℕ, List, ◌++◌, Bool, ◌&&◌, IsUtf8, Some, None, codes, take, drop, if◌then◌else◌}
-use Rattle.itanium_syntax.specs.Bytes.{begins}
+use Rattle.abi_scalars.specs.Bytes.{begins}
 use Rattle.symfilter_engine.specs.declared.symbols.ReplaceOptions.{ReplaceOptions}
 use Rattle.symfilter_engine.specs.Printed.{IsPrintedAs}
 

@@ -1,6 +1,6 @@
 -- The words of a file that stands as `@FILE` among the arguments.
 use Rattle.std.specs.Prelude.{ℕ, List, [], ◌∷◌, ◌++◌, Bool, Option, Some, None, if◌then◌else◌}
-use Rattle.itanium_syntax.specs.Bytes.{is, one_of}
+use Rattle.abi_scalars.specs.Bytes.{is, one_of}
 use Rattle.cosvigle.specs.declared.files.Quote.{Quote}
 use Rattle.cosvigle.specs.declared.files.Quote.TheVariants as quote
 use Rattle.cosvigle.specs.declared.files.Mode.{Mode}

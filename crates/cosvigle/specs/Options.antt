@@ -1,7 +1,7 @@
 -- What arguments ask. Options stand as those of `c++filt` do: letters in a group, and names that may be shortened.
 use Rattle.std.specs.Prelude.{◌≡◌, ℕ, ◌+◌, List, [], ◌∷◌, ◌++◌, Bool, true, false, ◌&&◌, ◌||◌, ◌==◌, codes, map, length, take, drop, if◌then◌else◌}
 use Rattle.std.specs.Borrow.{Bor}
-use Rattle.itanium_syntax.specs.Bytes.{is, one_of, begins}
+use Rattle.abi_scalars.specs.Bytes.{is, one_of, begins}
 use Rattle.cosvigle.specs.declared.options.Flags.{Flags}
 use Rattle.cosvigle.specs.declared.options.EarlyExit.{EarlyExit}
 use Rattle.cosvigle.specs.declared.options.EarlyExit.TheVariants as instead

@@ -5,7 +5,7 @@ use Rattle.std.proofs.lemmas.Str.{IsUtf8-from_is_utf8, is_utf8-from_IsUtf8}
 use Rattle.std.proofs.lemmas.Bool.{false≢true}
 use Rattle.demangle_text.specs.Shape.{Shape, text}
 use Rattle.itanium_grammar.specs.Answer.{start, max_depth, IsAnswer, IsAnswerOf, IsSignature, IsSignatureOrName}
-use Rattle.itanium_syntax.specs.Symbol.{after_prefix, suffix}
+use Rattle.abi_scalars.specs.Symbol.{after_prefix, suffix}
 use Rattle.itanium_reader.specs.Parser.{ParserState, begun}
 use Rattle.itanium_demangle.specs.Meaning.{parse_mangled}
 use Rattle.itanium_demangle.proofs.Readers.{mangled}

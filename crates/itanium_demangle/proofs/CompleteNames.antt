@@ -12,7 +12,8 @@ use Rattle.itanium_syntax.specs.declared.offsets.ThunkOffsets.{ThunkOffsets}
 use Rattle.itanium_syntax.specs.Offsets.{thunk_offsets}
 use Rattle.itanium_syntax.specs.Specials.{special_case, special_text, special_close}
 use Rattle.itanium_syntax.specs.Names.{segment_case}
-use Rattle.itanium_syntax.specs.Names.{source_text, name_case, name_quals, tag_case}
+use Rattle.itanium_syntax.specs.Names.{name_case, name_quals, tag_case}
+use Rattle.abi_scalars.specs.Scalars.{source_text}
 use Rattle.itanium_reader.specs.Parser.{shows_words}
 use Rattle.itanium_syntax.specs.Context.{inside_lambda, showing_words, inside_encoding, inside_params}
 use Rattle.itanium_syntax.specs.Encodings.{ends_here, encoding_case}

@@ -6,7 +6,7 @@ use Rattle.demangle_quals.specs.declared.quals.Quals.{Quals}
 use Rattle.demangle_edit.specs.Built.{listed_each, function_opened}
 use Rattle.demangle_edit.proofs.Cuts.{function_built}
 use Rattle.itanium_syntax.specs.declared.context.Context.{Context}
-use Rattle.itanium_syntax.specs.Names.{source_text}
+use Rattle.abi_scalars.specs.Scalars.{source_text}
 use Rattle.itanium_syntax.specs.Types.{builtin_text, elaborated_text, with_reference}
 use Rattle.itanium_grammar.specs.Tree.{Tree, plain_text, with_args, pointer_to, array_of, member_of, elaborated, expanded, trees, shape_of}
 use Rattle.itanium_grammar.specs.Grammar.{Position, Cost, TypeAs, CvAs, Function, TypeAttachedAs, type, builtin_type}

@@ -6,9 +6,10 @@ use Rattle.std.proofs.lemmas.Str.{IsUtf8-from_is_utf8, is_utf8-from_IsUtf8}
 use Rattle.std.specs.Prelude.{option_map}
 use Rattle.std.proofs.lemmas.Option.{some_pair_parts}
 use Rattle.demangle_text.specs.Shape.{Shape, text}
-use Rattle.itanium_syntax.specs.Scalars.{front_digits, weighted, number, index_of, ordinal, optional_number, source_name}
+use Rattle.abi_scalars.specs.Scalars.{front_digits, weighted, number, index_of, source_name}
+use Rattle.itanium_syntax.specs.Numbers.{ordinal, optional_number}
 use Rattle.itanium_grammar.specs.Answer.{start, max_depth, max_text, IsAnswer, IsAnswerOf}
-use Rattle.itanium_syntax.specs.Symbol.{after_prefix, suffix}
+use Rattle.abi_scalars.specs.Symbol.{after_prefix, suffix}
 use Rattle.itanium_syntax.specs.Expressions.{literal_value}
 use Rattle.itanium_syntax.specs.Offsets.{thunk_offsets, past_base_offset}
 use Rattle.itanium_reader.specs.Parser.{ParserState, begun, loop, segment_turn, tag_turn, list_turn, typed_turn}

@@ -6,7 +6,7 @@ use Rattle.itanium_syntax.specs.declared.offsets.ThunkOffsets.{ThunkOffsets}
 use Rattle.itanium_syntax.specs.declared.offsets.ThunkOffsets.TheVariants.{Single, Covariant}
 use Rattle.itanium_syntax.specs.declared.context.Context.{Context}
 use Rattle.std.specs.Prelude.{codes}
-use Rattle.itanium_syntax.specs.Names.{source_text}
+use Rattle.abi_scalars.specs.Scalars.{source_text}
 use Rattle.itanium_grammar.specs.Tree.{Tree, shape_of, shape_each, bare_shape, name_in, ctor_dtor_of}
 use Rattle.itanium_grammar.specs.Tree.{tagged_with, with_args, local_in, string_literal_of, default_argument_of, trees}
 use Rattle.itanium_grammar.specs.Tree.{in_parent, thunk_of, offset_text}

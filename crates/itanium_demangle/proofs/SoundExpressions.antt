@@ -6,7 +6,7 @@ use Rattle.demangle_edit.specs.Expressions.{has_literal}
 use Rattle.demangle_edit.specs.Calls.{literal_step}
 use Rattle.itanium_syntax.specs.declared.context.Context.{Context}
 use Rattle.itanium_syntax.specs.Context.{inside_encoding}
-use Rattle.itanium_syntax.specs.Bytes.{begins}
+use Rattle.abi_scalars.specs.Bytes.{begins}
 use Rattle.itanium_syntax.specs.Args.{argument_case}
 use Rattle.itanium_syntax.specs.Expressions.{primary_case, literal_value, expression_case}
 use Rattle.itanium_grammar.specs.Tree.{shape_of, shape_of_operand}

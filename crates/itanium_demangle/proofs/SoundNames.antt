@@ -4,12 +4,13 @@ use Rattle.std.proofs.lemmas.Option.{same_Some, option_and_then_some, slice_get-
 use Rattle.std.specs.Prelude.{option_map, slice_get, is_some}
 use Rattle.demangle_text.specs.Shape.{Shape, plain_shape, text_len}
 use Rattle.itanium_syntax.specs.declared.context.Context.{Context}
-use Rattle.itanium_syntax.specs.declared.numerals.Radix.TheVariants.{Decimal, Base36}
-use Rattle.itanium_syntax.specs.Scalars.{source_name, index_of, ordinal}
+use Rattle.abi_scalars.specs.declared.numerals.Radix.TheVariants.{Decimal, Base36}
+use Rattle.abi_scalars.specs.Scalars.{source_name, index_of, source_text}
+use Rattle.itanium_syntax.specs.Numbers.{ordinal}
 use Rattle.itanium_syntax.specs.Abbreviations.{abbreviation_of}
 use Rattle.itanium_syntax.specs.Offsets.{thunk_offsets, past_base_offset}
 use Rattle.itanium_syntax.specs.Specials.{special_case}
-use Rattle.itanium_syntax.specs.Names.{source_text, name_case, unscoped_case, first_segment_case, segment_case}
+use Rattle.itanium_syntax.specs.Names.{name_case, unscoped_case, first_segment_case, segment_case}
 use Rattle.itanium_syntax.specs.Names.{unqualified_case, ordinary_case, tag_case, substitution_case, past_internal}
 use Rattle.itanium_syntax.specs.Names.{past_name_quals, first_segment_is_candidate}
 use Rattle.itanium_syntax.specs.Args.{attached_case}

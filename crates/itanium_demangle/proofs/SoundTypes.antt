@@ -8,8 +8,8 @@ use Rattle.demangle_edit.specs.Types.{may_be_element, may_be_member}
 use Rattle.demangle_edit.specs.Calls.{array_step, member_pointer_step, opening_step}
 use Rattle.itanium_syntax.specs.declared.context.Context.{Context}
 use Rattle.itanium_syntax.specs.Context.{inside_type}
-use Rattle.itanium_syntax.specs.Scalars.{source_name, optional_number}
-use Rattle.itanium_syntax.specs.Names.{source_text}
+use Rattle.abi_scalars.specs.Scalars.{source_name, source_text}
+use Rattle.itanium_syntax.specs.Numbers.{optional_number}
 use Rattle.itanium_syntax.specs.Args.{attached_case}
 use Rattle.itanium_syntax.specs.Types.{type_case, cv_case, function_case, params_case, cv_quals, past_cv}
 use Rattle.itanium_grammar.specs.Tree.{Tree, plain_text, shape_of}

@@ -12,12 +12,12 @@ use Rattle.std.specs.Global.{Global}
 use Rattle.demangle_text.specs.Shape.{Shape, text}
 use Rattle.demangle_text.specs.declared.buffer.Buffer.{Buffer}
 use Rattle.demangle_text.specs.State.{shape, saved, scopes, main_bytes}
-use Rattle.itanium_syntax.specs.Bytes.{begins}
+use Rattle.abi_scalars.specs.Bytes.{begins}
 use Rattle.itanium_syntax.proofs.Fronts.{IsAfter, after_then}
 use Rattle.itanium_grammar.specs.Tree.{shape_of, printing}
 use Rattle.itanium_grammar.specs.Grammar.{Position, Cost}
 use Rattle.itanium_grammar.specs.Answer.{start, Mangled, max_depth, HasAnswer, HasNoAnswer, IsAnswerOf, HasCountsOf, HasComponentsOf, HasSavedOf}
-use Rattle.itanium_syntax.specs.Symbol.{after_prefix, suffix}
+use Rattle.abi_scalars.specs.Symbol.{after_prefix, suffix}
 use Rattle.itanium_grammar.proofs.Agreement.{inside_takes}
 use Rattle.itanium_reader.specs.declared.reader.Reader.{Reader}
 use Rattle.itanium_reader.specs.declared.stop.Stop.{Stop}

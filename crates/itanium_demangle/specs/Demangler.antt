@@ -7,7 +7,7 @@ use Rattle.demangle_text.specs.declared.buffer.Buffer.{Buffer}
 use Rattle.demangle_text.specs.Shape.{Shape, text}
 use Rattle.demangle_text.specs.State.{saved, scopes, frame, outermost, main_bytes}
 use Rattle.itanium_grammar.specs.Answer.{HasCounts, HasComponents, HasSaved, HasBounds, HasLength}
-use Rattle.itanium_syntax.specs.Symbol.{after_prefix}
+use Rattle.abi_scalars.specs.Symbol.{after_prefix}
 use Rattle.itanium_grammar.specs.Answer.{IsSignatureOrName, HasCountsOf, HasComponentsOf, HasSavedOf, HasLengthOf}
 use Rattle.itanium_demangle.specs.declared.demangler.Demangler.TheInside.{Inside}
 use Rattle.itanium_demangle.specs.LastResult.{LastResult, no_result}

@@ -8,7 +8,7 @@ ghost use Rattle.demangle_text.specs.Shape.{text};
 ghost use Rattle.itanium_grammar.specs.Answer.{IsAnswer, HasAtMostOneReading, HasCounts, HasComponents, HasSaved, HasBounds, HasLength};
 ghost use Rattle.itanium_grammar.specs.Answer.{IsAnswerOf, IsSignatureOrName, HasAtMostOneReadingOf, HasCountsOf, HasComponentsOf};
 ghost use Rattle.itanium_grammar.specs.Answer.{HasSavedOf, HasLengthOf};
-ghost use Rattle.itanium_syntax.specs.Symbol as spec;
+ghost use Rattle.abi_scalars.specs.Symbol as spec;
 ghost use Rattle.itanium_reader.specs.Outcome.{state};
 ghost use Rattle.itanium_demangle.specs.Demangler.{IsPrinted, IsPrepared, IsPreparedSignature, IsText, IsEnded, answer_text, component_texts, component_shapes};
 ghost use Rattle.itanium_demangle.specs.LastResult.{no_result};

@@ -4,12 +4,12 @@ use Rattle.std.specs.Prelude.{◌==◌, ◌&&◌}
 use Rattle.std.proofs.lemmas.Grind.{common_steps}
 use Rattle.std.specs.Str.{IsUtf8}
 use Rattle.itanium_syntax.specs.declared.context.Context.{Context}
-use Rattle.itanium_syntax.specs.Bytes.{begins}
+use Rattle.abi_scalars.specs.Bytes.{begins}
 use Rattle.itanium_syntax.proofs.Fronts.{Takes}
 use Rattle.itanium_grammar.specs.Tree.{Tree, printing}
 use Rattle.itanium_grammar.specs.Grammar.{Position, Cost, Signature, signature}
 use Rattle.itanium_grammar.specs.Answer.{start, Mangled, IsWithin, IsReading, HasAnswer, IsAnswerOf, HasAtMostOneReadingOf}
-use Rattle.itanium_syntax.specs.Symbol.{after_prefix, suffix}
+use Rattle.abi_scalars.specs.Symbol.{after_prefix, suffix}
 use Rattle.itanium_grammar.specs.Laws.{LawsOfReadings, LawsOfAnswers}
 use Rattle.itanium_grammar.proofs.Unambiguous.{Same, same_counted, one_encoding_as}
 use Rattle.itanium_grammar.proofs.Progress.{encoding_as_takes}

@@ -8,9 +8,10 @@ use Rattle.itanium_grammar.specs.Cases.{EncodingEnd, AtE, EncodingCase, SpecialC
 use Rattle.itanium_grammar.specs.Cases.{EncodingParamsCase, EntityCase, UnscopedCase, AttachedCase, FirstSegmentCase, SegmentCase}
 use Rattle.itanium_grammar.specs.Cases.{UnqualifiedCase, OrdinaryCase, TagCase, SubstitutionCase, ArgumentListCase, ArgumentCase}
 use Rattle.itanium_grammar.specs.Cases.{TypeCase, CvCase, ParamsCase, TypeListCase}
-use Rattle.itanium_syntax.specs.Names.{segment_case, source_text, tag_case, past_name_quals, name_quals, first_segment_is_candidate, first_segment_case}
-use Rattle.itanium_syntax.specs.Scalars.{ordinal, index_of}
-use Rattle.itanium_syntax.specs.declared.numerals.Radix.TheVariants.{Base36}
+use Rattle.itanium_syntax.specs.Names.{segment_case, tag_case, past_name_quals, name_quals, first_segment_is_candidate, first_segment_case}
+use Rattle.abi_scalars.specs.Scalars.{source_text, index_of}
+use Rattle.itanium_syntax.specs.Numbers.{ordinal}
+use Rattle.abi_scalars.specs.declared.numerals.Radix.TheVariants.{Base36}
 use Rattle.itanium_syntax.specs.Context.{showing_words}
 use Rattle.itanium_syntax.specs.Expressions.{is_external, literal_value, expression_text}
 use Rattle.itanium_syntax.specs.Offsets.{past_base_offset}

@@ -6,12 +6,12 @@ use Rattle.std.proofs.lemmas.Fmt.{length-decimal-le}
 use Rattle.std.proofs.lemmas.List.{length-append}
 use Rattle.std.proofs.lemmas.Option.{some_pair_parts, cond_some}
 use Rattle.itanium_syntax.specs.declared.context.Context.{Context}
-use Rattle.itanium_syntax.specs.declared.numerals.Radix.{Radix}
-use Rattle.itanium_syntax.specs.Bytes.{begins}
-use Rattle.itanium_syntax.specs.Scalars.{numeral, plus_one, before_underscore, index_of}
+use Rattle.abi_scalars.specs.declared.numerals.Radix.{Radix}
+use Rattle.abi_scalars.specs.Bytes.{begins}
+use Rattle.abi_scalars.specs.Scalars.{numeral, plus_one, before_underscore, index_of}
 use Rattle.itanium_syntax.specs.Specials.{begins_t_and, special_text, special_close}
 use Rattle.itanium_grammar.specs.Answer.{max_text, longest_printing, start, Mangled, HasAnswer, IsAnswerOf, HasLengthOf}
-use Rattle.itanium_syntax.specs.Symbol.{suffix}
+use Rattle.abi_scalars.specs.Symbol.{suffix}
 use Rattle.itanium_syntax.specs.Encodings.{encoding_case}
 use Rattle.itanium_syntax.proofs.Fronts.{alone_after_name}
 use Rattle.itanium_grammar.specs.Tree.{Tree, shape_of, printing, worded, temporary_of, construction_of}

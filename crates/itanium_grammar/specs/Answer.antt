@@ -4,7 +4,7 @@ use Rattle.std.specs.Str.{IsUtf8}
 use Rattle.demangle_text.specs.Shape.{Shape}
 use Rattle.itanium_syntax.specs.declared.context.Context.{Context}
 use Rattle.itanium_grammar.specs.Tree.{Tree, shape_of, printing}
-use Rattle.itanium_syntax.specs.Symbol.{after_prefix, suffix}
+use Rattle.abi_scalars.specs.Symbol.{after_prefix, suffix}
 use Rattle.itanium_syntax.specs.Context.{showing_words}
 use Rattle.itanium_grammar.specs.Grammar.{Position, Cost, SymbolName, Signature}
 

@@ -17,7 +17,7 @@ use Rattle.demangle_edit.specs.Types.{may_be_element, may_be_member}
 use Rattle.demangle_edit.specs.Expressions.{has_literal}
 use Rattle.itanium_syntax.specs.declared.abbreviations.Abbreviation.{Abbreviation}
 use Rattle.itanium_syntax.specs.declared.context.Context.{Context}
-use Rattle.itanium_syntax.specs.declared.numerals.Radix.TheVariants.{Decimal, Base36}
+use Rattle.abi_scalars.specs.declared.numerals.Radix.TheVariants.{Decimal, Base36}
 use Rattle.itanium_grammar.specs.Cases.{EncodingEnd, AfterName, AtE, AtSymbolEnd, EncodingCase, SpecialEncoding, NameEncoding}
 use Rattle.itanium_grammar.specs.Cases.{FullEncoding, SpecialCase, TypeSpecial, NameSpecial, TemporarySpecial, ConstructionSpecial, ThunkSpecial, NameCase, NestedName}
 use Rattle.itanium_grammar.specs.Cases.{LocalName, UnscopedName, ReturnCase, NoReturnType, SomeReturnType}
@@ -37,15 +37,16 @@ use Rattle.itanium_grammar.specs.Cases.{PrimaryExpression, TypeCase, BuiltinType
 use Rattle.itanium_grammar.specs.Cases.{FunctionType, PointerToMemberType, PointerType, CvType, ElaboratedType, TemplateParamType}
 use Rattle.itanium_grammar.specs.Cases.{SubstitutionType, NameType, CvCase, CvFunction, CvOther, PlainFunction}
 use Rattle.itanium_grammar.specs.Cases.{ParamsCase, NoParams, SomeParams, TypeListCase, EndOfTypes, NextType}
-use Rattle.itanium_syntax.specs.Scalars.{source_name, index_of, ordinal, optional_number}
+use Rattle.abi_scalars.specs.Scalars.{source_name, index_of, source_text}
+use Rattle.itanium_syntax.specs.Numbers.{ordinal, optional_number}
 use Rattle.itanium_syntax.specs.Operators.{operator_here}
 use Rattle.itanium_syntax.specs.Abbreviations.{abbreviation_of}
 use Rattle.itanium_syntax.specs.Context.{opens_scope, inside_type, hiding_dots, inside_lambda, showing_words}
 use Rattle.itanium_syntax.specs.Context.{inside_encoding, inside_params}
 use Rattle.itanium_syntax.specs.Names.{name_case, unscoped_case, first_segment_case, segment_case}
 use Rattle.itanium_syntax.specs.Names.{unqualified_case, ordinary_case, tag_case, past_internal, past_initializer_letter}
-use Rattle.itanium_syntax.specs.Names.{source_text, name_quals, past_name_quals, first_segment_is_candidate, substitution_case}
-use Rattle.itanium_syntax.specs.Bytes.{begins}
+use Rattle.itanium_syntax.specs.Names.{name_quals, past_name_quals, first_segment_is_candidate, substitution_case}
+use Rattle.abi_scalars.specs.Bytes.{begins}
 use Rattle.itanium_syntax.specs.Expressions.{is_external, primary_case, literal_value, expression_text, expression_case}
 use Rattle.itanium_syntax.specs.declared.offsets.ThunkOffsets.{ThunkOffsets}
 use Rattle.itanium_syntax.specs.Offsets.{thunk_offsets, past_base_offset}

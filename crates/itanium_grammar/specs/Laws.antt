@@ -1,7 +1,7 @@
 -- Laws of readings and of answers.
 use Rattle.std.specs.Prelude.{◌≡◌, ◌<◌, ℕ, List, ◌++◌, length, Option, Some, codes, Bool, true}
 use Rattle.std.specs.Str.{IsUtf8}
-use Rattle.itanium_syntax.specs.Bytes.{begins}
+use Rattle.abi_scalars.specs.Bytes.{begins}
 use Rattle.itanium_grammar.specs.Tree.{Tree, printing}
 use Rattle.itanium_grammar.specs.Grammar.{Position, Cost, SymbolName, Signature}
 use Rattle.itanium_syntax.specs.declared.context.Context.{Context}

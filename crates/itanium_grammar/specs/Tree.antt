@@ -17,7 +17,7 @@ use Rattle.itanium_syntax.specs.declared.offsets.CallOffset.TheVariants.{Plain, 
 use Rattle.itanium_syntax.specs.declared.offsets.ThunkOffsets.{ThunkOffsets}
 use Rattle.itanium_syntax.specs.declared.offsets.ThunkOffsets.TheVariants.{Single, Covariant}
 use Rattle.itanium_syntax.specs.declared.abbreviations.Abbreviation.{Abbreviation}
-use Rattle.itanium_syntax.specs.Names.{source_text}
+use Rattle.abi_scalars.specs.Scalars.{source_text}
 use Rattle.itanium_syntax.specs.Abbreviations.{abbreviation_text, abbreviation_own}
 
 mutual

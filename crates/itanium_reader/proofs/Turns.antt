@@ -8,11 +8,11 @@ use Rattle.demangle_edit.specs.Built.{separator, listed_more, arguments_opened}
 use Rattle.demangle_edit.specs.Built.{arguments_closed}
 use Rattle.demangle_edit.proofs.Built.{begun_list, closed_attached}
 use Rattle.itanium_syntax.specs.declared.context.Context.{Context}
-use Rattle.itanium_syntax.specs.Scalars.{source_name}
+use Rattle.abi_scalars.specs.Scalars.{source_name, source_text}
 use Rattle.itanium_syntax.specs.Context.{opens_scope, hiding_dots}
-use Rattle.itanium_syntax.specs.Names.{segment_case, tag_case, source_text}
+use Rattle.itanium_syntax.specs.Names.{segment_case, tag_case}
 use Rattle.itanium_syntax.specs.Names.{past_initializer_letter}
-use Rattle.itanium_syntax.specs.Calls.{begins_source}
+use Rattle.abi_scalars.specs.Texts.{begins_source}
 use Rattle.itanium_syntax.specs.Args.{argument_list_case}
 use Rattle.itanium_syntax.specs.Types.{type_list_case}
 use Rattle.itanium_reader.specs.Outcome.{LoopSoFar}

@@ -8,16 +8,16 @@ use Rattle.std.proofs.lemmas.Bool.Decides.{nat_tests}
 use Rattle.demangle_text.specs.Shape.{Shape, plain_shape, text}
 use Rattle.demangle_edit.specs.Names.{qualified, tagged}
 use Rattle.itanium_syntax.specs.declared.context.Context.{Context}
-use Rattle.itanium_syntax.specs.declared.numerals.Radix.TheVariants.{Decimal}
+use Rattle.abi_scalars.specs.declared.numerals.Radix.TheVariants.{Decimal}
 use Rattle.itanium_syntax.specs.declared.offsets.ThunkOffsets.{ThunkOffsets}
 use Rattle.itanium_syntax.specs.declared.offsets.ThunkOffsets.TheVariants.{Single, Covariant}
 use Rattle.itanium_syntax.specs.Offsets.{thunk_offsets}
-use Rattle.itanium_syntax.specs.Scalars.{index_of, source_name}
+use Rattle.abi_scalars.specs.Scalars.{index_of, source_name, source_text}
 use Rattle.itanium_syntax.specs.Context.{opens_scope, inside_type, hiding_dots, inside_lambda, showing_words, inside_encoding, inside_params}
-use Rattle.itanium_syntax.specs.Names.{name_case, unqualified_case, tag_case, source_text}
+use Rattle.itanium_syntax.specs.Names.{name_case, unqualified_case, tag_case}
 use Rattle.demangle_quals.specs.Quals.{no_quals}
 use Rattle.itanium_syntax.specs.Names.{ordinary_case, first_segment_case, substitution_case}
-use Rattle.itanium_syntax.specs.Calls.{begins_source}
+use Rattle.abi_scalars.specs.Texts.{begins_source}
 use Rattle.itanium_syntax.specs.Names.{past_internal, past_name_quals, name_quals, first_segment_is_candidate}
 use Rattle.itanium_syntax.specs.Expressions.{expression_case}
 use Rattle.itanium_syntax.specs.Encodings.{for_thunk, entity_case, begins_special, encoding_case}

@@ -1,3 +1,2 @@
-pub mod Digits
 pub mod Fronts
 pub mod Values

@@ -1,6 +1,6 @@
 -- The abbreviations of std (Itanium C++ ABI 5.1.10, "Compression").
 use Rattle.std.specs.Prelude.{ℕ, List, codes, Option, Some, None, if◌then◌else◌}
-use Rattle.itanium_syntax.specs.Bytes.{begins}
+use Rattle.abi_scalars.specs.Bytes.{begins}
 use Rattle.itanium_syntax.specs.declared.abbreviations.Abbreviation.{Abbreviation}
 use Rattle.itanium_syntax.specs.declared.abbreviations.Abbreviation.TheVariants.{Allocator, BasicString, StdString, Istream, Ostream, Iostream}
 

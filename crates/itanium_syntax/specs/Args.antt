@@ -1,6 +1,6 @@
 -- The cases of template arguments (Itanium C++ ABI 5.1.5). Of several cases the first one that fits holds.
 use Rattle.std.specs.Prelude.{ℕ, List, codes, if◌then◌else◌}
-use Rattle.itanium_syntax.specs.Bytes.{begins}
+use Rattle.abi_scalars.specs.Bytes.{begins}
 use Rattle.itanium_syntax.specs.Cases.{AttachedCase, NoneAttached, ArgsAttached, ArgumentListCase, EndOfArguments, NextArgument}
 use Rattle.itanium_syntax.specs.Cases.{ArgumentCase, ExpressionArgument, PackArgument, PrimaryArgument}
 use Rattle.itanium_syntax.specs.Cases.{ConstraintArgument, TypeArgument}

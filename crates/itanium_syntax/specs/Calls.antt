@@ -1,19 +1,8 @@
--- For the contracts of this crate alone: what its functions return that the grammar doesn't use, such as `<seq-id>`.
+-- For the contracts of this crate alone: what its functions return that the grammar doesn't use.
 use Prim.Native.String.{String}
-use Rattle.std.specs.Prelude.{ℕ, List, [], ◌∷◌, Bool, Option, option_map}
-use Rattle.itanium_syntax.specs.declared.numerals.Radix.TheVariants.{Base36}
-use Rattle.itanium_syntax.specs.Bytes.{begins_between}
+use Rattle.std.specs.Prelude.{ℕ, List, [], ◌∷◌, Option, option_map}
 use Rattle.itanium_syntax.specs.Cases.{TypeCase, CvType}
 use Rattle.itanium_syntax.specs.Operators.{operator_in}
-use Rattle.itanium_syntax.specs.Scalars.{numeral}
-
--- <seq-id>: digits in base 36
-unfoldable pub sequence_id : List ℕ → Option (ℕ × List ℕ)
-sequence_id bytes = numeral Base36 bytes
-
--- a <source-name> is next that is an unqualified name
-abbrev pub begins_source : List ℕ → Bool
-begins_source bytes = begins_between "1" "9" bytes
 
 -- P, if the case is qualifiers
 abbrev pub OnCv : TypeCase → Type 0 → Type 0

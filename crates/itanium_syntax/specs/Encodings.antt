@@ -2,7 +2,7 @@
 use Rattle.std.specs.Prelude.{ℕ, List, Bool, true, not, ◌&&◌, ◌||◌, drop, codes, if◌then◌else◌}
 use Rattle.itanium_syntax.specs.declared.encodings.EncodingEnd.{EncodingEnd}
 use Rattle.itanium_syntax.specs.declared.encodings.EncodingEnd.TheVariants.{AfterName, AtE, AtSymbolEnd}
-use Rattle.itanium_syntax.specs.Bytes.{begins, begins_digit, begins_between}
+use Rattle.abi_scalars.specs.Bytes.{begins, begins_digit, begins_between}
 use Rattle.itanium_syntax.specs.Cases.{EncodingCase, SpecialEncoding, NameEncoding, FullEncoding}
 use Rattle.itanium_syntax.specs.Cases.{ReturnCase, NoReturnType, SomeReturnType, EncodingParamsCase}
 use Rattle.itanium_syntax.specs.Cases.{NoEncodingParams, SomeEncodingParams, EntityCase, StringLiteralEntity}

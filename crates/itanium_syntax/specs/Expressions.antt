@@ -3,7 +3,7 @@ use Prim.Native.String.{String}
 use Rattle.std.specs.Prelude.{ℕ, ◌+◌, List, [], ◌∷◌, length, take, drop, Bool, false, not, ◌&&◌, ◌||◌, ◌==◌, nat_lt, codes, if◌then◌else◌, Option, Some, None, unwrap_or}
 use Rattle.std.specs.List.{prefix_len}
 use Rattle.std.specs.Str.{is_utf8}
-use Rattle.itanium_syntax.specs.Bytes.{is, begins, begins_one_of}
+use Rattle.abi_scalars.specs.Bytes.{is, begins, begins_one_of}
 use Rattle.itanium_syntax.specs.Cases.{PrimaryCase, ExternalName, ValueLiteral, UnreadablePrimary, ExpressionCase}
 use Rattle.itanium_syntax.specs.Cases.{PreExpression, AddressExpression, UnaryExpression, PostExpression}
 use Rattle.itanium_syntax.specs.Cases.{BinaryExpression, GreaterExpression, ConditionalExpression, TemplateParamExpression}

@@ -1,5 +1,8 @@
-pub mod Bytes
-pub mod Symbol
+pub use Rattle.abi_scalars.specs.Bytes
+pub use Rattle.abi_scalars.specs.Symbol
+pub use Rattle.abi_scalars.specs.Scalars
+pub use Rattle.abi_scalars.specs.Indices
+pub use Rattle.abi_scalars.specs.Texts
 pub mod Cases
 pub mod Types
 pub mod Names
@@ -7,7 +10,7 @@ pub mod Encodings
 pub mod Args
 pub mod Operators
 pub mod Expressions
-pub mod Scalars
+pub mod Numbers
 pub mod Offsets
 pub mod Specials
 pub mod Abbreviations

@@ -2,7 +2,7 @@
 use Rattle.std.specs.Prelude.{ℕ, List, Bool, true, false, ◌&&◌, ◌||◌, drop, codes, if◌then◌else◌, is_some}
 use Rattle.demangle_quals.specs.declared.quals.Quals.{Quals}
 use Rattle.demangle_quals.specs.Quals.{no_quals}
-use Rattle.itanium_syntax.specs.Bytes.{letter, begins, begins_between, begins_digit, past_letter}
+use Rattle.abi_scalars.specs.Bytes.{letter, begins, begins_between, begins_digit, past_letter}
 use Rattle.itanium_syntax.specs.Operators.{operator_here}
 use Rattle.itanium_syntax.specs.Cases.{NameCase, NestedName, LocalName, UnscopedName, UnscopedCase, StdName, SubstitutionName, PlainName, FirstSegmentCase}
 use Rattle.itanium_syntax.specs.Cases.{TemplateParamFirst, StdFirst, SubstitutionFirst, NameFirst, SegmentCase}
@@ -84,10 +84,6 @@ past_internal bytes = if begins (codes "L") bytes && begins_digit (drop 1 bytes)
 -- past the M of a data member's initializer
 abbrev pub past_initializer_letter : List ℕ → List ℕ
 past_initializer_letter bytes = past_letter (letter "M") bytes
-
--- an unnamed namespace has a text of its own
-abbrev pub source_text : List ℕ → List ℕ
-source_text name = if begins (codes "_GLOBAL__N") name then codes "(anonymous namespace)" else name
 
 -- the qualifiers of a <nested-name>; one with an explicit object parameter, H, has none
 abbrev pub name_quals : List ℕ → Quals

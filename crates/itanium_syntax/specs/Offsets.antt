@@ -1,13 +1,13 @@
 -- Call offsets of thunks, and the offset of a construction vtable (Itanium C++ ABI 5.1.4).
 use Rattle.std.specs.Prelude.{ℕ, List, Bool, not, ◌&&◌, ◌==◌, drop, codes, if◌then◌else◌, Option, None, option_and_then, option_map}
-use Rattle.itanium_syntax.specs.declared.numerals.Radix.TheVariants.{Decimal}
+use Rattle.abi_scalars.specs.declared.numerals.Radix.TheVariants.{Decimal}
 use Rattle.itanium_syntax.specs.declared.offsets.Signed.{Signed}
 use Rattle.itanium_syntax.specs.declared.offsets.CallOffset.{CallOffset}
 use Rattle.itanium_syntax.specs.declared.offsets.CallOffset.TheVariants.{Plain, Virtual}
 use Rattle.itanium_syntax.specs.declared.offsets.ThunkOffsets.{ThunkOffsets}
 use Rattle.itanium_syntax.specs.declared.offsets.ThunkOffsets.TheVariants.{Single, Covariant}
-use Rattle.itanium_syntax.specs.Bytes.{begins}
-use Rattle.itanium_syntax.specs.Scalars.{numeral, before_underscore}
+use Rattle.abi_scalars.specs.Bytes.{begins}
+use Rattle.abi_scalars.specs.Scalars.{numeral, before_underscore}
 
 -- a number with a minus or without one: zero is never negative
 abbrev pub with_sign : Bool → ℕ → Signed

@@ -1,6 +1,6 @@
 -- The cases of special names. Of several cases the first one that fits holds.
 use Rattle.std.specs.Prelude.{ℕ, List, [], Bool, ◌&&◌, ◌||◌, drop, codes, if◌then◌else◌}
-use Rattle.itanium_syntax.specs.Bytes.{begins, begins_one_of}
+use Rattle.abi_scalars.specs.Bytes.{begins, begins_one_of}
 use Rattle.itanium_syntax.specs.Cases.{SpecialCase, TypeSpecial, NameSpecial, TemporarySpecial, ConstructionSpecial, ThunkSpecial, UnreadableSpecial}
 
 -- T and one of these letters

@@ -7,7 +7,7 @@ use Rattle.demangle_quals.specs.declared.quals.Reference.{Reference}
 use Rattle.demangle_quals.specs.declared.quals.Reference.TheVariants.{Left, Right}
 use Rattle.itanium_syntax.specs.declared.encodings.EncodingEnd.{EncodingEnd}
 use Rattle.itanium_syntax.specs.Encodings.{ends_here}
-use Rattle.itanium_syntax.specs.Bytes.{letter, is, begins, begins_one_of, past_letter}
+use Rattle.abi_scalars.specs.Bytes.{letter, is, begins, begins_one_of, past_letter}
 use Rattle.itanium_syntax.specs.Cases.{TypeCase, BuiltinType, ExpansionType, VendorType, ArrayType, FunctionType}
 use Rattle.itanium_syntax.specs.Cases.{PointerToMemberType, PointerType, CvType, ElaboratedType, TemplateParamType, SubstitutionType}
 use Rattle.itanium_syntax.specs.Cases.{UnreadableType, NameType, CvCase, CvFunction, CvOther, FunctionCase, ExternFunction}

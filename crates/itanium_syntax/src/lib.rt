@@ -22,5 +22,6 @@ pub mod offsets;
 pub mod operators;
 pub mod scalar;
 pub mod specials;
-pub mod symbol;
 pub mod types;
+
+pub use abi_scalars::symbol;

@@ -2,12 +2,10 @@
 ghost use Rattle.std.specs.Prelude.{◌≡◌, ◌≤◌, ◌+◌, length, IfSome, IfNone, Some, None, true};
 ghost use Rattle.demangle_quals.specs.Quals.{no_quals};
 ghost use Rattle.itanium_syntax.specs.Names as spec;
-ghost use Rattle.itanium_syntax.specs.Scalars.{source_name};
-ghost use Rattle.itanium_syntax.specs.Calls as call_spec;
 
 use crate::operators::operator_here;
-use crate::scalar::source_name;
 use crate::types::{cv_quals, ref_qualifier};
+pub use abi_scalars::texts::{begins_source, source_text};
 use demangle_quals::Quals;
 
 /// The cases of `<name>`.
@@ -151,14 +149,6 @@ pub fn ordinary_case(bytes: &[u8]) -> OrdinaryCase
     }
 }
 
-/// Returns whether a `<source-name>` is next, that is a digit from `1` to `9`.
-#[inline(always)]
-pub fn begins_source(bytes: &[u8]) -> bool
-    ensures value { result ≡ call_spec.begins_source bytes.now }
-{
-    matches!(bytes, [b'1'..=b'9', ..])
-}
-
 /// Returns whether an `<abi-tag>` is next, that is a `B` that a digit follows.
 pub fn tag_case(bytes: &[u8]) -> TagCase
     ensures case { result ≡ spec.tag_case bytes.now }
@@ -176,29 +166,6 @@ pub fn substitution_case(bytes: &[u8]) -> SubstitutionCase
     match bytes {
         [b'a'..=b'z', ..] => SubstitutionCase::AbbreviationSubstitution,
         _ => SubstitutionCase::ComponentSubstitution,
-    }
-}
-
-/// Returns the text of a source name: `(anonymous namespace)` for a name that begins with `_GLOBAL__N`, and otherwise
-/// the name itself.
-pub fn source_text(name: &[u8]) -> &[u8]
-    ensures text { result.now ≡ spec.source_text name.now }
-{
-    match name {
-        [
-            b'_',
-            b'G',
-            b'L',
-            b'O',
-            b'B',
-            b'A',
-            b'L',
-            b'_',
-            b'_',
-            b'N',
-            ..
-        ] => b"(anonymous namespace)",
-        _ => name,
     }
 }
 

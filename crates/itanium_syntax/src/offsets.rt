@@ -3,7 +3,7 @@
 ghost use Rattle.std.specs.Prelude.{◌≡◌, ◌<◌, ◌≤◌, IfSome, option_map, length};
 ghost use Rattle.itanium_syntax.specs.Offsets as spec;
 
-use crate::numerals::{Radix, numeral};
+use abi_scalars::numerals::{Radix, numeral};
 
 /// A number with a sign. Zero is never negative.
 #[derive(Clone, Copy, Debug, PartialEq, Eq)]

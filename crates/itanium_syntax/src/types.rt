@@ -1,7 +1,7 @@
 //! The cases of types (Itanium C++ ABI 5.1.5): which one the next bytes select. If several fit, the first one counts.
 ghost use Rattle.std.specs.Prelude.{◌≡◌, ◌<◌, ◌≤◌, length};
 ghost use Rattle.itanium_syntax.specs.Types as spec;
-ghost use Rattle.itanium_syntax.specs.Bytes as bytes_spec;
+ghost use Rattle.abi_scalars.specs.Bytes as bytes_spec;
 ghost use Rattle.itanium_syntax.specs.Calls as call_spec;
 
 use crate::encodings::EncodingEnd;

@@ -20,7 +20,7 @@ use Rattle.demangle_edit.specs.Built.{arguments_opened, separator}
 use Rattle.demangle_quals.specs.declared.quals.Quals.{Quals}
 use Rattle.demangle_edit.specs.Names.{default_arg_shape, qualified}
 use Rattle.demangle_edit.specs.Built.{default_arg_opened, parent_opened, enclosed}
-use Rattle.itanium_syntax.specs.Scalars.{ordinal}
+use Rattle.itanium_syntax.specs.Numbers.{ordinal}
 use Rattle.itanium_syntax.specs.Encodings.{entity_case}
 use Rattle.itanium_grammar.specs.Cases.{DefaultArgumentEntity, NameEntity}
 use Rattle.itanium_reader.specs.Outcome.{state, Gives, GivesCandidate, Bounds, CostBounds, Growth, SavedBounds}
@@ -28,7 +28,7 @@ use Rattle.itanium_reader.specs.declared.stop.Stop.{Stop}
 use Rattle.itanium_reader.specs.declared.stop.Stop.TheVariants.{Unreadable, Memory}
 use Rattle.itanium_reader.proofs.Unfold.{first_source_opens}
 use Rattle.itanium_syntax.specs.Names.{first_segment_case}
-use Rattle.itanium_syntax.specs.Calls.{begins_source}
+use Rattle.abi_scalars.specs.Texts.{begins_source}
 use Rattle.itanium_syntax.specs.declared.context.Context.{Context}
 use Rattle.std.proofs.Common.{Ok, Err, None, Result}
 use Rattle.std.specs.Prelude.{IfOk, OnOk, IsOkUnless}

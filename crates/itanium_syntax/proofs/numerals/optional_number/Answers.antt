@@ -1,4 +1,5 @@
-use Rattle.itanium_syntax.specs.Scalars.{number, optional_number}
+use Rattle.abi_scalars.specs.Scalars.{number}
+use Rattle.itanium_syntax.specs.Numbers.{optional_number}
 use Rattle.std.proofs.Common.{arith}
 use Rattle.std.proofs.lemmas.Grind.{common_steps, elements}
 use Rattle.itanium_syntax.proofs.numerals.optional_number.Goals as goal

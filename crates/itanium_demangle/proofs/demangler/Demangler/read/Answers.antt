@@ -5,7 +5,7 @@ use Rattle.std.proofs.Common.{rules, ◌≡◌, Some}
 use Rattle.demangle_text.specs.State.{shape}
 use Rattle.itanium_grammar.specs.Tree.{shape_of}
 use Rattle.itanium_grammar.specs.Answer.{start, Mangled, max_depth}
-use Rattle.itanium_syntax.specs.Symbol.{after_prefix}
+use Rattle.abi_scalars.specs.Symbol.{after_prefix}
 use Rattle.itanium_grammar.proofs.Widths.{answer_length}
 use Rattle.itanium_reader.specs.Outcome.{state}
 use Rattle.itanium_demangle.specs.Meaning.{HasReading}

@@ -1,12 +1,12 @@
-use Rattle.itanium_syntax.specs.Scalars.{number}
+use Rattle.abi_scalars.specs.Indices.{sequence_id}
 use Rattle.std.proofs.Common.{arith}
 use Rattle.std.proofs.lemmas.Grind.{common_steps}
-use Rattle.itanium_syntax.proofs.scalar.number.Goals as goal
+use Rattle.abi_scalars.proofs.scalar.sequence_id.Goals as goal
 
 pub returns-in_err-value-clause-value : goal.returns-in_err-value-clause-value
-unfolding number
+unfolding sequence_id
 returns-in_err-value-clause-value c = grind (arith, common_steps)
 
 pub returns-clause-value : goal.returns-clause-value
-unfolding number
+unfolding sequence_id
 returns-clause-value c = grind (arith, common_steps)

@@ -1,6 +1,6 @@
 use Rattle.std.proofs.Common.{arith, sym}
-use Rattle.itanium_syntax.proofs.Digits.{number_first, number_more, number_large, number_end, number_none, no_bytes, no_digit}
-use Rattle.itanium_syntax.proofs.numerals.digits_value.Goals as goal
+use Rattle.abi_scalars.proofs.Digits.{number_first, number_more, number_large, number_end, number_none, no_bytes, no_digit}
+use Rattle.abi_scalars.proofs.numerals.digits_value.Goals as goal
 
 pub returns-in_default : goal.returns-in_default
 returns-in_default c = record { value = number_none _ _ (no_bytes _ _ 0 (omega arith)) }

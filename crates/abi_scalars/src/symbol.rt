@@ -1,6 +1,6 @@
 //! The parts of a symbol in front of its encoding and after it.
 ghost use Rattle.std.specs.Prelude.{◌≡◌, option_map};
-ghost use Rattle.itanium_syntax.specs.Symbol as spec;
+ghost use Rattle.abi_scalars.specs.Symbol as spec;
 
 /// Returns what follows the prefix of a symbol, or `None` if it has no prefix (Itanium C++ ABI 5.1.2). The prefix is
 /// that of `<mangled-name> ::= _Z <encoding>`, or the same after one more underscore.

@@ -1,12 +1,12 @@
-use Rattle.itanium_syntax.specs.Calls.{sequence_id}
+use Rattle.abi_scalars.specs.Scalars.{number}
 use Rattle.std.proofs.Common.{arith}
 use Rattle.std.proofs.lemmas.Grind.{common_steps}
-use Rattle.itanium_syntax.proofs.scalar.sequence_id.Goals as goal
+use Rattle.abi_scalars.proofs.scalar.number.Goals as goal
 
 pub returns-in_err-value-clause-value : goal.returns-in_err-value-clause-value
-unfolding sequence_id
+unfolding number
 returns-in_err-value-clause-value c = grind (arith, common_steps)
 
 pub returns-clause-value : goal.returns-clause-value
-unfolding sequence_id
+unfolding number
 returns-clause-value c = grind (arith, common_steps)

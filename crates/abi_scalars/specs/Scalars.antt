@@ -1,8 +1,8 @@
 -- Numbers and source names: how many bytes stand in front, and what they say (Itanium C++ ABI 5.1.2).
-use Rattle.std.specs.Prelude.{ℕ, ◌+◌, ◌-◌, ◌*◌, ◌^◌, ◌&&◌, nat_le, nat_lt, if◌then◌else◌, List, [], ◌∷◌, length, take, drop, Option, Some, None, option_and_then, option_map, codes}
-use Rattle.itanium_syntax.specs.Bytes.{letter, begins, is_between, is_digit}
-use Rattle.itanium_syntax.specs.declared.numerals.Radix.{Radix}
-use Rattle.itanium_syntax.specs.declared.numerals.Radix.TheVariants.{Decimal, Base36}
+use Rattle.std.specs.Prelude.{ℕ, ◌+◌, ◌-◌, ◌*◌, ◌^◌, ◌&&◌, nat_le, nat_lt, if◌then◌else◌, List, [], ◌∷◌, length, take, drop, Option, Some, None, option_and_then, codes}
+use Rattle.abi_scalars.specs.Bytes.{letter, begins, is_between, is_digit}
+use Rattle.abi_scalars.specs.declared.numerals.Radix.{Radix}
+use Rattle.abi_scalars.specs.declared.numerals.Radix.TheVariants.{Decimal, Base36}
 
 -- the base: how many values a digit has
 abbrev pub base : Radix → ℕ
@@ -47,6 +47,10 @@ unfoldable pub source_name : List ℕ → Option (List ℕ × List ℕ)
 source_name bytes = option_and_then (λ n.
     if nat_lt 0 n.0 && nat_le n.0 (length n.1) then Some (take n.0 n.1, drop n.0 n.1) else None) (number bytes)
 
+-- an unnamed namespace has a text of its own
+abbrev pub source_text : List ℕ → List ℕ
+source_text name = if begins (codes "_GLOBAL__N") name then codes "(anonymous namespace)" else name
+
 -- the number that was read, plus one, if that fits 64 bits
 abbrev pub plus_one : Option (ℕ × List ℕ) → Option (ℕ × List ℕ)
 plus_one None = None
@@ -61,14 +65,3 @@ before_underscore (Some (value, rest)) = if begins (codes "_") rest then Some (v
 unfoldable pub index_of : Radix → List ℕ → Option (ℕ × List ℕ)
 index_of r bytes =
     if begins (codes "_") bytes then Some (0, drop 1 bytes) else before_underscore (plus_one (numeral r bytes))
-
--- [<nonnegative number>] _ of an <unnamed-type-name>, a <closure-type-name> or a default argument: 1 without the
--- number, and otherwise the number plus 2
-unfoldable pub ordinal : List ℕ → Option (ℕ × List ℕ)
-ordinal bytes = plus_one (index_of Decimal bytes)
-
--- [<number>] _: the dimension of an array, which may be left out
-unfoldable pub optional_number : List ℕ → Option (Option ℕ × List ℕ)
-optional_number bytes =
-    if begins (codes "_") bytes then Some (None, drop 1 bytes)
-    else before_underscore (option_map (λ n. (Some n.0, n.1)) (number bytes))

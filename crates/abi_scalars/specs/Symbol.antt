@@ -1,6 +1,6 @@
 -- The parts of a symbol in front of its encoding and after it.
 use Rattle.std.specs.Prelude.{ℕ, List, [], Option, Some, None, drop, codes, if◌then◌else◌}
-use Rattle.itanium_syntax.specs.Bytes.{begins}
+use Rattle.abi_scalars.specs.Bytes.{begins}
 
 -- <mangled-name> ::= _Z <encoding>, and the same after a further underscore: what follows the prefix
 abbrev pub after_prefix : List ℕ → Option (List ℕ)

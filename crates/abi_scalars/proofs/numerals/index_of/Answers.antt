@@ -1,7 +1,7 @@
-use Rattle.itanium_syntax.specs.Scalars.{front_digits, index_of, weighted}
+use Rattle.abi_scalars.specs.Scalars.{front_digits, index_of, weighted}
 use Rattle.std.proofs.Common.{arith}
 use Rattle.std.proofs.lemmas.Grind.{common_steps, elements}
-use Rattle.itanium_syntax.proofs.numerals.index_of.Goals as goal
+use Rattle.abi_scalars.proofs.numerals.index_of.Goals as goal
 
 pub returns-in_ok-digit-in-95-2-clause-value : goal.returns-in_ok-digit-in-95-2-clause-value
 unfolding index_of front_digits weighted

@@ -1,7 +1,7 @@
-use Rattle.itanium_syntax.proofs.Digits.{dropped}
-use Rattle.itanium_syntax.specs.Scalars.{source_name}
+use Rattle.abi_scalars.proofs.Digits.{dropped}
+use Rattle.abi_scalars.specs.Scalars.{source_name}
 use Rattle.std.proofs.Common.{arith}
-use Rattle.itanium_syntax.proofs.scalar.source_name.Goals as goal
+use Rattle.abi_scalars.proofs.scalar.source_name.Goals as goal
 
 pub returns-then-len-eq0-clause-value : goal.returns-then-len-eq0-clause-value
 unfolding source_name

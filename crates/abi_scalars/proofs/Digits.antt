@@ -4,9 +4,9 @@ use Rattle.std.proofs.Math.Nat.{pow-succ', pow-zero, le-mul_of_pos_right}
 use Rattle.std.proofs.Math.ListN.{drop_of_length-le}
 use Rattle.std.proofs.lemmas.List.{drop-drop, length-drop}
 use Rattle.std.proofs.lemmas.Grind.{common_steps}
-use Rattle.itanium_syntax.specs.declared.numerals.Radix.{Radix}
-use Rattle.itanium_syntax.specs.declared.numerals.Radix.TheVariants.{Decimal, Base36}
-use Rattle.itanium_syntax.specs.Scalars.{base, digit_of, front_digits, weighted, numeral}
+use Rattle.abi_scalars.specs.declared.numerals.Radix.{Radix}
+use Rattle.abi_scalars.specs.declared.numerals.Radix.TheVariants.{Decimal, Base36}
+use Rattle.abi_scalars.specs.Scalars.{base, digit_of, front_digits, weighted, numeral}
 
 pub no_bytes : (r : Radix) (bytes : List ℕ) (i : ℕ) → length bytes ≤ i → front_digits r (drop i bytes) ≡ []
 unfolding front_digits

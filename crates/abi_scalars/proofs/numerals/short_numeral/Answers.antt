@@ -1,7 +1,7 @@
-use Rattle.itanium_syntax.specs.Scalars.{front_digits, weighted}
+use Rattle.abi_scalars.specs.Scalars.{front_digits, weighted}
 use Rattle.std.proofs.Common.{arith}
 use Rattle.std.proofs.lemmas.Grind.{common_steps}
-use Rattle.itanium_syntax.proofs.numerals.short_numeral.Goals as goal
+use Rattle.abi_scalars.proofs.numerals.short_numeral.Goals as goal
 
 pub returns-in_default-digit-clause-value : goal.returns-in_default-digit-clause-value
 unfolding front_digits weighted

@@ -1,0 +1,5 @@
+pub mod Bytes
+pub mod Symbol
+pub mod Scalars
+pub mod Indices
+pub mod Texts
