@@ -1,0 +1,16 @@
+use Rattle.std.proofs.Common.{◌≡◌, ◌∙◌, sym, ap, subst, true, Some}
+use Rattle.cxx_tree.specs.Tree.{Tree, std_name}
+use Rattle.cxx_tree.specs.Measure.{measure}
+use Rattle.cxx_tree.specs.Stored.{Store, forest, tree_at, tree_of, plain_tree}
+use Rattle.cxx_grammar.specs.Bases.{expand}
+use Rattle.cxx_reader.specs.Table.{stands}
+use Rattle.cxx_reader.specs.Outcome.{state, Gives}
+use Rattle.cxx_reader.proofs.reader.Reader.expanded.Goals as goal
+
+pub returns-in-Some-clause-reads : goal.returns-in-Some-clause-reads
+unfolding measure stands tree_of plain_tree
+returns-in-Some-clause-reads c =
+    let is = (c.in-Some.ensures {u = tt}).value in
+    let same = ap (λ (s : Store). expand (tree_at (forest s) c.args.i)) (sym c.arena.ensures.value) in
+    subst (λ (t : Tree). Gives c.make.result c.make.new.self (Some (t, state c.args.self.now)))
+    (sym (same ∙ is)) c.make.ensures.reads

@@ -1,0 +1,4 @@
+pub mod Parser
+pub mod Table
+pub mod View
+pub mod Outcome

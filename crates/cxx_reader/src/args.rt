@@ -1,0 +1,106 @@
+//! Template arguments (Itanium C++ ABI 5.1.5.4, 5.1.6).
+#![tactic(auto, using(crate::proofs::Rules::productions), unfolding(cxx_tree::specs::Stored::tree_of, cxx_tree::specs::Stored::plain_tree, cxx_tree::specs::Stored::IsBelow, cxx_tree::specs::Stored::IsPlainBelow, crate::specs::Table::stands, crate::specs::Outcome::list_trees, crate::specs::Parser::arg_as, crate::specs::Parser::literal_as))]
+
+ghost use Rattle.std.specs.Prelude.{◌≡◌, ℕ, ◌<◌, ◌≤◌, length, OnOk, Some};
+ghost use Rattle.cxx_tree.specs.Rows as rows;
+ghost use Rattle.cxx_tree.specs.Stored.{forest, size};
+ghost use Rattle.cxx_grammar.specs.State as state_spec;
+ghost use Rattle.cxx_grammar.specs.Leaves as leaves;
+ghost use Rattle.cxx_reader.specs.Parser as spec;
+ghost use Rattle.cxx_reader.specs.Table.{IsNode, stands};
+ghost use Rattle.cxx_reader.specs.Outcome.{state, Keeps, Gives, GivesList};
+
+use crate::cases::{arg_case, begins, literal_case};
+use crate::reader::Reader;
+use crate::stop::Stop;
+use crate::types::read_type;
+use cxx_grammar::cases::{ArgCase, LiteralCase};
+use cxx_tree::{List, Node, Plain};
+
+/// Reads `<template-arg>* E`, after a letter.
+#[cycle(reader)]
+pub fn read_args(reader: &mut Reader, depth: usize) -> Result<List, Stop>
+    ensures reads { GivesList result reader.new (spec.parse_args (spec.parse_arg depth) (state reader.old)) }
+    ensures keeps { OnOk result (Keeps reader.old reader.new) }
+    ensures takes { OnOk result (length reader.new.rest.now < length reader.old.rest.now) }
+{
+    reader.skip(1);
+    let from = reader.tables.pending_len();
+    while !begins(reader.rest, b'E') {
+        let arg = tri!(read_arg(reader, depth));
+        tri!(reader.tables.add(arg));
+    }
+    reader.skip(1);
+    reader.tables.close(from)
+}
+
+/// Reads `<template-arg>`. At most `depth` counted productions may nest, this one included.
+#[cycle(reader)]
+pub fn read_arg(reader: &mut Reader, depth: usize) -> Result<u32, Stop>
+    ensures reads { Gives result reader.new (spec.parse_arg depth (state reader.old)) }
+    ensures keeps { OnOk result (Keeps reader.old reader.new) }
+    ensures takes { OnOk result (length reader.new.rest.now < length reader.old.rest.now) }
+{
+    if depth == 0 {
+        return Err(Stop::Unreadable);
+    }
+    let depth = depth - 1;
+    match arg_case(reader.rest) {
+        ArgCase::Pack => read_pack(reader, depth),
+        ArgCase::Literal => read_literal(reader, depth),
+        ArgCase::Type => read_type(reader, depth),
+    }
+}
+
+// Reads `J <template-arg>* E`.
+#[cycle(reader)]
+fn read_pack(reader: &mut Reader, depth: usize) -> Result<u32, Stop>
+    ensures reads { Gives result reader.new (spec.parse_pack (spec.parse_arg depth) (state reader.old)) }
+    ensures keeps { OnOk result (Keeps reader.old reader.new) }
+    ensures takes { OnOk result (length reader.new.rest.now < length reader.old.rest.now) }
+{
+    let items = tri!(read_args(reader, depth));
+    reader.make(Node::Plain(Plain::List(items)))
+}
+
+// Reads `<expr-primary>`.
+#[cycle(reader)]
+fn read_literal(reader: &mut Reader, depth: usize) -> Result<u32, Stop>
+    ensures reads { Gives result reader.new (spec.parse_literal (spec.parse_type depth) (state reader.old)) }
+    ensures keeps { OnOk result (Keeps reader.old reader.new) }
+    ensures takes { OnOk result (length reader.new.rest.now < length reader.old.rest.now) }
+{
+    reader.skip(1);
+    match literal_case(reader.rest) {
+        LiteralCase::Bool => reader.read_bool(),
+        LiteralCase::Null => reader.read_null(),
+        LiteralCase::Integer => reader.read_integer(),
+        LiteralCase::Unread => Err(Stop::Unreadable),
+        LiteralCase::Typed => read_typed(reader, depth),
+    }
+}
+
+// Reads `<type> <number> E`.
+#[cycle(reader)]
+fn read_typed(reader: &mut Reader, depth: usize) -> Result<u32, Stop>
+    ensures reads { Gives result reader.new (spec.parse_typed (spec.parse_type depth) (state reader.old)) }
+    ensures keeps { OnOk result (Keeps reader.old reader.new) }
+    ensures takes { OnOk result (length reader.new.rest.now < length reader.old.rest.now) }
+{
+    let t = tri!(read_type(reader, depth));
+    let number = tri!(reader.read_number_end());
+    reader.make_typed_literal(t, number)
+}
+
+impl<'a> Reader<'a> {
+    // Makes a literal of a type with a number.
+    fn make_typed_literal(&mut self, t: u32, number: &[u8]) -> Result<u32, Stop>
+        requires t { IsNode self.old.tables t }
+        ensures reads { Gives result self.new (state_spec.make (rows.typed_literal (stands self.old.tables t)
+            (leaves.number_printed number.now)) (state self.old)) }
+        ensures keeps { OnOk result (Keeps self.old self.new) }
+        ensures rest { OnOk result (self.new.rest.now ≡ self.old.rest.now) }
+    {
+        self.tables.make_typed_literal(self.alloc, t, number)
+    }
+}

@@ -1,0 +1,143 @@
+//! Which case the next bytes select.
+ghost use Rattle.std.specs.Prelude.{◌≡◌, [], ◌∷◌};
+ghost use Rattle.abi_scalars.specs.Bytes.{begins};
+ghost use Rattle.cxx_grammar.specs.Cases as spec;
+
+use crate::words::{builtin_of, integer_of};
+use cxx_grammar::cases::{
+    ArgCase, BaseCase, ComponentCase, FirstCase, LiteralCase, NameCase, TypeCase,
+};
+
+/// Returns whether a letter is next.
+#[inline(always)]
+pub fn begins(bytes: &[u8], letter: u8) -> bool
+    ensures value { result ≡ begins (letter ∷ []) bytes.now }
+{
+    match bytes {
+        [byte, ..] => *byte == letter,
+        [] => false,
+    }
+}
+
+/// Returns whether an encoding ends here: at the end of the symbol, or before `E`, `.` or `_`.
+pub fn is_encoding_end(bytes: &[u8]) -> bool
+    ensures value { result ≡ spec.is_encoding_end bytes.now }
+{
+    match bytes {
+        [] | [b'E' | b'.' | b'_', ..] => true,
+        _ => false,
+    }
+}
+
+/// Returns the case of a `<name>`.
+pub fn name_case(bytes: &[u8]) -> NameCase
+    ensures value { result ≡ spec.case_of_name bytes.now }
+{
+    match bytes {
+        [b'N', ..] => NameCase::Nested,
+        [b'S', b't', ..] => NameCase::Std,
+        [b'S', ..] => NameCase::Substitution,
+        _ => NameCase::Unqualified,
+    }
+}
+
+/// Returns the case of the first component of a `<nested-name>`.
+pub fn first_case(bytes: &[u8]) -> FirstCase
+    ensures value { result ≡ spec.case_of_first bytes.now }
+{
+    match bytes {
+        [b'S', b't', ..] => FirstCase::Std,
+        [b'S', ..] => FirstCase::Substitution,
+        [b'T', ..] => FirstCase::Param,
+        _ => FirstCase::Unqualified,
+    }
+}
+
+/// Returns the case of another component of a `<nested-name>`, where an `L` in front is skipped.
+pub fn component_case(bytes: &[u8]) -> ComponentCase
+    ensures value { result ≡ spec.case_of_component bytes.now }
+{
+    match bytes {
+        [b'C', b'1'..=b'5', ..] => ComponentCase::Ctor,
+        [b'C', b'I', b'1'..=b'5', ..] => ComponentCase::InheritedCtor,
+        [b'D', b'0' | b'1' | b'2' | b'4' | b'5', ..] => ComponentCase::Dtor,
+        _ => ComponentCase::Unqualified,
+    }
+}
+
+/// Returns the case of a name without a scope.
+pub fn base_case(bytes: &[u8]) -> BaseCase
+    ensures value { result ≡ spec.case_of_base bytes.now }
+{
+    match bytes {
+        [b'1'..=b'9', ..] => BaseCase::Source,
+        [b'l', b'i', ..] => BaseCase::Literal,
+        [b'v', b'0'..=b'9', ..] => BaseCase::Vendor,
+        _ => BaseCase::Operator,
+    }
+}
+
+/// Returns the case of a `<type>`.
+pub fn type_case(bytes: &[u8]) -> TypeCase
+    ensures value { result ≡ spec.case_of_type bytes.now }
+{
+    match bytes {
+        [b'r' | b'V' | b'K', ..] => TypeCase::Qualified,
+        [b'D', b'p', ..] => TypeCase::Expansion,
+        [b'D', ..] => TypeCase::Builtin,
+        [b'T', ..] => TypeCase::Param,
+        [b'P', ..] => TypeCase::Pointer,
+        [b'R', ..] => TypeCase::Reference(true),
+        [b'O', ..] => TypeCase::Reference(false),
+        [b'S', b't', ..] => TypeCase::Class,
+        [b'S', ..] => TypeCase::Substitution,
+        [letter, ..] => if builtin_of(*letter).is_some() {
+            TypeCase::Builtin
+        } else {
+            TypeCase::Class
+        },
+        [] => TypeCase::Class,
+    }
+}
+
+/// Returns the case of a `<template-arg>`.
+pub fn arg_case(bytes: &[u8]) -> ArgCase
+    ensures value { result ≡ spec.case_of_arg bytes.now }
+{
+    match bytes {
+        [b'J', ..] => ArgCase::Pack,
+        [b'L', ..] => ArgCase::Literal,
+        _ => ArgCase::Type,
+    }
+}
+
+// Whether a literal that begins with this letter isn't read.
+fn is_unread(letter: u8) -> bool
+    ensures value { result ≡ spec.is_unread letter }
+{
+    matches!(letter, b'f' | b'd' | b'e' | b'_' | b'A' | b'T' | b'U')
+}
+
+/// Returns the case of an `<expr-primary>`, after its `L`.
+pub fn literal_case(bytes: &[u8]) -> LiteralCase
+    ensures value { result ≡ spec.case_of_literal bytes.now }
+{
+    match bytes {
+        [b'b', ..] => LiteralCase::Bool,
+        [b'D', b'n', ..] => LiteralCase::Null,
+        [letter, ..] => literal_case_of(*letter),
+        [] => LiteralCase::Typed,
+    }
+}
+
+fn literal_case_of(letter: u8) -> LiteralCase
+    ensures value { result ≡ spec.case_of_literal_letter letter }
+{
+    if integer_of(letter).is_some() {
+        return LiteralCase::Integer;
+    }
+    if is_unread(letter) {
+        return LiteralCase::Unread;
+    }
+    LiteralCase::Typed
+}

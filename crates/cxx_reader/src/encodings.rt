@@ -1,0 +1,109 @@
+//! Encodings (Itanium C++ ABI 5.1.2).
+#![tactic(auto, using(crate::proofs::Rules::productions), unfolding(cxx_tree::specs::Stored::tree_of, cxx_tree::specs::Stored::plain_tree, cxx_tree::specs::Stored::IsBelow, cxx_tree::specs::Stored::IsPlainBelow, crate::specs::Table::stands, crate::specs::Outcome::named_at))]
+
+ghost use Rattle.std.specs.Prelude.{◌≡◌, ℕ, ◌<◌, ◌≤◌, ◌&&◌, not, length, map, drop, take, OnOk, IfSome, option_map};
+ghost use Rattle.cxx_tree.specs.Grows.{Grows};
+ghost use Rattle.cxx_tree.specs.Stored.{forest, size};
+ghost use Rattle.cxx_grammar.specs.Grammar as grammar;
+ghost use Rattle.cxx_reader.specs.Parser as spec;
+ghost use Rattle.cxx_reader.specs.Table.{IsNode, stands};
+ghost use Rattle.cxx_reader.specs.Outcome.{state, Keeps, KeepsFront, Gives, GivesOption, GivesFrom, IsNamed, named_at, info_at};
+
+use crate::cases::is_encoding_end;
+use crate::reader::{Info, Named, Reader};
+use crate::stop::Stop;
+use crate::types::read_type;
+use cxx_tree::{Node, Plain};
+
+/// Reads what follows the name of an encoding: nothing, or `<bare-function-type>`.
+pub fn read_signature(reader: &mut Reader, depth: usize, name: Named) -> Result<u32, Stop>
+    requires named { IsNamed reader.old.tables name }
+    ensures reads { Gives result reader.new (spec.parse_signature (spec.parse_type depth)
+        (named_at reader.old.tables name) (state reader.old)) }
+    ensures keeps { OnOk result (Keeps reader.old reader.new) }
+{
+    if is_encoding_end(reader.rest) {
+        return reader.make(Node::Plain(Plain::Data(name.node)));
+    }
+    read_function(reader, depth, name)
+}
+
+// Reads `<bare-function-type> ::= [<return type>] <parameters>`.
+fn read_function(reader: &mut Reader, depth: usize, name: Named) -> Result<u32, Stop>
+    requires named { IsNamed reader.old.tables name }
+    ensures reads { Gives result reader.new (spec.parse_function (spec.parse_type depth)
+        (named_at reader.old.tables name) (state reader.old)) }
+    ensures keeps { OnOk result (Keeps reader.old reader.new) }
+{
+    let ret = tri!(read_return_type(reader, depth, has_return(name.info)));
+    let from = reader.tables.pending_len();
+    tri!(read_params(reader, depth));
+    reader.make_function(ret, name, from)
+}
+
+// Whether a function has its return type in front of its parameters.
+fn has_return(info: Info) -> bool
+    ensures value { result ≡ (info.ends_with_args && not info.no_return) }
+{
+    info.ends_with_args && !info.no_return
+}
+
+// Reads a return type, if there is one.
+fn read_return_type(reader: &mut Reader, depth: usize, is_there: bool) -> Result<Option<u32>, Stop>
+    ensures reads { GivesOption result reader.new (spec.parse_return (spec.parse_type depth) is_there
+        (state reader.old)) }
+    ensures keeps { OnOk result (Keeps reader.old reader.new) }
+{
+    if !is_there {
+        return Ok(None);
+    }
+    let t = tri!(read_type(reader, depth));
+    Ok(Some(t))
+}
+
+// Reads `<parameters> ::= v | <type>+`, and appends their nodes to the list that is read.
+fn read_params(reader: &mut Reader, depth: usize) -> Result<(), Stop>
+    ensures reads { GivesFrom result (length reader.old.tables.pending) reader.new
+        (spec.parse_params (spec.parse_type depth) (state reader.old)) }
+    ensures keeps { OnOk result (KeepsFront reader.old reader.new) }
+{
+    if reader.skip_letter(b'v') {
+        return Ok(());
+    }
+    read_some_params(reader, depth)
+}
+
+// Reads `<type>+`, up to the end of the encoding.
+fn read_some_params(reader: &mut Reader, depth: usize) -> Result<(), Stop>
+    ensures reads { GivesFrom result (length reader.old.tables.pending) reader.new
+        (spec.parse_some_params (spec.parse_type depth) (state reader.old)) }
+    ensures keeps { OnOk result (KeepsFront reader.old reader.new) }
+{
+    let from = reader.tables.pending_len();
+    let first = tri!(read_type(reader, depth));
+    tri!(reader.tables.add(first));
+    while !is_encoding_end(reader.rest) {
+        let t = tri!(read_type(reader, depth));
+        tri!(reader.tables.add(t));
+    }
+    Ok(())
+}
+
+impl<'a> Reader<'a> {
+    // Makes the function of a name, whose parameters are the nodes of the list that is read from `from` on.
+    fn make_function(&mut self, ret: Option<u32>, name: Named, from: usize) -> Result<u32, Stop>
+        requires ret { IfSome ret (IsNode self.old.tables) }
+        requires named { IsNamed self.old.tables name }
+        requires within { from ≤ length self.old.tables.pending }
+        ensures reads { Gives result self.new (grammar.make_function (option_map (stands self.old.tables) ret)
+            (named_at self.old.tables name) (map (stands self.old.tables) (drop from self.old.tables.pending))
+            (state self.old)) }
+        ensures grows { OnOk result (Grows self.old.tables.store self.new.tables.store) }
+        ensures pending { OnOk result (self.new.tables.pending ≡ take from self.old.tables.pending) }
+        ensures rest { OnOk result (self.new.rest.now ≡ self.old.rest.now) }
+    {
+        let info = name.info;
+        self.tables
+            .make_function(ret, name.node, from, info.cv, info.ref_qual)
+    }
+}

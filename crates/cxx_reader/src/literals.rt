@@ -1,0 +1,96 @@
+//! Literals that have no type inside (Itanium C++ ABI 5.1.6, `<expr-primary>`).
+#![tactic(auto, using(crate::proofs::Kept::readers))]
+
+ghost use Rattle.std.specs.Prelude.{◌≡◌, ◌<◌, length, OnOk, option_map};
+ghost use Rattle.cxx_grammar.specs.Leaves as leaves;
+ghost use Rattle.cxx_reader.specs.Outcome.{state, Keeps, Gives, GivesNumber};
+
+use crate::reader::Reader;
+use crate::stop::Stop;
+use crate::words::integer_of;
+use abi_scalars::texts::number_text;
+
+impl<'a> Reader<'a> {
+    /// Reads `<number> E`. Returns the number as it is written.
+    pub fn read_number_end(&mut self) -> Result<&'a [u8], Stop>
+        ensures reads { GivesNumber result self.new (leaves.parse_number_end (state self.old)) }
+        ensures keeps { OnOk result (Keeps self.old self.new) }
+        ensures tables { self.new.tables ≡ self.old.tables }
+        ensures takes { OnOk result (length self.new.rest.now < length self.old.rest.now) }
+    {
+        let Some((number, rest)) = number_text(self.rest) else {
+            return Err(Stop::Unreadable);
+        };
+        match rest {
+            [b'E', rest @ ..] => {
+                self.rest = rest;
+                Ok(number)
+            }
+            _ => Err(Stop::Unreadable),
+        }
+    }
+
+    /// Reads `b0E` or `b1E`.
+    pub fn read_bool(&mut self) -> Result<u32, Stop>
+        ensures reads { Gives result self.new (leaves.parse_bool (state self.old)) }
+        ensures keeps { OnOk result (Keeps self.old self.new) }
+        ensures takes { OnOk result (length self.new.rest.now < length self.old.rest.now) }
+    {
+        match self.rest {
+            [_, b'0', b'E', rest @ ..] => {
+                self.rest = rest;
+                self.tables.make_leaf(false, b"false", b"false")
+            }
+            [_, b'1', b'E', rest @ ..] => {
+                self.rest = rest;
+                self.tables.make_leaf(false, b"true", b"true")
+            }
+            _ => Err(Stop::Unreadable),
+        }
+    }
+
+    /// Reads `DnE` or `Dn0E`.
+    pub fn read_null(&mut self) -> Result<u32, Stop>
+        ensures reads { Gives result self.new (leaves.parse_null (state self.old)) }
+        ensures keeps { OnOk result (Keeps self.old self.new) }
+        ensures takes { OnOk result (length self.new.rest.now < length self.old.rest.now) }
+    {
+        match self.rest {
+            [_, _, b'E', rest @ ..] => {
+                self.rest = rest;
+                self.tables
+                    .make_leaf(false, b"nullptr", b"decltype(nullptr)")
+            }
+            [_, _, b'0', b'E', rest @ ..] => {
+                self.rest = rest;
+                self.tables
+                    .make_leaf(false, b"nullptr", b"(decltype(nullptr))0")
+            }
+            _ => Err(Stop::Unreadable),
+        }
+    }
+
+    /// Reads the letter of an integer type, and `<number> E`.
+    pub fn read_integer(&mut self) -> Result<u32, Stop>
+        ensures reads { Gives result self.new (leaves.parse_integer (state self.old)) }
+        ensures keeps { OnOk result (Keeps self.old self.new) }
+        ensures takes { OnOk result (length self.new.rest.now < length self.old.rest.now) }
+    {
+        let Some((front, after)) = integer_here(self.rest) else {
+            return Err(Stop::Unreadable);
+        };
+        self.skip(1);
+        let number = tri!(self.read_number_end());
+        self.tables.make_integer(self.alloc, front, number, after)
+    }
+}
+
+// What stands around a literal of the integer type whose letter is next.
+fn integer_here(bytes: &[u8]) -> Option<(&'static [u8], &'static [u8])>
+    ensures value { option_map (λ words. (words.0.now, words.1.now)) result ≡ leaves.integer_here bytes.now }
+{
+    match bytes {
+        [letter, ..] => integer_of(*letter),
+        [] => None,
+    }
+}

@@ -1,0 +1,427 @@
+//! Names (Itanium C++ ABI 5.1.2).
+#![tactic(auto, using(crate::proofs::Rules::productions), unfolding(cxx_tree::specs::Stored::tree_of, cxx_tree::specs::Stored::plain_tree, cxx_tree::specs::Stored::IsBelow, cxx_tree::specs::Stored::IsPlainBelow, crate::specs::Table::stands, crate::specs::Outcome::named_at, crate::specs::Outcome::list_trees, crate::specs::Parser::name_as, crate::specs::Parser::first_as, crate::specs::Parser::component_as))]
+
+ghost use Rattle.std.specs.Prelude.{◌≡◌, ℕ, ◌<◌, ◌≤◌, ◌∷◌, [], codes, length, true, false, Option, Some, OnOk, IfOk, IfSome, option_map};
+ghost use Rattle.cxx_grammar.specs.State as state_spec;
+ghost use Rattle.cxx_grammar.specs.Grammar as grammar;
+ghost use Rattle.cxx_reader.specs.Parser as spec;
+ghost use Rattle.cxx_reader.specs.Table.{IsNode, stands};
+ghost use Rattle.cxx_tree.specs.Rows as rows;
+ghost use Rattle.cxx_tree.specs.Stored.{forest, size, tree_of, IsBelow, IsText, text_at};
+ghost use Rattle.cxx_grammar.specs.Bases as bases;
+ghost use Rattle.cxx_reader.specs.Outcome as outcome;
+ghost use Rattle.cxx_reader.specs.Outcome.{state, Keeps, Gives, GivesNamed, IsNamed, named_at, info_at};
+
+use crate::args::read_args;
+use crate::bases::{base_name, is_param, is_with_args, short_std};
+use crate::cases::{begins, component_case, first_case, name_case};
+use crate::reader::{Info, Named, Reader};
+use crate::stop::Stop;
+use cxx_grammar::cases::{ComponentCase, FirstCase, NameCase};
+use cxx_tree::{Cv, Node, Plain, RefQual, Text};
+
+/// What is learned of a name before its components are read: its qualifiers.
+fn info_of(cv: Cv, ref_qual: RefQual) -> Info
+    ensures value { result ≡ outcome.info_of cv ref_qual }
+{
+    Info {
+        ends_with_args: false,
+        no_return: false,
+        cv,
+        ref_qual,
+        inherited: None,
+    }
+}
+
+/// A name of which nothing is learned.
+fn plain(node: u32) -> Named
+    ensures value { result ≡ outcome.plain_at node }
+{
+    Named {
+        node,
+        info: info_of(
+            Cv {
+                is_const: false,
+                is_volatile: false,
+                is_restrict: false,
+            },
+            RefQual::None,
+        ),
+    }
+}
+
+// Makes a name of a node, and of what is learned of it.
+fn make_named(reader: &mut Reader, node: Node, info: Info) -> Result<Named, Stop>
+    requires below { IsBelow reader.old.tables.store.held (size reader.old.tables.store) node }
+    requires inherited { IfSome info.inherited (IsNode reader.old.tables) }
+    ensures reads { GivesNamed result reader.new (grammar.make_named (tree_of reader.old.tables.store.held
+        (forest reader.old.tables.store) node) (info_at reader.old.tables info) (state reader.old)) }
+    ensures keeps { OnOk result (Keeps reader.old reader.new) }
+    ensures rest { OnOk result (reader.new.rest.now ≡ reader.old.rest.now) }
+{
+    let node = tri!(reader.make(node));
+    Ok(Named { node, info })
+}
+
+// Reads the arguments of a name.
+#[cycle(reader)]
+fn read_with_args(reader: &mut Reader, depth: usize, name: Named) -> Result<Named, Stop>
+    requires named { IsNamed reader.old.tables name }
+    ensures reads { GivesNamed result reader.new (spec.parse_with_args (spec.parse_arg depth)
+        (named_at reader.old.tables name) (state reader.old)) }
+    ensures keeps { OnOk result (Keeps reader.old reader.new) }
+    ensures takes { OnOk result (length reader.new.rest.now < length reader.old.rest.now) }
+{
+    let args = tri!(read_args(reader, depth));
+    let info = Info {
+        ends_with_args: true,
+        ..name.info
+    };
+    make_named(reader, Node::Plain(Plain::WithArgs(name.node, args)), info)
+}
+
+// Reads the arguments of a name, if there are any. Then the name is saved.
+#[cycle(reader)]
+fn read_unscoped(reader: &mut Reader, depth: usize, node: u32) -> Result<Named, Stop>
+    requires node { IsNode reader.old.tables node }
+    ensures reads { GivesNamed result reader.new (spec.parse_unscoped (spec.parse_arg depth)
+        (stands reader.old.tables node) (state reader.old)) }
+    ensures keeps { OnOk result (Keeps reader.old reader.new) }
+{
+    if !begins(reader.rest, b'I') {
+        return Ok(plain(node));
+    }
+    tri!(reader.tables.save(node));
+    read_with_args(reader, depth, plain(node))
+}
+
+/// Reads `<name>`. At most `depth` counted productions may nest, this one included.
+#[cycle(reader)]
+pub fn read_name(reader: &mut Reader, depth: usize) -> Result<Named, Stop>
+    ensures reads { GivesNamed result reader.new (spec.parse_name depth (state reader.old)) }
+    ensures keeps { OnOk result (Keeps reader.old reader.new) }
+    ensures takes { OnOk result (length reader.new.rest.now < length reader.old.rest.now) }
+{
+    if depth == 0 {
+        return Err(Stop::Unreadable);
+    }
+    let depth = depth - 1;
+    match name_case(reader.rest) {
+        NameCase::Nested => read_nested_name(reader, depth),
+        NameCase::Std => read_in_std(reader, depth),
+        NameCase::Substitution => read_substituted(reader, depth),
+        NameCase::Unqualified => read_unqualified(reader, depth),
+    }
+}
+
+// Reads `St <unqualified-name> [<template-args>]`.
+#[cycle(reader)]
+fn read_in_std(reader: &mut Reader, depth: usize) -> Result<Named, Stop>
+    ensures reads { GivesNamed result reader.new (spec.parse_in_std (spec.parse_arg depth) (state reader.old)) }
+    ensures keeps { OnOk result (Keeps reader.old reader.new) }
+    ensures takes { OnOk result (length reader.new.rest.now < length reader.old.rest.now) }
+{
+    reader.skip(2);
+    let base = tri!(reader.read_base());
+    let scope = tri!(reader.make_std());
+    let node = tri!(reader.make(Node::Plain(Plain::Scoped(false, scope, base))));
+    read_unscoped(reader, depth, node)
+}
+
+// Reads `<substitution> <template-args>`.
+#[cycle(reader)]
+fn read_substituted(reader: &mut Reader, depth: usize) -> Result<Named, Stop>
+    ensures reads { GivesNamed result reader.new (spec.parse_substituted (spec.parse_arg depth) (state reader.old)) }
+    ensures keeps { OnOk result (Keeps reader.old reader.new) }
+    ensures takes { OnOk result (length reader.new.rest.now < length reader.old.rest.now) }
+{
+    let node = tri!(reader.read_substitution());
+    if !begins(reader.rest, b'I') {
+        return Err(Stop::Unreadable);
+    }
+    read_with_args(reader, depth, plain(node))
+}
+
+// Reads `<unqualified-name> [<template-args>]`.
+#[cycle(reader)]
+fn read_unqualified(reader: &mut Reader, depth: usize) -> Result<Named, Stop>
+    ensures reads { GivesNamed result reader.new (spec.parse_unqualified (spec.parse_arg depth) (state reader.old)) }
+    ensures keeps { OnOk result (Keeps reader.old reader.new) }
+    ensures takes { OnOk result (length reader.new.rest.now < length reader.old.rest.now) }
+{
+    let node = tri!(reader.read_base());
+    read_unscoped(reader, depth, node)
+}
+
+/// Reads `<nested-name> ::= N [<CV-qualifiers>] [<ref-qualifier>] <component>+ E`.
+#[cycle(reader)]
+fn read_nested_name(reader: &mut Reader, depth: usize) -> Result<Named, Stop>
+    ensures reads { GivesNamed result reader.new (spec.parse_nested (spec.parse_arg depth) (spec.parse_name depth)
+        (state reader.old)) }
+    ensures keeps { OnOk result (Keeps reader.old reader.new) }
+    ensures takes { OnOk result (length reader.new.rest.now < length reader.old.rest.now) }
+{
+    reader.skip(1);
+    let cv = reader.read_cv();
+    let ref_qual = reader.read_ref_qual();
+    read_first(reader, depth, info_of(cv, ref_qual))
+}
+
+// Reads the components, after the qualifiers.
+#[cycle(reader)]
+fn read_first(reader: &mut Reader, depth: usize, info: Info) -> Result<Named, Stop>
+    requires inherited { info.inherited ≡ None }
+    ensures reads { GivesNamed result reader.new (spec.parse_first (spec.parse_arg depth) (spec.parse_name depth)
+        (info_at reader.old.tables info) (state reader.old)) }
+    ensures keeps { OnOk result (Keeps reader.old reader.new) }
+    ensures takes { OnOk result (length reader.new.rest.now < length reader.old.rest.now) }
+{
+    match first_case(reader.rest) {
+        FirstCase::Std => read_first_std(reader, depth, info),
+        FirstCase::Substitution => read_first_substitution(reader, depth, info),
+        FirstCase::Param => read_first_param(reader, depth, info),
+        FirstCase::Unqualified => read_first_base(reader, depth, info),
+    }
+}
+
+#[cycle(reader)]
+fn read_first_std(reader: &mut Reader, depth: usize, info: Info) -> Result<Named, Stop>
+    requires inherited { info.inherited ≡ None }
+    ensures reads { GivesNamed result reader.new (spec.parse_after (spec.parse_arg depth) (spec.parse_name depth)
+        (spec.with_info (info_at reader.old.tables info) grammar.std) (state_spec.skip 2 (state reader.old))) }
+    ensures keeps { OnOk result (Keeps reader.old reader.new) }
+    ensures takes { OnOk result (length reader.new.rest.now < length reader.old.rest.now) }
+{
+    reader.skip(2);
+    let node = tri!(reader.make_std());
+    read_after(reader, depth, Named { node, info })
+}
+
+#[cycle(reader)]
+fn read_first_substitution(reader: &mut Reader, depth: usize, info: Info) -> Result<Named, Stop>
+    requires inherited { info.inherited ≡ None }
+    ensures reads { GivesNamed result reader.new (spec.first_substitution (spec.parse_arg depth) (spec.parse_name depth)
+        (info_at reader.old.tables info) (state reader.old)) }
+    ensures keeps { OnOk result (Keeps reader.old reader.new) }
+    ensures takes { OnOk result (length reader.new.rest.now < length reader.old.rest.now) }
+{
+    let node = tri!(reader.read_substitution());
+    read_after(reader, depth, Named { node, info })
+}
+
+#[cycle(reader)]
+fn read_first_param(reader: &mut Reader, depth: usize, info: Info) -> Result<Named, Stop>
+    requires inherited { info.inherited ≡ None }
+    ensures reads { GivesNamed result reader.new (spec.first_param (spec.parse_arg depth) (spec.parse_name depth)
+        (info_at reader.old.tables info) (state reader.old)) }
+    ensures keeps { OnOk result (Keeps reader.old reader.new) }
+    ensures takes { OnOk result (length reader.new.rest.now < length reader.old.rest.now) }
+{
+    let node = tri!(reader.read_template_param());
+    read_components(reader, depth, Named { node, info })
+}
+
+#[cycle(reader)]
+fn read_first_base(reader: &mut Reader, depth: usize, info: Info) -> Result<Named, Stop>
+    requires inherited { info.inherited ≡ None }
+    ensures reads { GivesNamed result reader.new (spec.first_base (spec.parse_arg depth) (spec.parse_name depth)
+        (info_at reader.old.tables info) (state reader.old)) }
+    ensures keeps { OnOk result (Keeps reader.old reader.new) }
+    ensures takes { OnOk result (length reader.new.rest.now < length reader.old.rest.now) }
+{
+    let node = tri!(reader.read_base());
+    read_components(reader, depth, Named { node, info })
+}
+
+// Reads a component after a scope, and what follows it.
+#[cycle(reader)]
+fn read_after(reader: &mut Reader, depth: usize, scope: Named) -> Result<Named, Stop>
+    requires named { IsNamed reader.old.tables scope }
+    ensures reads { GivesNamed result reader.new (spec.parse_after (spec.parse_arg depth) (spec.parse_name depth)
+        (named_at reader.old.tables scope) (state reader.old)) }
+    ensures keeps { OnOk result (Keeps reader.old reader.new) }
+    ensures takes { OnOk result (length reader.new.rest.now < length reader.old.rest.now) }
+{
+    let name = tri!(read_component(reader, depth, scope));
+    read_components(reader, depth, name)
+}
+
+// Reads what follows a component: other components, up to the `E`.
+#[cycle(reader)]
+fn read_components(reader: &mut Reader, depth: usize, name: Named) -> Result<Named, Stop>
+    requires named { IsNamed reader.old.tables name }
+    ensures reads { GivesNamed result reader.new (spec.parse_rest (spec.parse_arg depth) (spec.parse_name depth)
+        (named_at reader.old.tables name) (state reader.old)) }
+    ensures keeps { OnOk result (Keeps reader.old reader.new) }
+    ensures takes { OnOk result (length reader.new.rest.now < length reader.old.rest.now) }
+{
+    reader.skip_letter(b'M');
+    let mut last = name;
+    while !begins(reader.rest, b'E') {
+        last = tri!(read_next(reader, depth, last));
+    }
+    reader.skip(1);
+    Ok(last)
+}
+
+// Saves a component, and reads the next one with its `M`.
+#[cycle(reader)]
+fn read_next(reader: &mut Reader, depth: usize, scope: Named) -> Result<Named, Stop>
+    requires named { IsNamed reader.old.tables scope }
+    ensures reads { GivesNamed result reader.new (spec.parse_next (spec.parse_arg depth) (spec.parse_name depth)
+        (named_at reader.old.tables scope) (state reader.old)) }
+    ensures keeps { OnOk result (Keeps reader.old reader.new) }
+    ensures takes { OnOk result (length reader.new.rest.now < length reader.old.rest.now) }
+{
+    tri!(reader.tables.save(scope.node));
+    let name = tri!(read_component(reader, depth, scope));
+    reader.skip_letter(b'M');
+    Ok(name)
+}
+
+// Reads a component after others.
+#[cycle(reader)]
+fn read_component(reader: &mut Reader, depth: usize, scope: Named) -> Result<Named, Stop>
+    requires named { IsNamed reader.old.tables scope }
+    ensures reads { GivesNamed result reader.new (spec.parse_component (spec.parse_arg depth) (spec.parse_name depth)
+        (named_at reader.old.tables scope) (state reader.old)) }
+    ensures keeps { OnOk result (Keeps reader.old reader.new) }
+    ensures takes { OnOk result (length reader.new.rest.now < length reader.old.rest.now) }
+{
+    if begins(reader.rest, b'I') {
+        return read_more_args(reader, depth, scope);
+    }
+    reader.skip_letter(b'L');
+    match component_case(reader.rest) {
+        ComponentCase::Ctor => read_ctor(reader, scope, false),
+        ComponentCase::InheritedCtor => read_inherited_ctor(reader, depth, scope),
+        ComponentCase::Dtor => read_ctor(reader, scope, true),
+        ComponentCase::Unqualified => read_scoped(reader, scope),
+    }
+}
+
+// Reads the arguments of a name that has none yet.
+#[cycle(reader)]
+fn read_more_args(reader: &mut Reader, depth: usize, scope: Named) -> Result<Named, Stop>
+    requires named { IsNamed reader.old.tables scope }
+    ensures reads { GivesNamed result reader.new (spec.parse_more_args (spec.parse_arg depth)
+        (named_at reader.old.tables scope) (state reader.old)) }
+    ensures keeps { OnOk result (Keeps reader.old reader.new) }
+    ensures takes { OnOk result (length reader.new.rest.now < length reader.old.rest.now) }
+{
+    if is_with_args(reader.tables.arena(), scope.node) {
+        return Err(Stop::Unreadable);
+    }
+    read_with_args(reader, depth, scope)
+}
+
+// Reads a name in a scope.
+fn read_scoped(reader: &mut Reader, scope: Named) -> Result<Named, Stop>
+    requires named { IsNamed reader.old.tables scope }
+    ensures reads { GivesNamed result reader.new (spec.parse_scoped (named_at reader.old.tables scope)
+        (state reader.old)) }
+    ensures keeps { OnOk result (Keeps reader.old reader.new) }
+    ensures takes { OnOk result (length reader.new.rest.now < length reader.old.rest.now) }
+{
+    let base = tri!(reader.read_unmarked_base());
+    let info = Info {
+        ends_with_args: false,
+        ..scope.info
+    };
+    make_named(
+        reader,
+        Node::Plain(Plain::Scoped(false, scope.node, base)),
+        info,
+    )
+}
+
+// Reads a constructor or a destructor.
+fn read_ctor(reader: &mut Reader, scope: Named, is_destructor: bool) -> Result<Named, Stop>
+    requires some { 0 < length reader.old.rest.now }
+    requires named { IsNamed reader.old.tables scope }
+    ensures reads { GivesNamed result reader.new (grammar.make_ctor (named_at reader.old.tables scope) is_destructor
+        (named_at reader.old.tables scope).info.inherited (state_spec.skip 2 (state reader.old))) }
+    ensures keeps { OnOk result (Keeps reader.old reader.new) }
+    ensures takes { OnOk result (length reader.new.rest.now < length reader.old.rest.now) }
+{
+    reader.skip(2);
+    make_ctor(reader, scope, is_destructor, scope.info.inherited)
+}
+
+// Reads an inherited constructor.
+#[cycle(reader)]
+fn read_inherited_ctor(reader: &mut Reader, depth: usize, scope: Named) -> Result<Named, Stop>
+    requires named { IsNamed reader.old.tables scope }
+    ensures reads { GivesNamed result reader.new (spec.parse_inherited (spec.parse_name depth)
+        (named_at reader.old.tables scope) (state reader.old)) }
+    ensures keeps { OnOk result (Keeps reader.old reader.new) }
+    ensures takes { OnOk result (length reader.new.rest.now < length reader.old.rest.now) }
+{
+    reader.skip(3);
+    let from = tri!(read_name(reader, depth));
+    make_ctor(reader, scope, false, Some(from.node))
+}
+
+// Makes a constructor or a destructor in its class.
+fn make_ctor(
+    reader: &mut Reader,
+    scope: Named,
+    is_destructor: bool,
+    inherited: Option<u32>,
+) -> Result<Named, Stop>
+    requires named { IsNamed reader.old.tables scope }
+    requires inherited { IfSome inherited (IsNode reader.old.tables) }
+    ensures reads { GivesNamed result reader.new (grammar.make_ctor (named_at reader.old.tables scope) is_destructor
+        (option_map (stands reader.old.tables) inherited) (state reader.old)) }
+    ensures keeps { OnOk result (Keeps reader.old reader.new) }
+    ensures rest { OnOk result (reader.new.rest.now ≡ reader.old.rest.now) }
+{
+    if is_param(reader.tables.arena(), scope.node) {
+        return Err(Stop::Unreadable);
+    }
+    let class = tri!(reader.expanded(scope.node));
+    let text = base_name(reader.tables.arena(), class);
+    let base = tri!(reader.make_ctor_dtor(text, is_destructor));
+    let info = Info {
+        ends_with_args: false,
+        no_return: true,
+        inherited,
+        ..scope.info
+    };
+    make_named(reader, Node::Plain(Plain::Scoped(false, class, base)), info)
+}
+
+impl<'a> Reader<'a> {
+    // Makes the name `std`.
+    fn make_std(&mut self) -> Result<u32, Stop>
+        ensures reads { Gives result self.new (Some (grammar.std, state self.old)) }
+        ensures keeps { OnOk result (Keeps self.old self.new) }
+        ensures rest { OnOk result (self.new.rest.now ≡ self.old.rest.now) }
+    {
+        self.tables.make_fixed(b"std")
+    }
+
+    // Makes a constructor or a destructor of a class.
+    fn make_ctor_dtor(&mut self, class: Text, is_destructor: bool) -> Result<u32, Stop>
+        requires class { IsText self.old.tables.store.held class }
+        ensures reads { Gives result self.new (state_spec.make (rows.ctor_dtor (text_at self.old.tables.store.held
+            class) is_destructor) (state self.old)) }
+        ensures keeps { OnOk result (Keeps self.old self.new) }
+        ensures rest { OnOk result (self.new.rest.now ≡ self.old.rest.now) }
+    {
+        self.tables.make_ctor_dtor(class, is_destructor)
+    }
+
+    // The class of a constructor: an abbreviation of std is written out.
+    fn expanded(&mut self, i: u32) -> Result<u32, Stop>
+        requires node { IsNode self.old.tables i }
+        ensures reads { Gives result self.new (Some (bases.expand (stands self.old.tables i), state self.old)) }
+        ensures keeps { OnOk result (Keeps self.old self.new) }
+        ensures rest { OnOk result (self.new.rest.now ≡ self.old.rest.now) }
+    {
+        match short_std(self.tables.arena(), i) {
+            Some(std) => self.make(Node::Plain(Plain::StdName(std, true))),
+            None => Ok(i),
+        }
+    }
+}

@@ -1,0 +1,167 @@
+//! Types (Itanium C++ ABI 5.1.5).
+#![tactic(auto, using(crate::proofs::Rules::productions), unfolding(cxx_tree::specs::Stored::tree_of, cxx_tree::specs::Stored::plain_tree, cxx_tree::specs::Stored::IsBelow, cxx_tree::specs::Stored::IsPlainBelow, crate::specs::Table::stands, crate::specs::Outcome::list_trees, crate::specs::Outcome::named_at, crate::specs::Parser::type_as))]
+
+ghost use Rattle.std.specs.Prelude.{◌≡◌, ℕ, ◌<◌, ◌≤◌, length, OnOk};
+ghost use Rattle.cxx_tree.specs.Tree.{expansion, pointer};
+ghost use Rattle.cxx_tree.specs.Stored.{forest, size};
+ghost use Rattle.cxx_reader.specs.Parser as spec;
+ghost use Rattle.cxx_reader.specs.Table.{IsNode, stands};
+ghost use Rattle.cxx_reader.specs.Outcome.{state, Keeps, Gives};
+
+use crate::args::read_args;
+use crate::cases::{begins, type_case};
+use crate::names::read_name;
+use crate::reader::Reader;
+use crate::stop::Stop;
+use cxx_grammar::cases::TypeCase;
+use cxx_tree::{Node, Plain};
+
+/// Reads `<type>`. At most `depth` counted productions may nest, this one included.
+#[cycle(reader)]
+pub fn read_type(reader: &mut Reader, depth: usize) -> Result<u32, Stop>
+    ensures reads { Gives result reader.new (spec.parse_type depth (state reader.old)) }
+    ensures keeps { OnOk result (Keeps reader.old reader.new) }
+    ensures takes { OnOk result (length reader.new.rest.now < length reader.old.rest.now) }
+{
+    if depth == 0 {
+        return Err(Stop::Unreadable);
+    }
+    let depth = depth - 1;
+    match type_case(reader.rest) {
+        TypeCase::Qualified => read_saved_type(reader, depth),
+        TypeCase::Expansion => read_expansion(reader, depth),
+        TypeCase::Builtin => reader.read_builtin(),
+        TypeCase::Param => read_param_type(reader, depth),
+        TypeCase::Pointer => read_pointer(reader, depth),
+        TypeCase::Reference(is_lvalue) => read_reference(reader, depth, is_lvalue),
+        TypeCase::Substitution => read_substituted_type(reader, depth),
+        TypeCase::Class => read_class(reader, depth),
+    }
+}
+
+// Reads a `<qualified-type>`, and saves it.
+#[cycle(reader)]
+fn read_saved_type(reader: &mut Reader, depth: usize) -> Result<u32, Stop>
+    ensures reads { Gives result reader.new (spec.parse_saved_type (spec.parse_qualified depth) (state reader.old)) }
+    ensures keeps { OnOk result (Keeps reader.old reader.new) }
+    ensures takes { OnOk result (length reader.new.rest.now < length reader.old.rest.now) }
+{
+    let t = tri!(read_qualified_type(reader, depth));
+    tri!(reader.tables.save(t));
+    Ok(t)
+}
+
+/// Reads `<qualified-type> ::= <CV-qualifiers> <type>`. At most `depth` counted productions may nest, this one
+/// included.
+#[cycle(reader)]
+fn read_qualified_type(reader: &mut Reader, depth: usize) -> Result<u32, Stop>
+    ensures reads { Gives result reader.new (spec.parse_qualified depth (state reader.old)) }
+    ensures keeps { OnOk result (Keeps reader.old reader.new) }
+    ensures takes { OnOk result (length reader.new.rest.now < length reader.old.rest.now) }
+{
+    if depth == 0 {
+        return Err(Stop::Unreadable);
+    }
+    let depth = depth - 1;
+    read_qualified(reader, depth)
+}
+
+#[cycle(reader)]
+fn read_qualified(reader: &mut Reader, depth: usize) -> Result<u32, Stop>
+    ensures reads { Gives result reader.new (spec.qualified_as (spec.parse_type depth) (state reader.old)) }
+    ensures keeps { OnOk result (Keeps reader.old reader.new) }
+    ensures takes { OnOk result (length reader.new.rest.now < length reader.old.rest.now) }
+{
+    let cv = reader.read_cv();
+    let t = tri!(read_type(reader, depth));
+    reader.make(Node::Qualified(t, cv))
+}
+
+// Reads `Dp <type>`.
+#[cycle(reader)]
+fn read_expansion(reader: &mut Reader, depth: usize) -> Result<u32, Stop>
+    ensures reads { Gives result reader.new (spec.parse_around (spec.parse_type depth) expansion 2
+        (state reader.old)) }
+    ensures keeps { OnOk result (Keeps reader.old reader.new) }
+    ensures takes { OnOk result (length reader.new.rest.now < length reader.old.rest.now) }
+{
+    reader.skip(2);
+    let t = tri!(read_type(reader, depth));
+    reader.make_saved(Node::Plain(Plain::Expansion(t)))
+}
+
+// Reads `P <type>`.
+#[cycle(reader)]
+fn read_pointer(reader: &mut Reader, depth: usize) -> Result<u32, Stop>
+    ensures reads { Gives result reader.new (spec.parse_around (spec.parse_type depth) pointer 1
+        (state reader.old)) }
+    ensures keeps { OnOk result (Keeps reader.old reader.new) }
+    ensures takes { OnOk result (length reader.new.rest.now < length reader.old.rest.now) }
+{
+    reader.skip(1);
+    let t = tri!(read_type(reader, depth));
+    reader.make_saved(Node::Pointer(t))
+}
+
+// Reads `R <type>` or `O <type>`.
+#[cycle(reader)]
+fn read_reference(reader: &mut Reader, depth: usize, is_lvalue: bool) -> Result<u32, Stop>
+    ensures reads { Gives result reader.new (spec.parse_around (spec.parse_type depth) (spec.reference_to is_lvalue) 1
+        (state reader.old)) }
+    ensures keeps { OnOk result (Keeps reader.old reader.new) }
+    ensures takes { OnOk result (length reader.new.rest.now < length reader.old.rest.now) }
+{
+    reader.skip(1);
+    let t = tri!(read_type(reader, depth));
+    reader.make_saved(Node::Reference(t, is_lvalue))
+}
+
+// Reads `<template-param> [<template-args>]`.
+#[cycle(reader)]
+fn read_param_type(reader: &mut Reader, depth: usize) -> Result<u32, Stop>
+    ensures reads { Gives result reader.new (spec.parse_param_type (spec.parse_arg depth) (state reader.old)) }
+    ensures keeps { OnOk result (Keeps reader.old reader.new) }
+    ensures takes { OnOk result (length reader.new.rest.now < length reader.old.rest.now) }
+{
+    let t = tri!(reader.read_template_param());
+    tri!(reader.tables.save(t));
+    read_type_args(reader, depth, t)
+}
+
+// Reads `<substitution> [<template-args>]`.
+#[cycle(reader)]
+fn read_substituted_type(reader: &mut Reader, depth: usize) -> Result<u32, Stop>
+    ensures reads { Gives result reader.new (spec.parse_substituted_type (spec.parse_arg depth) (state reader.old)) }
+    ensures keeps { OnOk result (Keeps reader.old reader.new) }
+    ensures takes { OnOk result (length reader.new.rest.now < length reader.old.rest.now) }
+{
+    let t = tri!(reader.read_substitution());
+    read_type_args(reader, depth, t)
+}
+
+// Reads the arguments of a type, if there are any.
+#[cycle(reader)]
+fn read_type_args(reader: &mut Reader, depth: usize, t: u32) -> Result<u32, Stop>
+    requires t { IsNode reader.old.tables t }
+    ensures reads { Gives result reader.new (spec.parse_type_args (spec.parse_arg depth) (stands reader.old.tables t)
+        (state reader.old)) }
+    ensures keeps { OnOk result (Keeps reader.old reader.new) }
+{
+    if !begins(reader.rest, b'I') {
+        return Ok(t);
+    }
+    let args = tri!(read_args(reader, depth));
+    reader.make_saved(Node::Plain(Plain::WithArgs(t, args)))
+}
+
+// Reads `<class-enum-type> ::= <name>`, and saves it.
+#[cycle(reader)]
+fn read_class(reader: &mut Reader, depth: usize) -> Result<u32, Stop>
+    ensures reads { Gives result reader.new (spec.parse_class (spec.parse_name depth) (state reader.old)) }
+    ensures keeps { OnOk result (Keeps reader.old reader.new) }
+    ensures takes { OnOk result (length reader.new.rest.now < length reader.old.rest.now) }
+{
+    let name = tri!(read_name(reader, depth));
+    tri!(reader.tables.save(name.node));
+    Ok(name.node)
+}
