@@ -4,7 +4,7 @@ use Rattle.std.specs.Prelude.{option_map, IsUtf8}
 use Rattle.std.specs.Str.{is_utf8}
 use Rattle.std.proofs.lemmas.Str.{IsUtf8-from_is_utf8, is_utf8-from_IsUtf8}
 use Rattle.std.proofs.lemmas.Bool.{false≢true, ne_eqb}
-use Rattle.itanium_syntax.specs.Symbol.{after_prefix}
+use Rattle.abi_scalars.specs.Symbol.{after_prefix}
 use Rattle.symfilter_engine.specs.Filtered.{IsLineAnswer, answered, unanswered, not_utf8}
 use Rattle.symfilter_engine.specs.Printed.{IsPrintedAs}
 use Rattle.symfilter_engine.proofs.Printed.{not_printed}

@@ -5,7 +5,7 @@ use Rattle.std.proofs.Common.{refl, sym, ap, subst, ◌∙◌, arith}
 use Rattle.std.specs.Prelude.{is_some, nat_lt}
 use Rattle.std.proofs.lemmas.Bool.{false≢true, and_parts, and_from, and_right, or_cases, or_left, or_parts, or_right, eqb-true, ltb-false, cases_Bool, false_from_ne_true}
 use Rattle.std.proofs.lemmas.List.{length-drop, drop-append-le}
-use Rattle.itanium_syntax.specs.Bytes.{begins, begins_one_of}
+use Rattle.abi_scalars.specs.Bytes.{begins, begins_one_of}
 use Rattle.symfilter_engine.specs.Replaced.{prefix_chars_len, past_prefix_chars, symbol_at, symbol_in, may_hold_symbol}
 
 -- bytes that begin with a word are as long

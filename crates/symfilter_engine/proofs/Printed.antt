@@ -1,7 +1,7 @@
 -- What is printed for a symbol.
 use Rattle.std.proofs.Common.{◌≡◌, ℕ, List, Bool, true, false, Option, None, sym, ◌∙◌}
 use Rattle.itanium_grammar.specs.Answer.{IsAnswerOf}
-use Rattle.itanium_syntax.specs.Symbol.{after_prefix}
+use Rattle.abi_scalars.specs.Symbol.{after_prefix}
 use Rattle.itanium_demangle.proofs.Answered.{each_answered, each_signed}
 use Rattle.symfilter_engine.specs.Printed.{IsPrintedAs, name_printed, signature_printed}
 use Rattle.symfilter_engine.specs.declared.symbols.Printing.{Printing}

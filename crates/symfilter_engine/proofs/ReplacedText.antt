@@ -7,7 +7,7 @@ use Rattle.std.proofs.lemmas.List.Elements.{All-nil, All-cons, All-head, All-tai
 use Rattle.std.proofs.lemmas.Bool.{false≢true, and_parts, eqb-true, cases_lt, false_from_ne_true}
 use Rattle.std.proofs.Math.Seq.{take-add}
 use Rattle.std.specs.Prelude.{All}
-use Rattle.itanium_syntax.specs.Bytes.{is, begins}
+use Rattle.abi_scalars.specs.Bytes.{is, begins}
 use Rattle.symfilter_engine.specs.Printed.{IsPrintedAs}
 use Rattle.symfilter_engine.proofs.Printed.{each_printed}
 use Rattle.symfilter_engine.specs.Replaced.{is_word_byte, IsWordByte, begins_word, ends_word, IsDot, ends_in_dot, prefix_chars_len, prefix_chars}

@@ -8,7 +8,7 @@ use Rattle.std.proofs.lemmas.List.Elements.{All-cons, All-get_or, All-from_get_o
 use Rattle.std.proofs.lemmas.Bool.{false≢true, and_parts, or_cases, eqb-true, leb-true, cases_lt, cases_Bool}
 use Rattle.std.proofs.lemmas.Str.{IsUtf8-from_ascii}
 use Rattle.std.specs.Prelude.{All, IsUtf8}
-use Rattle.itanium_syntax.specs.Bytes.{is, is_between, is_digit, one_of, begins}
+use Rattle.abi_scalars.specs.Bytes.{is, is_between, is_digit, one_of, begins}
 use Rattle.symfilter_engine.specs.Replaced.{is_word_byte, IsWordByte, IsDot, ends_in_dot, prefix_chars_len, past_prefix_chars, symbol_in, IsWordAnswer, IsReplaced, no_byte, one_word}
 use Rattle.symfilter_engine.specs.Progress.{underscore, capital_z, HasNone, IsFirst, HasPrefixNowhere, IsFirstPrefix, AreWordBytes, IsBoundary, Extends, AppendsReplaced}
 use Rattle.symfilter_engine.proofs.ReplacedText.{no_prefix-left, more_replaced, unprefixed}

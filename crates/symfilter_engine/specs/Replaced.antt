@@ -1,6 +1,6 @@
 -- The replaced text of a list of bytes: symbols in words are replaced by what is printed for them.
 use Rattle.std.specs.Prelude.{◌≡◌, ◌≢◌, ℕ, List, [], ◌∷◌, ◌++◌, All, Bool, false, ◌&&◌, ◌||◌, Option, Some, None, IsTrue, is_some, nat_lt, codes, length, take, drop, if◌then◌else◌}
-use Rattle.itanium_syntax.specs.Bytes.{is, is_between, is_digit, one_of, begins, begins_one_of}
+use Rattle.abi_scalars.specs.Bytes.{is, is_between, is_digit, one_of, begins, begins_one_of}
 use Rattle.symfilter_engine.specs.declared.symbols.ReplaceOptions.{ReplaceOptions}
 use Rattle.symfilter_engine.specs.Printed.{IsPrintedAs}
 
