@@ -106,3 +106,9 @@ pub record KeepsFront (old new : Reader) : Type 0 where
   pub front : take (length old.tables.pending) new.tables.pending ≡ old.tables.pending
   pub long : length old.tables.pending ≤ length new.tables.pending
   pub within : length new.rest.now ≤ length old.rest.now
+
+-- the same of a count
+abbrev pub GivesCount : Result (Unit {0}) Stop → Reader → Option grammar.State → Type 0
+GivesCount (Ok u) after counted = counted ≡ Some (state after)
+GivesCount (Err Unreadable) after counted = counted ≡ None
+GivesCount (Err Memory) after counted = ⊥

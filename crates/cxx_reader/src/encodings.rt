@@ -10,6 +10,7 @@ ghost use Rattle.cxx_reader.specs.Table.{IsNode, stands};
 ghost use Rattle.cxx_reader.specs.Outcome.{state, Keeps, KeepsFront, Gives, GivesOption, GivesFrom, IsNamed, named_at, info_at};
 
 use crate::cases::is_encoding_end;
+use crate::names::read_name;
 use crate::reader::{Info, Named, Reader};
 use crate::stop::Stop;
 use crate::types::read_type;
@@ -106,4 +107,18 @@ impl<'a> Reader<'a> {
         self.tables
             .make_function(ret, name.node, from, info.cv, info.ref_qual)
     }
+}
+
+/// Reads `<encoding>`. At most `depth` counted productions may nest, this one included.
+pub fn read_encoding(reader: &mut Reader, depth: usize) -> Result<u32, Stop>
+    ensures reads { Gives result reader.new (spec.parse_encoding depth (state reader.old)) }
+    ensures keeps { OnOk result (Keeps reader.old reader.new) }
+{
+    if depth == 0 {
+        return Err(Stop::Unreadable);
+    }
+    let depth = depth - 1;
+    let name = tri!(read_name(reader, depth));
+    let t = tri!(read_signature(reader, depth, name));
+    reader.bind(name, t)
 }

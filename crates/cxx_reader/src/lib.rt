@@ -13,6 +13,7 @@ macro_rules! tri {
 
 mod args;
 mod bases;
+mod binds;
 mod cases;
 mod encodings;
 mod literals;
@@ -24,6 +25,7 @@ mod tables;
 mod types;
 mod words;
 
+pub use crate::encodings::read_encoding;
 pub use crate::reader::Reader;
 pub use crate::stop::Stop;
 pub use crate::tables::Tables;

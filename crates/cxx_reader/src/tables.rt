@@ -1,12 +1,15 @@
 //! Nodes, those that are saved, and those of lists that are read.
 #![tactic(auto, using(crate::proofs::Kept::tables), unfolding(crate::specs::Table::stands, crate::specs::Table::saved_trees, cxx_tree::specs::Stored::tree_of, cxx_tree::specs::Stored::plain_tree, cxx_tree::specs::Stored::IsBelow, cxx_tree::specs::Stored::IsPlainBelow))]
 
-ghost use Rattle.std.specs.Prelude.{◌≡◌, ℕ, ◌<◌, ◌≤◌, List, [], ◌∷◌, ◌++◌, length, codes, map, drop, take, IfOk, OnOk, OnErr, IsOkUnless, IfSome, None, MatchOption, option_map, slice_get};
+ghost use Rattle.std.specs.Prelude.{◌≡◌, ℕ, ◌+◌, ◌<◌, ◌≤◌, List, [], ◌∷◌, ◌++◌, length, codes, map, drop, take, IfOk, OnOk, OnErr, IsOkUnless, IfSome, None, MatchOption, option_map, slice_get};
 ghost use Rattle.cxx_tree.specs.Tree.{named, leaf};
 ghost use Rattle.cxx_tree.specs.Rows as rows;
 ghost use Rattle.cxx_tree.specs.declared.kinds.Prec.TheVariants.{Primary};
 ghost use Rattle.cxx_tree.specs.Grows.{Grows};
 ghost use Rattle.cxx_tree.specs.Stored.{forest, size, tree_of, trees_from_list, list_at, IsBelow, IsText, IsRange, IsListBelow, text_at};
+ghost use Rattle.cxx_tree.specs.Bind.{bind};
+ghost use Rattle.cxx_tree.specs.Measure.{measure};
+ghost use Rattle.cxx_grammar.specs.Binds.{binding_of};
 ghost use Rattle.cxx_grammar.specs.Leaves as leaves;
 ghost use Rattle.cxx_reader.specs.declared.stop.Stop.TheVariants.{Memory};
 ghost use Rattle.cxx_reader.specs.Table.{IsNode, MakesIn, Stays, stands, saved_trees, taken};
@@ -14,6 +17,7 @@ ghost use Rattle.cxx_reader.specs.Table.{IsNode, MakesIn, Stays, stands, saved_t
 use crate::made::{function, integer, name, typed_number};
 use crate::stop::{Stop, stopped};
 use cxx_nodes::{ctor_dtor, prefixed};
+use cxx_tree::bind::{Binding, Rest, bind};
 use cxx_tree::{Arena, Cv, List, Node, Plain, Prec, RefQual, Text};
 use std::alloc::Global;
 use std::marker::Model;
@@ -216,6 +220,30 @@ impl Tables {
         let made = function(&mut self.arena, ret, n, params, cv, ref_qual);
         self.pending.truncate(from);
         stopped(made)
+    }
+
+    /// Binds a node: the nodes from `from` on of the lists that are read stand for its template parameters.
+    pub fn bind(&mut self, alloc: Global, from: usize, i: u32) -> Result<u32, Stop>
+        requires node { IsNode self.old i }
+        requires within { from ≤ length self.old.pending }
+        ensures makes { MakesIn result self.old self.new (bind (binding_of (map (stands self.old)
+            (drop from self.old.pending))) (stands self.old i)) }
+        ensures few { size self.new.store ≤ size self.old.store + (measure (stands self.old i)).params }
+    {
+        let binding = Binding {
+            level: 0,
+            names: nodes_from(&self.pending, from),
+            rest: Rest::Keep,
+        };
+        stopped(bind(&mut self.arena, alloc, &binding, i))
+    }
+
+    /// Keeps the first nodes of the lists that are read.
+    pub fn truncate(&mut self, from: usize)
+        requires within { from ≤ length self.old.pending }
+        ensures taken { self.new ≡ taken from self.old }
+    {
+        self.pending.truncate(from);
     }
 
     /// Completes the list whose nodes stand from `from` on.

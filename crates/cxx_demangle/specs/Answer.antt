@@ -1,0 +1,62 @@
+-- What a symbol's answer is.
+use Rattle.std.specs.Prelude.{◌≡◌, ℕ, ◌≤◌, List, [], length, Option, Some, None, false}
+use Rattle.std.specs.Str.{IsUtf8}
+use Rattle.abi_scalars.specs.Symbol.{after_prefix}
+use Rattle.cxx_tree.specs.Tree.{Tree}
+use Rattle.cxx_printer.specs.Symbol.{symbol_text}
+use Rattle.cxx_grammar.specs.State.{State}
+use Rattle.cxx_grammar.specs.Grammar.{Encoding}
+use Rattle.cxx_demangle.specs.declared.demangler.Printing.{Printing}
+
+-- the most counted productions that may nest
+abbrev pub max_depth : ℕ
+max_depth = 512
+
+-- the most bytes of an answer
+abbrev pub max_text : ℕ
+max_text = 1048576
+
+-- all bytes are left, and nothing is saved
+abbrev pub start : List ℕ → State
+start bytes = record { rest = bytes; saved = []; replaced = 0 }
+
+-- an encoding, within the limits, that is all of the bytes
+pub record IsWhole (bytes : List ℕ) (t : Tree) : Type 0 where
+  pub end : State
+  pub reading : Encoding max_depth (start bytes) t end
+  pub all : end.rest ≡ []
+
+-- the grammar reads the whole symbol as the tree, within the limits
+pub record Reads (symbol : List ℕ) (t : Tree) : Type 0 where
+  pub inside : List ℕ
+  pub prefix : after_prefix symbol ≡ Some inside
+  pub encoding : IsWhole inside t
+
+-- what a tree prints
+abbrev pub text_of : Printing → Tree → List ℕ
+text_of p t = symbol_text p.mode p.style (record { tree = t; is_block = false; suffix = None })
+
+-- a text that may be an answer
+pub record IsText (text : List ℕ) : Type 0 where
+  pub short : length text ≤ max_text
+  pub utf8 : IsUtf8 text
+
+-- the answer is the printing of a tree that the symbol is read as
+pub record HasAnswer (printing : Printing) (symbol answer : List ℕ) : Type 0 where
+  pub tree : Tree
+  pub reads : Reads symbol tree
+  pub is : answer ≡ text_of printing tree
+  pub text : IsText answer
+
+-- no tree that the symbol is read as has a printing that may be an answer
+abbrev pub HasNoAnswer : Printing → List ℕ → Type 0
+HasNoAnswer printing symbol = (tree : Tree) → Reads symbol tree → IsText (text_of printing tree) → ⊥
+
+-- the answer of a symbol, or None
+abbrev pub IsAnswer : Printing → List ℕ → Option (List ℕ) → Type 0
+IsAnswer printing symbol (Some answer) = HasAnswer printing symbol answer
+IsAnswer printing symbol None = HasNoAnswer printing symbol
+
+-- the symbol is read as one tree at most
+pub record HasAtMostOneReading (symbol : List ℕ) : Type 0 where
+  pub agree : (t u : Tree) → Reads symbol t → Reads symbol u → t ≡ u

@@ -1,0 +1,32 @@
+-- What a demangler keeps between calls.
+use Rattle.std.specs.Prelude.{ℕ, List, Bool, true, false, Option, Some, None, Result, Ok, Err}
+use Rattle.std.specs.Str.{IsUtf8}
+use Rattle.std.specs.declared.alloc.AllocError.{AllocError}
+use Rattle.cxx_tree.specs.Tree.{Tree}
+use Rattle.cxx_reader.specs.Table.{Table, IsNode, stands}
+use Rattle.cxx_demangle.specs.declared.demangler.Demangler.TheInside.{Inside}
+use Rattle.cxx_demangle.specs.Answer.{IsWhole}
+
+-- the answer to the last symbol, if there is one
+abbrev pub answer_of : Bool → List ℕ → Option (List ℕ)
+answer_of true text = Some text
+answer_of false text = None
+
+-- what the fields mean
+abbrev pub last_answer : Inside → Option (List ℕ)
+last_answer d = answer_of d.is_answered d.text
+
+-- a text, where there is one, is UTF-8
+abbrev pub IsOptionUtf8 : Option (List ℕ) → Type 0
+IsOptionUtf8 (Some text) = IsUtf8 text
+IsOptionUtf8 None = Unit {0}
+
+-- what is kept as an answer is UTF-8
+abbrev pub KeepsAnswer : Inside → Type 0
+KeepsAnswer d = IsOptionUtf8 (last_answer d)
+
+-- the node of the encoding that all of the bytes are read as; or there is no such encoding
+abbrev pub GivesWhole : Result (Option ℕ) AllocError → Table → List ℕ → Type 0
+GivesWhole (Ok (Some i)) after bytes = IsNode after i × IsWhole bytes (stands after i)
+GivesWhole (Ok None) after bytes = (t : Tree) → IsWhole bytes t → ⊥
+GivesWhole (Err e) after bytes = Unit {0}

@@ -1,0 +1,194 @@
+//! `Demangler`, which demangles symbol after symbol.
+ghost use Rattle.std.specs.Prelude.{◌≡◌, ℕ, ◌<◌, ◌≤◌, List, IfOk, OnOk, OnErr, MatchResult, ⊤, option_map, is_some, true, false, Option, Ok, Some, None};
+ghost use Rattle.std.specs.Borrow.{sem};
+ghost use Rattle.std.specs.Str.{IsUtf8};
+ghost use Rattle.abi_scalars.specs.Symbol as symbols;
+ghost use Rattle.cxx_reader.specs.Table.{IsNode, stands};
+ghost use Rattle.cxx_demangle.specs.Answer.{IsAnswer, HasAtMostOneReading, IsText, text_of};
+ghost use Rattle.cxx_demangle.specs.Demangler.{GivesWhole};
+
+use abi_scalars::symbol::after_prefix;
+use cxx_printer::{Mode, Style, Symbol, print_symbol};
+use cxx_reader::{Reader, Stop, Tables, read_encoding};
+use growing_text::Text;
+use std::alloc::{AllocError, Global};
+use std::fmt::{self, Debug, Formatter, Write};
+use std::marker::Model;
+use std::mem::replace;
+use std::str::{from_utf8, from_utf8_unchecked};
+
+/// The most counted productions that may nest in a symbol. The counted productions are encodings, names, types,
+/// qualified types and template arguments.
+pub const MAX_DEPTH: usize = 512;
+
+/// The most bytes of an answer.
+pub const MAX_TEXT: usize = 1_048_576;
+
+/// What is printed of a symbol.
+#[derive(Clone, Copy, PartialEq)]
+pub struct Printing {
+    /// What of a function is printed.
+    pub mode: Mode,
+    /// Whose texts are printed.
+    pub style: Style,
+}
+
+/// Demangles symbol after symbol in the same memory, and keeps the last answer.
+#[derive(Drop)]
+pub struct Demangler {
+    // Whether the last symbol had an answer, which is the text.
+    is_answered: bool,
+    text: Text,
+    // Where symbols are read. Its memory stays.
+    tables: Tables,
+}
+
+impl Model for Demangler {
+    ghost use Rattle.cxx_demangle.specs.Demangler.{last_answer, KeepsAnswer};
+
+    ghost Value = { Option (List ℕ) };
+
+    ghost view = { last_answer };
+
+    ghost invariant = { KeepsAnswer };
+}
+
+// Reads all of the bytes as an encoding. Returns its node, or `None` if there is no such encoding within the limits.
+fn read(tables: &mut Tables, alloc: Global, bytes: &[u8]) -> Result<Option<u32>, AllocError>
+    ensures gives { GivesWhole result tables.new bytes.now }
+{
+    let mut cleared = replace(tables, Tables::new(alloc));
+    cleared.clear();
+    let mut reader = Reader {
+        rest: bytes,
+        tables: cleared,
+        replaced: 0,
+        alloc,
+    };
+    let read = read_encoding(&mut reader, MAX_DEPTH);
+    let is_whole = reader.rest.is_empty();
+    *tables = reader.tables;
+    match read {
+        Ok(tree) if is_whole => Ok(Some(tree)),
+        Ok(_) => Ok(None),
+        Err(Stop::Unreadable) => Ok(None),
+        Err(Stop::Memory) => Err(AllocError),
+    }
+}
+
+// Makes the text the printing of a tree.
+fn print(
+    tables: &Tables,
+    tree: u32,
+    printing: Printing,
+    text: &mut Text,
+) -> Result<(), AllocError>
+    requires within { IsNode tables.now tree }
+    ensures text { OnOk result (text.new ≡ text_of printing (stands tables.now tree)) }
+{
+    text.clear();
+    let symbol = Symbol {
+        tree,
+        is_block: false,
+        suffix: None,
+    };
+    print_symbol(tables.arena(), symbol, printing.mode, printing.style, text)
+}
+
+// Returns whether a text may be an answer.
+fn is_answer(text: &[u8]) -> bool
+    ensures yes { result ≡ true → IsText text.now }
+    ensures no { result ≡ false → ¬ (IsText text.now) }
+{
+    text.len() <= MAX_TEXT && from_utf8(text).is_ok()
+}
+
+impl Demangler {
+    ghost use mathlib.Core.Option.{none};
+    ghost use denote.Follow.{follows_so};
+    ghost use Rattle.cxx_demangle.specs.contracts.demangler.Demangler.{the_row};
+
+    /// Returns a value that has read no symbol. Allocates nothing.
+    pub fn new(alloc: Global) -> Self
+        ensures empty { result ≡ None }
+    {
+        Demangler {
+            is_answered: false,
+            text: Text::new(alloc),
+            tables: Tables::new(alloc),
+        }
+    }
+
+    /// Reads a symbol and keeps what is printed of it, which `text` returns afterwards. Returns `true` if the symbol
+    /// has an answer.
+    ///
+    /// The symbol may be any text. It is read as an encoding after the prefix `_Z` or `__Z` (Itanium C++ ABI 5.1.2).
+    ///
+    /// A symbol has no answer in three cases. The grammar doesn't read all of it within the limits: at most `MAX_DEPTH`
+    /// counted productions nest, no tree is higher than 1,024, none has a work above 1,048,576, and at most 65,536
+    /// nodes are replaced. Or what is printed has more than `MAX_TEXT` bytes, or it isn't UTF-8.
+    ///
+    /// Returns an error if an allocation fails. Then the value has no answer, and it can be used again.
+    pub fn prepare(
+        &mut self,
+        alloc: Global,
+        symbol: &str,
+        printing: Printing,
+    ) -> Result<bool, AllocError>
+        ensures answer { IfOk result (λ _. IsAnswer printing symbol.now self.new) }
+        ensures found { IfOk result (λ found. found ≡ is_some self.new) }
+        ensures one { HasAtMostOneReading symbol.now }
+        ensures no_prefix { symbols.after_prefix symbol.now ≡ None → (result ≡ Ok false) × (self.new ≡ None) }
+        ensures err { OnErr result (self.new ≡ None) }
+    {
+        self.is_answered = false;
+        let Some(bytes) = after_prefix(symbol.as_bytes()) else {
+            return Ok(false);
+        };
+        let Some(tree) = read(&mut self.tables, alloc, bytes)? else {
+            return Ok(false);
+        };
+        print(&self.tables, tree, printing, &mut self.text)?;
+        let is_answered = is_answer(self.text.as_slice());
+        self.is_answered = is_answered;
+        Ok(is_answered)
+    }
+
+    /// Returns the answer to the last symbol, borrowed until the next call. Returns `None` if that symbol had none,
+    /// after an error, and before the first symbol.
+    pub fn text(&self) -> Option<&str>
+        ensures value { option_map (λ text. text.now) result ≡ self.now }
+    {
+        if !self.is_answered {
+            return None;
+        }
+        Some(unsafe { from_utf8_unchecked(self.text.as_slice()) })
+    }
+
+    /// Returns what is printed of a symbol, borrowed until the next call, or `None` if it has no answer, as `prepare`
+    /// says. The value keeps the answer for `text`. Returns an error if an allocation fails; then the value keeps
+    /// nothing.
+    pub fn demangle<'a>(
+        &'a mut self,
+        alloc: Global,
+        symbol: &'a str,
+        printing: Printing,
+    ) -> Result<Option<&'a str>, AllocError>
+        ensures answer { IfOk result (λ found. IsAnswer printing symbol.now (option_map (λ text. text.now) found)) }
+        ensures no_prefix { symbols.after_prefix symbol.now ≡ None → result ≡ Ok None }
+        // `last` is the value after the borrow. It keeps the text that was returned, and nothing after an error.
+        ensures* kept { sem 𝓛 (follows_so the_row the_row self.entry.ghost_name none (λ _ _. ⊤)
+            (λ last. MatchResult result
+            (λ found. last ≡ option_map (λ text. text.now) found)
+            (λ _. last ≡ None))) }
+    {
+        self.prepare(alloc, symbol, printing)?;
+        Ok(self.text())
+    }
+}
+
+impl Debug for Demangler {
+    fn fmt<W: Write>(&self, f: &mut Formatter<W>) -> fmt::Result {
+        f.write_str("Demangler")
+    }
+}

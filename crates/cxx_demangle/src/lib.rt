@@ -1,0 +1,10 @@
+//! Demangles C++ symbols of the Itanium C++ ABI as declarations, as LLVM and `c++filt` print them.
+//!
+//! `Demangler` reads the bytes of a symbol as a tree (`cxx_reader`), and prints it (`cxx_printer`). Its answer is the
+//! printing of the one tree that the grammar reads (`cxx_grammar`).
+#![tactic(auto)]
+
+mod demangler;
+
+pub use crate::demangler::{Demangler, MAX_DEPTH, MAX_TEXT, Printing};
+pub use cxx_printer::{Mode, Style};

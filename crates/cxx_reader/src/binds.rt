@@ -1,0 +1,150 @@
+//! What becomes of the template parameters of an encoding.
+#![tactic(auto, using(crate::proofs::Rules::productions), unfolding(crate::specs::Table::stands, crate::specs::Outcome::named_at, crate::specs::Outcome::list_trees, cxx_tree::specs::Counts::Row))]
+
+ghost use Rattle.std.specs.Prelude.{◌≡◌, ℕ, ◌<◌, ◌≤◌, [], length, map, drop, take, OnOk, IfSome, option_map, Option};
+ghost use Rattle.cxx_tree.specs.Grows.{Grows};
+ghost use Rattle.cxx_tree.specs.Bind.{bind};
+ghost use Rattle.cxx_tree.specs.Stored.{forest, size, trees_in, trees_from_list, IsListBelow};
+ghost use Rattle.cxx_grammar.specs.State as grammar;
+ghost use Rattle.cxx_grammar.specs.Bases as bases;
+ghost use Rattle.cxx_grammar.specs.Binds as spec;
+ghost use Rattle.cxx_reader.specs.Table.{IsNode, stands};
+ghost use Rattle.cxx_reader.specs.Outcome.{state, Keeps, KeepsFront, Gives, GivesFrom, GivesCount, IsNamed, named_at, list_trees};
+
+use crate::bases::args_of;
+use crate::reader::{Named, Reader};
+use crate::stop::Stop;
+use cxx_tree::List;
+
+// The most nodes of a symbol that may be replaced.
+const MAX_REPLACED: usize = 65_536;
+
+impl<'a> Reader<'a> {
+    // Counts the nodes of a tree that are or contain a template parameter.
+    fn count_replaced(&mut self, i: u32) -> Result<(), Stop>
+        requires node { IsNode self.old.tables i }
+        ensures reads { GivesCount result self.new (spec.count_replaced (stands self.old.tables i) (state self.old)) }
+        ensures tables { self.new.tables ≡ self.old.tables }
+        ensures rest { self.new.rest.now ≡ self.old.rest.now }
+    {
+        let params = self.tables.arena().measure(i).params as usize;
+        if self.replaced.saturating_add(params) > MAX_REPLACED {
+            return Err(Stop::Unreadable);
+        }
+        self.replaced += params;
+        Ok(())
+    }
+
+    // Binds a node: the nodes from `from` on of the list that is read stand for its template parameters.
+    fn bind_one(&mut self, from: usize, i: u32) -> Result<u32, Stop>
+        requires node { IsNode self.old.tables i }
+        requires within { from ≤ length self.old.tables.pending }
+        ensures reads { Gives result self.new (grammar.make (bind (spec.binding_of (map (stands self.old.tables)
+            (drop from self.old.tables.pending))) (stands self.old.tables i)) (state self.old)) }
+        ensures keeps { OnOk result (Keeps self.old self.new) }
+        ensures rest { self.new.rest.now ≡ self.old.rest.now }
+    {
+        self.tables.bind(self.alloc, from, i)
+    }
+
+    // Binds an argument.
+    fn bind_arg(&mut self, is_inherited: bool, from: usize, i: u32) -> Result<u32, Stop>
+        requires node { IsNode self.old.tables i }
+        requires within { from ≤ length self.old.tables.pending }
+        ensures reads { Gives result self.new (spec.bind_arg is_inherited (map (stands self.old.tables)
+            (drop from self.old.tables.pending)) (stands self.old.tables i) (state self.old)) }
+        ensures keeps { OnOk result (Keeps self.old self.new) }
+        ensures rest { self.new.rest.now ≡ self.old.rest.now }
+    {
+        if is_inherited {
+            tri!(self.count_replaced(i));
+        }
+        self.bind_one(from, i)
+    }
+
+    // Binds arguments, each with those before it in the place of its template parameters. Appends them to the list
+    // that is read.
+    fn bind_args(&mut self, is_inherited: bool, args: List) -> Result<(), Stop>
+        requires args { IsListBelow self.old.tables.store.held (size self.old.tables.store) args }
+        ensures reads { GivesFrom result (length self.old.tables.pending) self.new (spec.bind_args is_inherited []
+            (trees_from_list (list_trees self.old.tables args)) (state self.old)) }
+        ensures keeps { OnOk result (KeepsFront self.old self.new) }
+        ensures rest { self.new.rest.now ≡ self.old.rest.now }
+    {
+        let from = self.tables.pending_len();
+        let len = self.tables.arena().items(args).len();
+        for k in 0..len {
+            let arg = self.tables.arena().items(args)[k];
+            let bound = tri!(self.bind_arg(is_inherited, from, arg));
+            tri!(self.tables.add(bound));
+        }
+        Ok(())
+    }
+
+    // Returns the arguments of the name after `CI`, unless the name ends with its own.
+    fn inherited_args(&self, name: Named) -> Option<List>
+        requires named { IsNamed self.now.tables name }
+        ensures value { option_map (λ l. trees_from_list (list_trees self.now.tables l)) result
+            ≡ spec.inherited_args (named_at self.now.tables name) }
+        ensures below { IfSome result (IsListBelow self.now.tables.store.held (size self.now.tables.store)) }
+    {
+        if name.info.ends_with_args {
+            return None;
+        }
+        match name.info.inherited {
+            Some(from) => args_of(self.tables.arena(), from),
+            None => None,
+        }
+    }
+
+    // Binds the arguments of an encoding, if its name has some.
+    fn bind_arguments(&mut self, name: Named) -> Result<(), Stop>
+        requires named { IsNamed self.old.tables name }
+        ensures reads { GivesFrom result (length self.old.tables.pending) self.new (spec.bind_first
+            (spec.inherited_args (named_at self.old.tables name)) (bases.args_of (stands self.old.tables name.node))
+            (state self.old)) }
+        ensures keeps { OnOk result (KeepsFront self.old self.new) }
+        ensures rest { self.new.rest.now ≡ self.old.rest.now }
+    {
+        if let Some(args) = self.inherited_args(name) {
+            return self.bind_args(true, args);
+        }
+        match args_of(self.tables.arena(), name.node) {
+            Some(args) => self.bind_args(false, args),
+            None => Ok(()),
+        }
+    }
+
+    // Binds the tree of an encoding to the nodes from `from` on, which leave the list that is read.
+    fn bind_tree(&mut self, from: usize, i: u32) -> Result<u32, Stop>
+        requires node { IsNode self.old.tables i }
+        requires within { from ≤ length self.old.tables.pending }
+        ensures reads { Gives result self.new (spec.bind_tree (map (stands self.old.tables)
+            (drop from self.old.tables.pending)) (stands self.old.tables i) (state self.old)) }
+        ensures grows { OnOk result (Grows self.old.tables.store self.new.tables.store) }
+        ensures pending { OnOk result (self.new.tables.pending ≡ take from self.old.tables.pending) }
+        ensures rest { self.new.rest.now ≡ self.old.rest.now }
+    {
+        let bound = tri!(self.bind_one(from, i));
+        self.tables.truncate(from);
+        if self.tables.arena().measure(bound).params > 0 {
+            return Err(Stop::Unreadable);
+        }
+        Ok(bound)
+    }
+
+    /// Puts the arguments of the name of an encoding in the place of the template parameters of its tree.
+    pub fn bind(&mut self, name: Named, i: u32) -> Result<u32, Stop>
+        requires named { IsNamed self.old.tables name }
+        requires node { IsNode self.old.tables i }
+        ensures reads { Gives result self.new (spec.bind_encoding (named_at self.old.tables name)
+            (stands self.old.tables i) (state self.old)) }
+        ensures keeps { OnOk result (Keeps self.old self.new) }
+        ensures rest { self.new.rest.now ≡ self.old.rest.now }
+    {
+        tri!(self.count_replaced(i));
+        let from = self.tables.pending_len();
+        tri!(self.bind_arguments(name));
+        self.bind_tree(from, i)
+    }
+}
