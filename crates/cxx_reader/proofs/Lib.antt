@@ -6,3 +6,4 @@ pub mod Lists
 pub mod Sound
 pub mod Takes
 pub mod Complete
+pub mod EncodingReadings
