@@ -7,3 +7,4 @@ pub mod Sound
 pub mod Takes
 pub mod Complete
 pub mod EncodingReadings
+pub mod Bound

@@ -2,7 +2,7 @@
 use Rattle.std.proofs.Common.{ℕ, ◌≡◌, ◌-◌, ◌<◌, refl, zero, suc, arith, None}
 use Rattle.cxx_grammar.specs.State.{State}
 use Rattle.cxx_grammar.specs.Cases.{case_of_name, case_of_type, case_of_arg}
-use Rattle.cxx_reader.specs.Parser.{parse_name, parse_arg, parse_type, parse_qualified, name_as, arg_as, type_as, qualified_as}
+use Rattle.cxx_reader.specs.Parser.{parse_name, parse_arg, parse_type, parse_qualified, name_as, arg_as, type_as, qualified_as, parse_encoding, encoding_as}
 
 pub name_opens : (d : ℕ) (s : State) → 0 < d → parse_name d s ≡ name_as (case_of_name s.rest) (parse_arg (d - 1)) (parse_name (d - 1)) s
 unfolding parse_name
@@ -40,4 +40,13 @@ pub no_qualified : (s : State) → parse_qualified 0 s ≡ None
 unfolding parse_name
 no_qualified s = refl
 
-pub ruleset opens = (name_opens, no_name, arg_opens, no_arg, type_opens, no_type, qualified_opens, no_qualified)
+pub encoding_opens : (d : ℕ) (s : State) → 0 < d → parse_encoding d s ≡ encoding_as (parse_name (d - 1)) (parse_type (d - 1)) s
+unfolding parse_encoding
+encoding_opens zero s h = absurd (omega arith)
+encoding_opens (suc d) s h = let less : suc d - 1 ≡ d = omega arith in rw less refl
+
+pub no_encoding : (s : State) → parse_encoding 0 s ≡ None
+unfolding parse_encoding
+no_encoding s = refl
+
+pub ruleset opens = (encoding_opens, no_encoding, name_opens, no_name, arg_opens, no_arg, type_opens, no_type, qualified_opens, no_qualified)

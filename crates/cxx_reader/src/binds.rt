@@ -1,5 +1,5 @@
 //! What becomes of the template parameters of an encoding.
-#![tactic(auto, using(crate::proofs::Rules::productions), unfolding(crate::specs::Table::stands, crate::specs::Outcome::named_at, crate::specs::Outcome::list_trees, cxx_tree::specs::Counts::Row))]
+#![tactic(auto, using(crate::proofs::Rules::productions), unfolding(crate::specs::Table::stands, crate::specs::Table::saved_trees, crate::specs::Outcome::named_at, crate::specs::Outcome::list_trees, cxx_tree::specs::Counts::Row))]
 
 ghost use Rattle.std.specs.Prelude.{◌≡◌, ℕ, ◌<◌, ◌≤◌, [], length, map, drop, take, OnOk, IfSome, option_map, Option};
 ghost use Rattle.cxx_tree.specs.Grows.{Grows};
@@ -74,7 +74,7 @@ impl<'a> Reader<'a> {
         let from = self.tables.pending_len();
         let len = self.tables.arena().items(args).len();
         for k in 0..len {
-            let arg = self.tables.arena().items(args)[k];
+            let arg = self.tables.item(args, k);
             let bound = tri!(self.bind_arg(is_inherited, from, arg));
             tri!(self.tables.add(bound));
         }
@@ -115,6 +115,17 @@ impl<'a> Reader<'a> {
         }
     }
 
+    // Refuses a node whose tree holds a template parameter.
+    fn closed(&self, i: u32) -> Result<u32, Stop>
+        requires node { IsNode self.now.tables i }
+        ensures reads { Gives result self.now (spec.closed (stands self.now.tables i) (state self.now)) }
+    {
+        if !self.tables.is_closed(i) {
+            return Err(Stop::Unreadable);
+        }
+        Ok(i)
+    }
+
     // Binds the tree of an encoding to the nodes from `from` on, which leave the list that is read.
     fn bind_tree(&mut self, from: usize, i: u32) -> Result<u32, Stop>
         requires node { IsNode self.old.tables i }
@@ -127,10 +138,7 @@ impl<'a> Reader<'a> {
     {
         let bound = tri!(self.bind_one(from, i));
         self.tables.truncate(from);
-        if self.tables.arena().measure(bound).params > 0 {
-            return Err(Stop::Unreadable);
-        }
-        Ok(bound)
+        self.closed(bound)
     }
 
     /// Puts the arguments of the name of an encoding in the place of the template parameters of its tree.

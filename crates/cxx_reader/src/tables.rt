@@ -1,7 +1,7 @@
 //! Nodes, those that are saved, and those of lists that are read.
-#![tactic(auto, using(crate::proofs::Kept::tables), unfolding(crate::specs::Table::stands, crate::specs::Table::saved_trees, cxx_tree::specs::Stored::tree_of, cxx_tree::specs::Stored::plain_tree, cxx_tree::specs::Stored::IsBelow, cxx_tree::specs::Stored::IsPlainBelow))]
+#![tactic(auto, using(crate::proofs::Kept::tables), unfolding(crate::specs::Table::stands, crate::specs::Table::saved_trees, cxx_tree::specs::Stored::tree_of, cxx_tree::specs::Stored::plain_tree, cxx_tree::specs::Stored::IsBelow, cxx_tree::specs::Stored::IsPlainBelow, cxx_tree::specs::Counts::Row))]
 
-ghost use Rattle.std.specs.Prelude.{◌≡◌, ℕ, ◌+◌, ◌<◌, ◌≤◌, List, [], ◌∷◌, ◌++◌, length, codes, map, drop, take, IfOk, OnOk, OnErr, IsOkUnless, IfSome, None, MatchOption, option_map, slice_get};
+ghost use Rattle.std.specs.Prelude.{◌≡◌, ℕ, ◌+◌, ◌<◌, ◌≤◌, List, [], ◌∷◌, ◌++◌, length, codes, map, drop, take, nat_eq, IfOk, OnOk, OnErr, IsOkUnless, IfSome, None, MatchOption, option_map, slice_get};
 ghost use Rattle.cxx_tree.specs.Tree.{named, leaf};
 ghost use Rattle.cxx_tree.specs.Rows as rows;
 ghost use Rattle.cxx_tree.specs.declared.kinds.Prec.TheVariants.{Primary};
@@ -75,6 +75,25 @@ impl Tables {
         ensures value { result.now ≡ self.now.store }
     {
         &self.arena
+    }
+
+    /// Returns the node of a list at an index.
+    pub fn item(&self, list: List, k: usize) -> u32
+        requires list { IsListBelow self.now.store.held (size self.now.store) list }
+        requires within { k < length (list_at self.now.store.held list) }
+        ensures value { drop k (list_at self.now.store.held list)
+            ≡ result ∷ drop (k + 1) (list_at self.now.store.held list) }
+        ensures node { IsNode self.now result }
+    {
+        self.arena.items(list)[k]
+    }
+
+    /// Returns whether no template parameter is in the tree of a node.
+    pub fn is_closed(&self, i: u32) -> bool
+        requires node { IsNode self.now i }
+        ensures value { result ≡ nat_eq (measure (stands self.now i)).params 0 }
+    {
+        self.arena.measure(i).params == 0
     }
 
     /// Makes a node.

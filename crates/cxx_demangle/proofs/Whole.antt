@@ -1,0 +1,57 @@
+-- The parser gives the one encoding that all of the bytes are read as.
+use Rattle.std.proofs.Common.{ℕ, ◌≡◌, ◌≢◌, List, [], ◌∷◌, ◌∙◌, refl, sym, ap, subst, Option, Some, None, Bool, true, false}
+use Rattle.std.specs.Str.{IsUtf8}
+use Rattle.abi_scalars.specs.Symbol.{after_prefix}
+use Rattle.cxx_tree.specs.Tree.{Tree}
+use Rattle.cxx_grammar.specs.State.{State}
+use Rattle.cxx_grammar.specs.Grammar.{Encoding}
+use Rattle.cxx_reader.specs.Parser.{parse_encoding}
+use Rattle.cxx_reader.proofs.EncodingReadings.{encoding_sound, encoding_complete}
+use Rattle.cxx_reader.proofs.Sound.{some_same}
+use Rattle.cxx_demangle.specs.declared.demangler.Printing.{Printing}
+use Rattle.cxx_demangle.specs.Answer.{start, max_depth, max_text, IsWhole, Reads, IsText, text_of, HasAnswer, HasNoAnswer, HasAtMostOneReading}
+
+-- all bytes are read
+pub whole_read : (bytes : List ℕ) (t : Tree) (end : State) → parse_encoding max_depth (start bytes) ≡ Some (t, end) → end.rest ≡ [] → IsWhole bytes t
+whole_read bytes t end e f = record { end = end; reading = encoding_sound max_depth (start bytes) t end e; all = f }
+
+-- what the parser gives of an encoding that is there
+parsed : {bytes : List ℕ} {u : Tree} (w : IsWhole bytes u) → parse_encoding max_depth (start bytes) ≡ Some (u, w.end)
+parsed w = encoding_complete w.reading
+
+-- nothing is read
+pub none_read : (bytes : List ℕ) → parse_encoding max_depth (start bytes) ≡ None → (u : Tree) → IsWhole bytes u → ⊥
+none_read bytes e u w = let f = parsed w in absurd cc
+
+-- some bytes aren't read
+pub some_left : (bytes : List ℕ) (t : Tree) (end : State) → parse_encoding max_depth (start bytes) ≡ Some (t, end) → end.rest ≢ [] → (u : Tree) → IsWhole bytes u → ⊥
+some_left bytes t end e f u w =
+    let g = some_same (t, end) (u, w.end) (sym e ∙ parsed w) in
+    f (ap (λ (r : Tree × State). r.1.rest) g ∙ w.all)
+
+-- one encoding at most
+pub one_whole : {bytes : List ℕ} {t u : Tree} → IsWhole bytes t → IsWhole bytes u → t ≡ u
+one_whole {t = t} {u = u} v w = ap (λ (r : Tree × State). r.0) (some_same (t, v.end) (u, w.end) (sym (parsed v) ∙ parsed w))
+
+pub whole_of : {symbol inside : List ℕ} {t : Tree} → after_prefix symbol ≡ Some inside → Reads symbol t → IsWhole inside t
+whole_of {t = t} e r = subst (λ (bytes : List ℕ). IsWhole bytes t) (some_same _ _ (sym r.prefix ∙ e)) r.encoding
+
+pub one_reading : (symbol : List ℕ) → HasAtMostOneReading symbol
+one_reading symbol = record { agree = λ (t u : Tree) (r : Reads symbol t) (s : Reads symbol u). one_whole r.encoding (whole_of r.prefix s) }
+
+-- no prefix
+pub no_prefix : (printing : Printing) (symbol : List ℕ) → after_prefix symbol ≡ None → HasNoAnswer printing symbol
+no_prefix printing symbol e t r f = let p = r.prefix in absurd cc
+
+-- no encoding
+pub no_encoding : (printing : Printing) (symbol inside : List ℕ) → after_prefix symbol ≡ Some inside → ((t : Tree) → IsWhole inside t → ⊥) → HasNoAnswer printing symbol
+no_encoding printing symbol inside e no t r f = no t (whole_of e r)
+
+-- a printing that may be an answer
+pub has_answer : (printing : Printing) (symbol inside : List ℕ) (t : Tree) (text : List ℕ) → after_prefix symbol ≡ Some inside → IsWhole inside t → text ≡ text_of printing t → IsText text → HasAnswer printing symbol text
+has_answer printing symbol inside t text e w is good = record { tree = t; reads = record { inside = inside; prefix = e; encoding = w }; is = is; text = good }
+
+-- and one that may not
+pub no_answer : (printing : Printing) (symbol inside : List ℕ) (t : Tree) (text : List ℕ) → after_prefix symbol ≡ Some inside → IsWhole inside t → text ≡ text_of printing t → ¬ (IsText text) → HasNoAnswer printing symbol
+no_answer printing symbol inside t text e w is bad u r good =
+    bad (subst IsText (ap (text_of printing) (one_whole (whole_of e r) w) ∙ sym is) good)

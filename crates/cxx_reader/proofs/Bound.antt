@@ -1,0 +1,74 @@
+-- The arguments of an encoding, one after the other.
+use Rattle.std.proofs.Common.{ℕ, ◌≡◌, ◌+◌, ◌<◌, ◌≤◌, List, [], ◌∷◌, ◌++◌, length, map, drop, take, refl, sym, ap, ◌∙◌, arith, subst, zero, suc, Option, Some, None, true, false, Bool, Result, Ok, Err}
+use Rattle.cxx_tree.specs.Tree.{Tree, no_trees, more_trees}
+use Rattle.cxx_tree.specs.Grows.{Grows}
+use Rattle.cxx_tree.specs.declared.node.List as handle
+use Rattle.cxx_tree.specs.Stored.{size, list_at, trees_from_list, IsListBelow}
+use Rattle.cxx_tree.proofs.Forest.{list_at-more}
+use Rattle.cxx_grammar.specs.State.{State, ◌>>=◌}
+use Rattle.cxx_grammar.specs.Binds.{bind_arg, bind_args}
+use Rattle.cxx_reader.specs.declared.reader.Reader.{Reader}
+use Rattle.cxx_reader.specs.declared.stop.Stop.{Stop}
+use Rattle.cxx_reader.specs.declared.stop.Stop.TheVariants.{Unreadable, Memory}
+use Rattle.cxx_reader.specs.Table.{Table, IsNode, stands}
+use Rattle.cxx_reader.specs.Outcome.{state, Gives, GivesFrom, list_trees}
+use Rattle.cxx_reader.proofs.Kept.{map-stands}
+
+-- what the arguments give, after some of them
+pub record BoundSoFar (whole : Option (List Tree × State)) (is_inherited : Bool) (bound args : List Tree) (s : State) : Type 0 where
+  pub is : whole ≡ bind_args is_inherited bound (trees_from_list args) s
+
+pub bound_start : (is_inherited : Bool) (args : List Tree) (s : State) → BoundSoFar (bind_args is_inherited [] (trees_from_list args) s) is_inherited [] args s
+bound_start is_inherited args s = record { is = refl }
+
+pub bound_end : {whole : Option (List Tree × State)} {is_inherited : Bool} {bound : List Tree} {s : State} → BoundSoFar whole is_inherited bound [] s → whole ≡ Some (bound, s)
+unfolding bind_args
+bound_end b = b.is
+
+pub bound_more : {whole : Option (List Tree × State)} {is_inherited : Bool} {bound args : List Tree} {s after : State} {a t : Tree}
+    → BoundSoFar whole is_inherited bound (a ∷ args) s → bind_arg is_inherited bound a s ≡ Some (t, after) → BoundSoFar whole is_inherited (bound ++ t ∷ []) args after
+unfolding bind_args
+bound_more b e = record { is = b.is ∙ rw e refl }
+
+bound_fail : {whole : Option (List Tree × State)} {is_inherited : Bool} {bound args : List Tree} {s : State} {a : Tree} → BoundSoFar whole is_inherited bound (a ∷ args) s → bind_arg is_inherited bound a s ≡ None → whole ≡ None
+unfolding bind_args
+bound_fail b e = b.is ∙ rw e refl
+
+-- an argument isn't bound
+pub bound_stop : (e : Stop) (from : ℕ) (after : Reader) {whole : Option (List Tree × State)} {is_inherited : Bool} {bound args : List Tree} {s : State} {a : Tree} → BoundSoFar whole is_inherited bound (a ∷ args) s
+    → Gives (Err e) after (bind_arg is_inherited bound a s) → GivesFrom (Err e) from after whole
+bound_stop Unreadable from after b f = bound_fail b f
+bound_stop Memory from after b f = tt
+
+-- the trees of a list of tables that grew
+pub list_trees-grows : (a b : Table) → Grows a.store b.store → (l : handle.List) → IsListBelow a.store.held (size a.store) l → list_trees b l ≡ list_trees a l
+unfolding list_trees
+list_trees-grows a b g l h = ap (map (stands b)) (list_at-more a.store.held b.store.held g.extends l h.0) ∙ map-stands a b g (list_at a.store.held l) h.1
+
+map-drop : {A B : Type 0} (f : A → B) (k : ℕ) (xs : List A) → map f (drop k xs) ≡ drop k (map f xs)
+map-drop f zero xs = refl
+map-drop f (suc k) [] = refl
+map-drop f (suc k) (x ∷ xs) = map-drop f k xs
+
+-- the next argument
+pub next_arg : (a b : Table) → Grows a.store b.store → (l : handle.List) → IsListBelow a.store.held (size a.store) l → (k i : ℕ)
+    → drop k (list_at b.store.held l) ≡ i ∷ drop (k + 1) (list_at b.store.held l) → drop k (list_trees a l) ≡ stands b i ∷ drop (k + 1) (list_trees a l)
+unfolding list_trees
+next_arg a b g l h k i e =
+    ap (drop k) (sym (list_trees-grows a b g l h)) ∙ sym (map-drop (stands b) k (list_at b.store.held l)) ∙ ap (map (stands b)) e
+    ∙ ap (λ (ts : List Tree). stands b i ∷ ts) (map-drop (stands b) (k + 1) (list_at b.store.held l)) ∙ ap (λ (ts : List Tree). stands b i ∷ drop (k + 1) ts) (list_trees-grows a b g l h)
+
+pub drop-all : {A : Type 0} (n : ℕ) (xs : List A) → length xs ≤ n → drop n xs ≡ []
+drop-all zero [] h = refl
+drop-all zero (x ∷ xs) h = absurd (omega (arith, h))
+drop-all (suc n) [] h = refl
+drop-all (suc n) (x ∷ xs) h = drop-all n xs (omega (arith, h))
+
+pub length-map : {A B : Type 0} (f : A → B) (xs : List A) → length (map f xs) ≡ length xs
+length-map f [] = refl
+length-map f (x ∷ xs) = ap (λ (n : ℕ). suc n) (length-map f xs)
+
+-- no argument is left
+pub no_arg : (a : Table) (l : handle.List) (n : ℕ) → length (list_at a.store.held l) ≤ n → drop n (list_trees a l) ≡ []
+unfolding list_trees
+no_arg a l n h = drop-all n (map (stands a) (list_at a.store.held l)) (omega (arith, h, length-map (stands a) (list_at a.store.held l)))
