@@ -1,5 +1,9 @@
 -- The parser gives the one encoding that all of the bytes are read as.
-use Rattle.std.proofs.Common.{ℕ, ◌≡◌, ◌≢◌, List, [], ◌∷◌, ◌∙◌, refl, sym, ap, subst, Option, Some, None, Bool, true, false}
+use Rattle.std.proofs.Common.{ℕ, ◌≡◌, ◌≢◌, List, [], ◌∷◌, ◌∙◌, refl, sym, ap, subst, arith, length, Option, Some, None, Bool, true, false, Result, Ok, Err}
+use Rattle.cxx_reader.specs.declared.reader.Reader.{Reader}
+use Rattle.cxx_reader.specs.declared.stop.Stop.{Stop}
+use Rattle.cxx_reader.specs.declared.stop.Stop.TheVariants.{Unreadable, Memory}
+use Rattle.cxx_reader.specs.Outcome.{Gives}
 use Rattle.std.specs.Str.{IsUtf8}
 use Rattle.abi_scalars.specs.Symbol.{after_prefix}
 use Rattle.cxx_tree.specs.Tree.{Tree}
@@ -9,7 +13,8 @@ use Rattle.cxx_reader.specs.Parser.{parse_encoding}
 use Rattle.cxx_reader.proofs.EncodingReadings.{encoding_sound, encoding_complete}
 use Rattle.cxx_reader.proofs.Sound.{some_same}
 use Rattle.cxx_demangle.specs.declared.demangler.Printing.{Printing}
-use Rattle.cxx_demangle.specs.Answer.{start, max_depth, max_text, IsWhole, Reads, IsText, text_of, HasAnswer, HasNoAnswer, HasAtMostOneReading}
+use Rattle.cxx_demangle.specs.Answer.{start, max_depth, max_text, IsWhole, Reads, IsText, text_of, HasAnswer, HasNoAnswer, HasAtMostOneReading, IsAnswer}
+use Rattle.cxx_demangle.specs.Demangler.{answer_of}
 
 -- all bytes are read
 pub whole_read : (bytes : List ℕ) (t : Tree) (end : State) → parse_encoding max_depth (start bytes) ≡ Some (t, end) → end.rest ≡ [] → IsWhole bytes t
@@ -45,7 +50,7 @@ no_prefix printing symbol e t r f = let p = r.prefix in absurd cc
 
 -- no encoding
 pub no_encoding : (printing : Printing) (symbol inside : List ℕ) → after_prefix symbol ≡ Some inside → ((t : Tree) → IsWhole inside t → ⊥) → HasNoAnswer printing symbol
-no_encoding printing symbol inside e no t r f = no t (whole_of e r)
+no_encoding printing symbol inside e none t r f = none t (whole_of e r)
 
 -- a printing that may be an answer
 pub has_answer : (printing : Printing) (symbol inside : List ℕ) (t : Tree) (text : List ℕ) → after_prefix symbol ≡ Some inside → IsWhole inside t → text ≡ text_of printing t → IsText text → HasAnswer printing symbol text
@@ -55,3 +60,26 @@ has_answer printing symbol inside t text e w is good = record { tree = t; reads 
 pub no_answer : (printing : Printing) (symbol inside : List ℕ) (t : Tree) (text : List ℕ) → after_prefix symbol ≡ Some inside → IsWhole inside t → text ≡ text_of printing t → ¬ (IsText text) → HasNoAnswer printing symbol
 no_answer printing symbol inside t text e w is bad u r good =
     bad (subst IsText (ap (text_of printing) (one_whole (whole_of e r) w) ∙ sym is) good)
+
+-- a demangler begins with nothing saved
+pub started : {x : Option (Tree × State)} (bytes : List ℕ) (saved : List Tree) → saved ≡ [] → parse_encoding max_depth (record { rest = bytes; saved = saved; replaced = 0 }) ≡ x → parse_encoding max_depth (start bytes) ≡ x
+started bytes saved e f = ap (λ (ts : List Tree). parse_encoding max_depth (record { rest = bytes; saved = ts; replaced = 0 })) (sym e) ∙ f
+
+pub no_bytes : (xs : List ℕ) → length xs ≡ 0 → xs ≡ []
+no_bytes [] h = refl
+no_bytes (x ∷ xs) h = absurd (omega (arith, h))
+
+pub some_bytes : (xs : List ℕ) → length xs ≢ 0 → xs ≢ []
+some_bytes xs h e = h (ap length e)
+
+-- the answer, after the test of the text
+pub answered : (printing : Printing) (symbol inside : List ℕ) (t : Tree) (text : List ℕ) → after_prefix symbol ≡ Some inside → IsWhole inside t → text ≡ text_of printing t
+    → (is_answer : Bool) → (is_answer ≡ true → IsText text) → (is_answer ≡ false → ¬ (IsText text)) → IsAnswer printing symbol (answer_of is_answer text)
+answered printing symbol inside t text e w is true good bad = has_answer printing symbol inside t text e w is (good refl)
+answered printing symbol inside t text e w is false good bad = no_answer printing symbol inside t text e w is (bad refl)
+
+-- nothing is read, as a result
+pub refused : (r : Result ℕ Stop) (after : Reader) (x : Option (Tree × State)) → Gives r after x → r ≡ Err Unreadable → x ≡ None
+refused (Ok i) after x g e = absurd cc
+refused (Err Unreadable) after x g e = g
+refused (Err Memory) after x g e = absurd cc

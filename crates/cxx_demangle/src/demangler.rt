@@ -1,4 +1,6 @@
 //! `Demangler`, which demangles symbol after symbol.
+#![tactic(auto, unfolding(cxx_reader::specs::Table::stands))]
+
 ghost use Rattle.std.specs.Prelude.{◌≡◌, ℕ, ◌<◌, ◌≤◌, List, IfOk, OnOk, OnErr, MatchResult, ⊤, option_map, is_some, true, false, Option, Ok, Some, None};
 ghost use Rattle.std.specs.Borrow.{sem};
 ghost use Rattle.std.specs.Str.{IsUtf8};
@@ -44,6 +46,7 @@ pub struct Demangler {
 }
 
 impl Model for Demangler {
+    ghost use Rattle.std.specs.Prelude.{ℕ, List, Option};
     ghost use Rattle.cxx_demangle.specs.Demangler.{last_answer, KeepsAnswer};
 
     ghost Value = { Option (List ℕ) };

@@ -1,0 +1,28 @@
+use Rattle.std.proofs.Common.{ℕ, ◌≡◌, ◌≢◌, List, Option, Some, None, Err, rules, sym, length}
+use Rattle.cxx_reader.specs.Table.{saved_trees}
+use Rattle.cxx_reader.specs.Outcome.{state}
+use Rattle.cxx_demangle.proofs.Whole.{whole_read, none_read, some_left, started, no_bytes, some_bytes, refused}
+use Rattle.cxx_reader.specs.declared.stop.Stop.TheVariants.{Unreadable}
+use Rattle.cxx_demangle.proofs.demangler.read.Goals as goal
+
+pub returns-in-Ok : goal.returns-in-Ok
+returns-in-Ok c =
+    let read = (c.in-Ok.ensures {u = tt}).reads in
+    let end = c.read_encoding-read.new.reader in
+    let parsed = started c.args.bytes.now (saved_trees c.clear.new.self) c.clear.ensures.empty read.1 in
+    let empty : length end.rest.now ≡ 0 = search rules in
+    record { gives = (read.0, whole_read c.args.bytes.now _ (state end) parsed (no_bytes end.rest.now empty)) }
+
+pub returns-in-Ok-2 : goal.returns-in-Ok-2
+returns-in-Ok-2 c =
+    let read = (c.in-Ok-2.ensures {u = tt}).reads in
+    let end = c.read_encoding-read.new.reader in
+    let parsed = started c.args.bytes.now (saved_trees c.clear.new.self) c.clear.ensures.empty read.1 in
+    let some : length end.rest.now ≢ 0 = search rules in
+    record { gives = some_left c.args.bytes.now _ (state end) parsed (some_bytes end.rest.now some) }
+
+pub returns-in-Err-Unreadable : goal.returns-in-Err-Unreadable
+returns-in-Err-Unreadable c =
+    let is : c.read_encoding-read.result ≡ Err Unreadable = search rules in
+    let none = refused c.read_encoding-read.result c.read_encoding-read.new.reader _ c.read_encoding-read.ensures.reads is in
+    record { gives = none_read c.args.bytes.now (started c.args.bytes.now (saved_trees c.clear.new.self) c.clear.ensures.empty none) }
