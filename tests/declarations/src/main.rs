@@ -1,0 +1,174 @@
+//! Tests the demangler of declarations at its limits: symbols at and past each limit, families of long symbols with
+//! what they cost, malformed symbols, allocations that fail, and the stack. Standard input has symbols, one per line,
+//! which are read with little stack. The last line is `N passed, M failed`.
+//!
+//! usage: declarations
+
+mod families;
+mod memory;
+
+// The crates, and what stands in for Rattle's std below them. They come last, since the macros of the latter would
+// stand in for those of Rust.
+#[macro_use]
+#[allow(dead_code, unused_imports, unused_macros)]
+#[path = "../../../out/declarations-rust/src/rattle/mod.rs"]
+mod rattle;
+#[allow(unused)]
+#[path = "../../../out/declarations-rust/src/extracted/mod.rs"]
+mod extracted;
+
+use crate::extracted::cxx_demangle::{Demangler, Mode, Printing, Style};
+use crate::families::{costly, limited, refused};
+use crate::rattle::alloc::Global;
+use std::io::{self, BufRead};
+use std::process::ExitCode;
+use std::thread;
+use std::time::{Duration, Instant};
+
+/// The stack in bytes that is enough for symbols at the limits, and for a symbol of a library.
+const STACK: usize = 512 << 10;
+const LITTLE_STACK: usize = 32 << 10;
+/// What a thread takes by itself, in bytes.
+const THREAD: usize = 16 << 10;
+/// The most memory in bytes that a symbol of 100,000 bytes may take, and the most time.
+const MEMORY: usize = 16 << 20;
+const TIME: Duration = Duration::from_millis(500);
+
+const DECLARATION: Printing = Printing { mode: Mode::Declaration, style: Style::Llvm };
+const PRINTINGS: [Printing; 4] = [
+    Printing { mode: Mode::Name, style: Style::Llvm },
+    Printing { mode: Mode::Signature, style: Style::Llvm },
+    DECLARATION,
+    Printing { mode: Mode::Declaration, style: Style::Gnu },
+];
+
+/// What was found so far.
+#[derive(Default)]
+struct Counts {
+    passed: usize,
+    failed: usize,
+}
+
+impl Counts {
+    fn check(&mut self, what: &str, holds: bool) {
+        self.passed += usize::from(holds);
+        self.failed += usize::from(!holds);
+        if !holds {
+            println!("{what}: wrong");
+        }
+    }
+}
+
+/// Returns a symbol's declaration, or `None` if it has none.
+fn declared(demangler: &mut Demangler, symbol: &str) -> Option<String> {
+    demangler.demangle(Global, symbol, DECLARATION).expect("memory").map(str::to_string)
+}
+
+/// Symbols at and past each limit, with what is printed of them.
+fn limits(counts: &mut Counts) {
+    let mut demangler = Demangler::new(Global);
+    for (what, symbol, expected) in limited() {
+        let found = declared(&mut demangler, &symbol);
+        counts.check(&format!("{what}, of {} bytes", symbol.len()), found == expected);
+    }
+}
+
+/// Symbols of 100,000 bytes: time and memory are bounded.
+fn costs(counts: &mut Counts) {
+    let (mut longest, mut most) = (Duration::ZERO, 0);
+    for (what, symbol) in costly() {
+        for printing in PRINTINGS {
+            let mut demangler = Demangler::new(Global);
+            let begin = Instant::now();
+            let (_, bytes) = memory::most(|| demangler.prepare(Global, &symbol, printing).expect("memory"));
+            let time = begin.elapsed();
+            counts.check(&format!("{what}: {time:?}"), time <= TIME);
+            counts.check(&format!("{what}: {bytes} bytes"), bytes <= MEMORY);
+            (longest, most) = (longest.max(time), most.max(bytes));
+        }
+    }
+    println!("families of 100,000 bytes: at most {longest:?} and {most} bytes of memory");
+}
+
+/// Malformed symbols, and what must not be read.
+fn refusals(counts: &mut Counts) {
+    let mut demangler = Demangler::new(Global);
+    for symbol in refused() {
+        counts.check(&symbol, declared(&mut demangler, &symbol).is_none());
+    }
+}
+
+/// Demangles a symbol while an allocation fails. The value is used again after that.
+fn faults(counts: &mut Counts) {
+    let symbol = "_ZNKSt6vectorI1AIJPKcRdEESaIiEE1fIS4_J1BcEEEvOT_DpRT0_";
+    let expected = "void std::vector<A<char const*, double&>, std::allocator<int>>::f<A<char const*, double&>, B, char>\
+        (A<char const*, double&>&&, B&, char&) const";
+    for number in 0.. {
+        let mut demangler = Demangler::new(Global);
+        let (found, failed) = memory::refusing(number, || match demangler.demangle(Global, symbol, DECLARATION) {
+            Ok(found) => Ok(found == Some(expected)),
+            Err(_) => Err(()),
+        });
+        counts.check(&format!("allocation {number} fails"), found == if failed { Err(()) } else { Ok(true) });
+        counts.check(&format!("kept after allocation {number}"), demangler.text().is_some() != failed);
+        let again = declared(&mut demangler, symbol);
+        counts.check(&format!("after allocation {number}"), again.as_deref() == Some(expected));
+        if !failed {
+            return;
+        }
+    }
+}
+
+/// Each beginning of some symbols, and each with a byte changed: they are read or refused.
+fn beginnings(counts: &mut Counts) {
+    let mut demangler = Demangler::new(Global);
+    let mut read = 0;
+    for (_, symbol, _) in limited() {
+        if symbol.len() > 300 {
+            continue;
+        }
+        for end in 0..symbol.len() {
+            read += usize::from(declared(&mut demangler, &symbol[..end]).is_some());
+            let mut other = symbol.clone().into_bytes();
+            other[end] = b'0' + (other[end] + 1) % 74;
+            if let Ok(other) = std::str::from_utf8(&other) {
+                read += usize::from(declared(&mut demangler, other).is_some());
+            }
+        }
+    }
+    counts.check("beginnings and changed symbols", read > 0);
+}
+
+/// Runs with a stack of so many bytes.
+fn with_stack<T: Send + 'static>(bytes: usize, run: impl FnOnce() -> T + Send + 'static) -> T {
+    thread::Builder::new().stack_size(bytes + THREAD).spawn(run).expect("a thread").join().expect("no panic")
+}
+
+/// Symbols of libraries, with little stack.
+fn little_stack(counts: &mut Counts) {
+    let symbols: Vec<String> = io::stdin().lock().lines().map(|line| line.expect("a line of UTF-8")).collect();
+    let read = with_stack(LITTLE_STACK, move || {
+        let mut demangler = Demangler::new(Global);
+        let mut read = 0;
+        for symbol in &symbols {
+            for printing in PRINTINGS {
+                read += usize::from(demangler.prepare(Global, symbol, printing).expect("memory"));
+            }
+        }
+        read
+    });
+    counts.check("no symbol of the input is read", read > 0);
+}
+
+fn main() -> ExitCode {
+    let mut counts = Counts::default();
+    little_stack(&mut counts);
+    let counts = with_stack(STACK, move || {
+        for test in [limits, costs, refusals, faults, beginnings] {
+            test(&mut counts);
+        }
+        counts
+    });
+    println!("{} passed, {} failed", counts.passed, counts.failed);
+    if counts.failed == 0 { ExitCode::SUCCESS } else { ExitCode::FAILURE }
+}
