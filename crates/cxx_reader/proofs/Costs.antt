@@ -17,7 +17,7 @@ pub Pays-trans : {m n k l : ℕ} (a b c : Reader) → Pays m k a b → Pays n l 
 Pays-trans a b c p q = record { paid_nodes = omega (arith, p.paid_nodes, q.paid_nodes); paid_kept = omega (arith, p.paid_kept, q.paid_kept) }
 
 -- an item that leaves enough is appended to a list
-pub Pays-add : {n : ℕ} (a b c d : Reader) → Pays 0 0 a b → Pays n 1 b c → AddsAtMost 0 0 1 c.tables d.tables → d.rest ≡ c.rest → Pays 0 0 a d
+pub Pays-add : {m n : ℕ} (a b c d : Reader) → Pays m 0 a b → Pays n 1 b c → AddsAtMost 0 0 1 c.tables d.tables → d.rest ≡ c.rest → Pays m 0 a d
 Pays-add a b c d p q h e =
     let same = ap (λ r. length r.now) e in
     record {
