@@ -47,6 +47,7 @@ impl Tables {
         ensures nodes { size result.store ≡ 0 }
         ensures empty { saved_trees result ≡ [] }
         ensures pending { result.pending ≡ [] }
+        ensures saved { result.saved ≡ [] }
     {
         Tables {
             arena: Arena::new(alloc),
@@ -60,6 +61,7 @@ impl Tables {
         ensures nodes { size self.new.store ≡ 0 }
         ensures empty { saved_trees self.new ≡ [] }
         ensures pending { self.new.pending ≡ [] }
+        ensures saved { self.new.saved ≡ [] }
     {
         self.arena.clear();
         self.saved.clear();
