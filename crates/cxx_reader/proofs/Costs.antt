@@ -1,9 +1,9 @@
 -- What calls cost, one after another.
-use Rattle.std.proofs.Common.{ℕ, ◌≡◌, ◌+◌, ◌*◌, ◌<◌, ◌≤◌, List, [], ◌∷◌, length, drop, length-drop, ap, sym, arith}
-use Rattle.cxx_tree.specs.Stored.{Store, size}
+use Rattle.std.proofs.Common.{ℕ, ◌≡◌, ◌≤◌, length, ap, arith}
+use Rattle.cxx_tree.specs.Stored.{size}
 use Rattle.cxx_reader.specs.declared.reader.Reader.{Reader}
 use Rattle.cxx_reader.specs.Table.{Table}
-use Rattle.cxx_reader.specs.Cost.{AddsAtMost, Pays, Owes}
+use Rattle.cxx_reader.specs.Cost.{AddsAtMost, Pays}
 
 -- the tables stay
 pub Pays-tables : (a b : Reader) → b.tables ≡ a.tables → length b.rest.now ≤ length a.rest.now → Pays 0 0 a b
