@@ -36,6 +36,7 @@ pub fn prefixed(
     requires t { t < size arena.old }
     ensures makes { Makes result arena.old arena.new (rows.prefixed (text_at arena.old.held llvm)
         (text_at arena.old.held gnu) (tree_at (forest arena.old) t) prec) }
+    ensures few { size arena.new ≤ size arena.old + 1 }
 {
     let attributes = open(length(arena, llvm), prec);
     let operand = Part::Tree(prefixed_manner(prec), t);
@@ -535,6 +536,7 @@ pub fn typed_literal(arena: &mut Arena, t: u32, value: Text) -> Result<u32, Push
     requires value { IsText arena.old.held value }
     ensures makes { Makes result arena.old arena.new
         (rows.typed_literal (tree_at (forest arena.old) t) (text_at arena.old.held value)) }
+    ensures few { size arena.new ≤ size arena.old + 1 }
 {
     let attributes = primary(length(arena, value));
     phrase(

@@ -96,6 +96,7 @@ pub fn ctor_dtor(arena: &mut Arena, class: Text, is_destructor: bool) -> Result<
     requires class { IsText arena.old.held class }
     ensures makes { Makes result arena.old arena.new
         (rows.ctor_dtor (text_at arena.old.held class) is_destructor) }
+    ensures few { size arena.new ≤ size arena.old + 1 }
 {
     let attributes = primary(length(arena, class));
     if is_destructor {

@@ -182,6 +182,7 @@ pub fn phrase(arena: &mut Arena, attributes: Phrase, ps: &[Part]) -> Result<u32,
     requires below { AllByRecursion (IsPartBelow arena.old.held (size arena.old)) ps.now }
     ensures makes { Makes result arena.old arena.new
         (tree.phrase attributes (parts_of arena.old.held (forest arena.old) ps.now)) }
+    ensures few { size arena.new ≤ size arena.old + 1 }
 {
     let parts = parts(arena, ps)?;
     arena.push(Node::Plain(Plain::Phrase(attributes, parts)))

@@ -253,6 +253,7 @@ pub fn encoding(
         (option_map (tree_at (forest arena.old)) ret) (tree_at (forest arena.old) n)
         (trees_at (forest arena.old) params.now) (lists_at (forest arena.old) rest.now.enable_if)
         (option_map (tree_at (forest arena.old)) rest.now.constraint) cv ref_qual) }
+    ensures few { size arena.new ≤ size arena.old + 1 }
 {
     let parts = rest_parts(arena, rest)?;
     let params = list(arena, params)?;

@@ -2,6 +2,7 @@ pub mod Kept
 pub mod Turns
 pub mod Opens
 pub mod Rules
+pub mod Costs
 pub mod Lists
 pub mod Sound
 pub mod Takes

@@ -1,4 +1,5 @@
 pub mod Parser
 pub mod Table
 pub mod View
+pub mod Cost
 pub mod Outcome

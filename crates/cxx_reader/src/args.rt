@@ -9,6 +9,7 @@ ghost use Rattle.cxx_grammar.specs.Leaves as leaves;
 ghost use Rattle.cxx_reader.specs.Parser as spec;
 ghost use Rattle.cxx_reader.specs.Table.{IsNode, stands};
 ghost use Rattle.cxx_reader.specs.Outcome.{state, Keeps, Gives, GivesList};
+ghost use Rattle.cxx_reader.specs.Cost.{Pays, Owes};
 
 use crate::cases::{arg_case, begins, literal_case};
 use crate::reader::Reader;
@@ -23,6 +24,8 @@ pub fn read_args(reader: &mut Reader, depth: usize) -> Result<List, Stop>
     ensures reads { GivesList result reader.new (spec.parse_args (spec.parse_arg depth) (state reader.old)) }
     ensures keeps { OnOk result (Keeps reader.old reader.new) }
     ensures takes { OnOk result (length reader.new.rest.now < length reader.old.rest.now) }
+    ensures pays { Pays 0 0 reader.old reader.new }
+    ensures leaves { OnOk result (Pays 4 2 reader.old reader.new) }
 {
     reader.skip(1);
     let from = reader.tables.pending_len();
@@ -40,6 +43,8 @@ pub fn read_arg(reader: &mut Reader, depth: usize) -> Result<u32, Stop>
     ensures reads { Gives result reader.new (spec.parse_arg depth (state reader.old)) }
     ensures keeps { OnOk result (Keeps reader.old reader.new) }
     ensures takes { OnOk result (length reader.new.rest.now < length reader.old.rest.now) }
+    ensures pays { Pays 0 0 reader.old reader.new }
+    ensures leaves { OnOk result (Pays 2 1 reader.old reader.new) }
 {
     if depth == 0 {
         return Err(Stop::Unreadable);
@@ -58,6 +63,8 @@ fn read_pack(reader: &mut Reader, depth: usize) -> Result<u32, Stop>
     ensures reads { Gives result reader.new (spec.parse_pack (spec.parse_arg depth) (state reader.old)) }
     ensures keeps { OnOk result (Keeps reader.old reader.new) }
     ensures takes { OnOk result (length reader.new.rest.now < length reader.old.rest.now) }
+    ensures pays { Pays 0 0 reader.old reader.new }
+    ensures leaves { OnOk result (Pays 3 2 reader.old reader.new) }
 {
     let items = tri!(read_args(reader, depth));
     reader.make(Node::Plain(Plain::List(items)))
@@ -69,6 +76,8 @@ fn read_literal(reader: &mut Reader, depth: usize) -> Result<u32, Stop>
     ensures reads { Gives result reader.new (spec.parse_literal (spec.parse_type depth) (state reader.old)) }
     ensures keeps { OnOk result (Keeps reader.old reader.new) }
     ensures takes { OnOk result (length reader.new.rest.now < length reader.old.rest.now) }
+    ensures pays { Pays 0 0 reader.old reader.new }
+    ensures leaves { OnOk result (Pays 2 1 reader.old reader.new) }
 {
     reader.skip(1);
     match literal_case(reader.rest) {
@@ -86,6 +95,8 @@ fn read_typed(reader: &mut Reader, depth: usize) -> Result<u32, Stop>
     ensures reads { Gives result reader.new (spec.parse_typed (spec.parse_type depth) (state reader.old)) }
     ensures keeps { OnOk result (Keeps reader.old reader.new) }
     ensures takes { OnOk result (length reader.new.rest.now < length reader.old.rest.now) }
+    ensures pays { Pays 0 0 reader.old reader.new }
+    ensures leaves { OnOk result (Pays 2 1 reader.old reader.new) }
 {
     let t = tri!(read_type(reader, depth));
     let number = tri!(reader.read_number_end());
@@ -100,6 +111,7 @@ impl<'a> Reader<'a> {
             (leaves.number_printed number.now)) (state self.old)) }
         ensures keeps { OnOk result (Keeps self.old self.new) }
         ensures rest { OnOk result (self.new.rest.now ≡ self.old.rest.now) }
+        ensures owes { Owes 1 0 self.old self.new }
     {
         self.tables.make_typed_literal(self.alloc, t, number)
     }

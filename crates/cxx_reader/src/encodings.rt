@@ -8,6 +8,7 @@ ghost use Rattle.cxx_grammar.specs.Grammar as grammar;
 ghost use Rattle.cxx_reader.specs.Parser as spec;
 ghost use Rattle.cxx_reader.specs.Table.{IsNode, stands};
 ghost use Rattle.cxx_reader.specs.Outcome.{state, Keeps, KeepsFront, Gives, GivesOption, GivesFrom, IsNamed, named_at, info_at};
+ghost use Rattle.cxx_reader.specs.Cost.{Pays, Owes};
 
 use crate::cases::is_encoding_end;
 use crate::names::read_name;
@@ -22,6 +23,7 @@ pub fn read_signature(reader: &mut Reader, depth: usize, name: Named) -> Result<
     ensures reads { Gives result reader.new (spec.parse_signature (spec.parse_type depth)
         (named_at reader.old.tables name) (state reader.old)) }
     ensures keeps { OnOk result (Keeps reader.old reader.new) }
+    ensures owes { Owes 1 0 reader.old reader.new }
 {
     if is_encoding_end(reader.rest) {
         return reader.make(Node::Plain(Plain::Data(name.node)));
@@ -35,6 +37,7 @@ fn read_function(reader: &mut Reader, depth: usize, name: Named) -> Result<u32, 
     ensures reads { Gives result reader.new (spec.parse_function (spec.parse_type depth)
         (named_at reader.old.tables name) (state reader.old)) }
     ensures keeps { OnOk result (Keeps reader.old reader.new) }
+    ensures pays { Pays 0 0 reader.old reader.new }
 {
     let ret = tri!(read_return_type(reader, depth, has_return(name.info)));
     let from = reader.tables.pending_len();
@@ -54,6 +57,7 @@ fn read_return_type(reader: &mut Reader, depth: usize, is_there: bool) -> Result
     ensures reads { GivesOption result reader.new (spec.parse_return (spec.parse_type depth) is_there
         (state reader.old)) }
     ensures keeps { OnOk result (Keeps reader.old reader.new) }
+    ensures pays { Pays 0 0 reader.old reader.new }
 {
     if !is_there {
         return Ok(None);
@@ -67,6 +71,8 @@ fn read_params(reader: &mut Reader, depth: usize) -> Result<(), Stop>
     ensures reads { GivesFrom result (length reader.old.tables.pending) reader.new
         (spec.parse_params (spec.parse_type depth) (state reader.old)) }
     ensures keeps { OnOk result (KeepsFront reader.old reader.new) }
+    ensures pays { Pays 0 0 reader.old reader.new }
+    ensures leaves { OnOk result (Pays 1 0 reader.old reader.new) }
 {
     if reader.skip_letter(b'v') {
         return Ok(());
@@ -79,6 +85,8 @@ fn read_some_params(reader: &mut Reader, depth: usize) -> Result<(), Stop>
     ensures reads { GivesFrom result (length reader.old.tables.pending) reader.new
         (spec.parse_some_params (spec.parse_type depth) (state reader.old)) }
     ensures keeps { OnOk result (KeepsFront reader.old reader.new) }
+    ensures pays { Pays 0 0 reader.old reader.new }
+    ensures leaves { OnOk result (Pays 2 0 reader.old reader.new) }
 {
     let from = reader.tables.pending_len();
     let first = tri!(read_type(reader, depth));
@@ -102,6 +110,7 @@ impl<'a> Reader<'a> {
         ensures grows { OnOk result (Grows self.old.tables.store self.new.tables.store) }
         ensures pending { OnOk result (self.new.tables.pending ≡ take from self.old.tables.pending) }
         ensures rest { OnOk result (self.new.rest.now ≡ self.old.rest.now) }
+        ensures owes { Owes 1 0 self.old self.new }
     {
         let info = name.info;
         self.tables

@@ -4,6 +4,7 @@
 ghost use Rattle.std.specs.Prelude.{◌≡◌, ◌<◌, length, OnOk, option_map};
 ghost use Rattle.cxx_grammar.specs.Leaves as leaves;
 ghost use Rattle.cxx_reader.specs.Outcome.{state, Keeps, Gives, GivesNumber};
+ghost use Rattle.cxx_reader.specs.Cost.{Pays};
 
 use crate::reader::Reader;
 use crate::stop::Stop;
@@ -17,6 +18,8 @@ impl<'a> Reader<'a> {
         ensures keeps { OnOk result (Keeps self.old self.new) }
         ensures tables { self.new.tables ≡ self.old.tables }
         ensures takes { OnOk result (length self.new.rest.now < length self.old.rest.now) }
+        ensures pays { Pays 0 0 self.old self.new }
+        ensures leaves { OnOk result (Pays 4 2 self.old self.new) }
     {
         let Some((number, rest)) = number_text(self.rest) else {
             return Err(Stop::Unreadable);
@@ -35,6 +38,8 @@ impl<'a> Reader<'a> {
         ensures reads { Gives result self.new (leaves.parse_bool (state self.old)) }
         ensures keeps { OnOk result (Keeps self.old self.new) }
         ensures takes { OnOk result (length self.new.rest.now < length self.old.rest.now) }
+        ensures pays { Pays 0 0 self.old self.new }
+        ensures leaves { OnOk result (Pays 3 2 self.old self.new) }
     {
         match self.rest {
             [_, b'0', b'E', rest @ ..] => {
@@ -54,6 +59,8 @@ impl<'a> Reader<'a> {
         ensures reads { Gives result self.new (leaves.parse_null (state self.old)) }
         ensures keeps { OnOk result (Keeps self.old self.new) }
         ensures takes { OnOk result (length self.new.rest.now < length self.old.rest.now) }
+        ensures pays { Pays 0 0 self.old self.new }
+        ensures leaves { OnOk result (Pays 3 2 self.old self.new) }
     {
         match self.rest {
             [_, _, b'E', rest @ ..] => {
@@ -75,6 +82,8 @@ impl<'a> Reader<'a> {
         ensures reads { Gives result self.new (leaves.parse_integer (state self.old)) }
         ensures keeps { OnOk result (Keeps self.old self.new) }
         ensures takes { OnOk result (length self.new.rest.now < length self.old.rest.now) }
+        ensures pays { Pays 0 0 self.old self.new }
+        ensures leaves { OnOk result (Pays 3 2 self.old self.new) }
     {
         let Some((front, after)) = integer_here(self.rest) else {
             return Err(Stop::Unreadable);

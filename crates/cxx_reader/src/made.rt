@@ -1,7 +1,7 @@
 //! Nodes whose texts are bytes of a symbol.
 #![tactic(auto, using(cxx_tree::proofs::Making::making, cxx_tree::proofs::Grown::grows), unfolding(cxx_tree::specs::Stored::tree_of, cxx_tree::specs::Stored::plain_tree, cxx_tree::specs::Stored::IsBelow, cxx_tree::specs::Stored::IsPlainBelow))]
 
-ghost use Rattle.std.specs.Prelude.{◌≡◌, ℕ, ◌<◌, ◌++◌, IfOk, IfSome, OnOk, None, option_map};
+ghost use Rattle.std.specs.Prelude.{◌≡◌, ℕ, ◌+◌, ◌<◌, ◌≤◌, ◌++◌, IfOk, IfSome, OnOk, None, option_map};
 ghost use Rattle.std.specs.List.{AllByRecursion};
 ghost use Rattle.cxx_tree.specs.Tree.{named};
 ghost use Rattle.cxx_tree.specs.Rows as rows;
@@ -16,6 +16,7 @@ use std::alloc::{AllocError, Global};
 /// Makes a name.
 pub fn name(arena: &mut Arena, text: &[u8]) -> Result<u32, PushError>
     ensures makes { Makes result arena.old arena.new (named text.now) }
+    ensures few { size arena.new ≤ size arena.old + 1 }
 {
     let text = arena.text(text)?;
     arena.push(Node::Plain(Plain::Name(text)))
@@ -31,6 +32,7 @@ pub fn integer(
 ) -> Result<u32, PushError>
     ensures makes { Makes result arena.old arena.new (leaves.integer front.now (leaves.number_printed number.now)
         after.now) }
+    ensures few { size arena.new ≤ size arena.old + 1 }
 {
     let bytes = joined(alloc, front, number, after)?;
     let text = arena.text(&bytes)?;
@@ -52,6 +54,7 @@ pub fn function(
     ensures makes { Makes result arena.old arena.new (rows.function_encoding
         (option_map (tree_at (forest arena.old)) ret) (tree_at (forest arena.old) n)
         (trees_at (forest arena.old) params.now) None None cv ref_qual) }
+    ensures few { size arena.new ≤ size arena.old + 1 }
 {
     let rest = Rest {
         enable_if: None,
@@ -70,6 +73,7 @@ pub fn typed_number(
     requires t { t < size arena.old }
     ensures makes { Makes result arena.old arena.new (rows.typed_literal (tree_at (forest arena.old) t)
         (leaves.number_printed number.now)) }
+    ensures few { size arena.new ≤ size arena.old + 1 }
 {
     let bytes = printed(alloc, number)?;
     let text = arena.text(&bytes)?;

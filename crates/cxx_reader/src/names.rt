@@ -11,6 +11,7 @@ ghost use Rattle.cxx_tree.specs.Stored.{forest, size, tree_of, IsBelow, IsText, 
 ghost use Rattle.cxx_grammar.specs.Bases as bases;
 ghost use Rattle.cxx_reader.specs.Outcome as outcome;
 ghost use Rattle.cxx_reader.specs.Outcome.{state, Keeps, Gives, GivesNamed, IsNamed, named_at, info_at};
+ghost use Rattle.cxx_reader.specs.Cost.{Pays, Owes};
 
 use crate::args::read_args;
 use crate::bases::{base_name, is_param, is_with_args, short_std};
@@ -58,6 +59,7 @@ fn make_named(reader: &mut Reader, node: Node, info: Info) -> Result<Named, Stop
         (forest reader.old.tables.store) node) (info_at reader.old.tables info) (state reader.old)) }
     ensures keeps { OnOk result (Keeps reader.old reader.new) }
     ensures rest { OnOk result (reader.new.rest.now ≡ reader.old.rest.now) }
+    ensures owes { Owes 1 0 reader.old reader.new }
 {
     let node = tri!(reader.make(node));
     Ok(Named { node, info })
@@ -71,6 +73,8 @@ fn read_with_args(reader: &mut Reader, depth: usize, name: Named) -> Result<Name
         (named_at reader.old.tables name) (state reader.old)) }
     ensures keeps { OnOk result (Keeps reader.old reader.new) }
     ensures takes { OnOk result (length reader.new.rest.now < length reader.old.rest.now) }
+    ensures pays { Pays 0 0 reader.old reader.new }
+    ensures leaves { OnOk result (Pays 3 2 reader.old reader.new) }
 {
     let args = tri!(read_args(reader, depth));
     let info = Info {
@@ -87,6 +91,8 @@ fn read_unscoped(reader: &mut Reader, depth: usize, node: u32) -> Result<Named, 
     ensures reads { GivesNamed result reader.new (spec.parse_unscoped (spec.parse_arg depth)
         (stands reader.old.tables node) (state reader.old)) }
     ensures keeps { OnOk result (Keeps reader.old reader.new) }
+    ensures owes { Owes 0 1 reader.old reader.new }
+    ensures leaves { OnOk result (Pays 0 0 reader.old reader.new) }
 {
     if !begins(reader.rest, b'I') {
         return Ok(plain(node));
@@ -101,6 +107,8 @@ pub fn read_name(reader: &mut Reader, depth: usize) -> Result<Named, Stop>
     ensures reads { GivesNamed result reader.new (spec.parse_name depth (state reader.old)) }
     ensures keeps { OnOk result (Keeps reader.old reader.new) }
     ensures takes { OnOk result (length reader.new.rest.now < length reader.old.rest.now) }
+    ensures pays { Pays 0 0 reader.old reader.new }
+    ensures leaves { OnOk result (Pays 2 2 reader.old reader.new) }
 {
     if depth == 0 {
         return Err(Stop::Unreadable);
@@ -117,9 +125,12 @@ pub fn read_name(reader: &mut Reader, depth: usize) -> Result<Named, Stop>
 // Reads `St <unqualified-name> [<template-args>]`.
 #[cycle(reader)]
 fn read_in_std(reader: &mut Reader, depth: usize) -> Result<Named, Stop>
+    requires some { 0 < length reader.old.rest.now }
     ensures reads { GivesNamed result reader.new (spec.parse_in_std (spec.parse_arg depth) (state reader.old)) }
     ensures keeps { OnOk result (Keeps reader.old reader.new) }
     ensures takes { OnOk result (length reader.new.rest.now < length reader.old.rest.now) }
+    ensures pays { Pays 0 0 reader.old reader.new }
+    ensures leaves { OnOk result (Pays 2 2 reader.old reader.new) }
 {
     reader.skip(2);
     let base = tri!(reader.read_base());
@@ -134,6 +145,8 @@ fn read_substituted(reader: &mut Reader, depth: usize) -> Result<Named, Stop>
     ensures reads { GivesNamed result reader.new (spec.parse_substituted (spec.parse_arg depth) (state reader.old)) }
     ensures keeps { OnOk result (Keeps reader.old reader.new) }
     ensures takes { OnOk result (length reader.new.rest.now < length reader.old.rest.now) }
+    ensures pays { Pays 0 0 reader.old reader.new }
+    ensures leaves { OnOk result (Pays 2 2 reader.old reader.new) }
 {
     let node = tri!(reader.read_substitution());
     if !begins(reader.rest, b'I') {
@@ -148,6 +161,8 @@ fn read_unqualified(reader: &mut Reader, depth: usize) -> Result<Named, Stop>
     ensures reads { GivesNamed result reader.new (spec.parse_unqualified (spec.parse_arg depth) (state reader.old)) }
     ensures keeps { OnOk result (Keeps reader.old reader.new) }
     ensures takes { OnOk result (length reader.new.rest.now < length reader.old.rest.now) }
+    ensures pays { Pays 0 0 reader.old reader.new }
+    ensures leaves { OnOk result (Pays 2 2 reader.old reader.new) }
 {
     let node = tri!(reader.read_base());
     read_unscoped(reader, depth, node)
@@ -160,6 +175,8 @@ fn read_nested_name(reader: &mut Reader, depth: usize) -> Result<Named, Stop>
         (state reader.old)) }
     ensures keeps { OnOk result (Keeps reader.old reader.new) }
     ensures takes { OnOk result (length reader.new.rest.now < length reader.old.rest.now) }
+    ensures pays { Pays 0 0 reader.old reader.new }
+    ensures leaves { OnOk result (Pays 2 2 reader.old reader.new) }
 {
     reader.skip(1);
     let cv = reader.read_cv();
@@ -175,6 +192,8 @@ fn read_first(reader: &mut Reader, depth: usize, info: Info) -> Result<Named, St
         (info_at reader.old.tables info) (state reader.old)) }
     ensures keeps { OnOk result (Keeps reader.old reader.new) }
     ensures takes { OnOk result (length reader.new.rest.now < length reader.old.rest.now) }
+    ensures pays { Pays 0 0 reader.old reader.new }
+    ensures leaves { OnOk result (Pays 2 2 reader.old reader.new) }
 {
     match first_case(reader.rest) {
         FirstCase::Std => read_first_std(reader, depth, info),
@@ -186,11 +205,14 @@ fn read_first(reader: &mut Reader, depth: usize, info: Info) -> Result<Named, St
 
 #[cycle(reader)]
 fn read_first_std(reader: &mut Reader, depth: usize, info: Info) -> Result<Named, Stop>
+    requires some { 0 < length reader.old.rest.now }
     requires inherited { info.inherited ≡ None }
     ensures reads { GivesNamed result reader.new (spec.parse_after (spec.parse_arg depth) (spec.parse_name depth)
         (spec.with_info (info_at reader.old.tables info) grammar.std) (state_spec.skip 2 (state reader.old))) }
     ensures keeps { OnOk result (Keeps reader.old reader.new) }
     ensures takes { OnOk result (length reader.new.rest.now < length reader.old.rest.now) }
+    ensures pays { Pays 0 0 reader.old reader.new }
+    ensures leaves { OnOk result (Pays 2 2 reader.old reader.new) }
 {
     reader.skip(2);
     let node = tri!(reader.make_std());
@@ -204,6 +226,8 @@ fn read_first_substitution(reader: &mut Reader, depth: usize, info: Info) -> Res
         (info_at reader.old.tables info) (state reader.old)) }
     ensures keeps { OnOk result (Keeps reader.old reader.new) }
     ensures takes { OnOk result (length reader.new.rest.now < length reader.old.rest.now) }
+    ensures pays { Pays 0 0 reader.old reader.new }
+    ensures leaves { OnOk result (Pays 2 2 reader.old reader.new) }
 {
     let node = tri!(reader.read_substitution());
     read_after(reader, depth, Named { node, info })
@@ -216,6 +240,8 @@ fn read_first_param(reader: &mut Reader, depth: usize, info: Info) -> Result<Nam
         (info_at reader.old.tables info) (state reader.old)) }
     ensures keeps { OnOk result (Keeps reader.old reader.new) }
     ensures takes { OnOk result (length reader.new.rest.now < length reader.old.rest.now) }
+    ensures pays { Pays 0 0 reader.old reader.new }
+    ensures leaves { OnOk result (Pays 2 2 reader.old reader.new) }
 {
     let node = tri!(reader.read_template_param());
     read_components(reader, depth, Named { node, info })
@@ -228,6 +254,8 @@ fn read_first_base(reader: &mut Reader, depth: usize, info: Info) -> Result<Name
         (info_at reader.old.tables info) (state reader.old)) }
     ensures keeps { OnOk result (Keeps reader.old reader.new) }
     ensures takes { OnOk result (length reader.new.rest.now < length reader.old.rest.now) }
+    ensures pays { Pays 0 0 reader.old reader.new }
+    ensures leaves { OnOk result (Pays 2 2 reader.old reader.new) }
 {
     let node = tri!(reader.read_base());
     read_components(reader, depth, Named { node, info })
@@ -241,6 +269,8 @@ fn read_after(reader: &mut Reader, depth: usize, scope: Named) -> Result<Named, 
         (named_at reader.old.tables scope) (state reader.old)) }
     ensures keeps { OnOk result (Keeps reader.old reader.new) }
     ensures takes { OnOk result (length reader.new.rest.now < length reader.old.rest.now) }
+    ensures pays { Pays 0 0 reader.old reader.new }
+    ensures leaves { OnOk result (Pays 2 2 reader.old reader.new) }
 {
     let name = tri!(read_component(reader, depth, scope));
     read_components(reader, depth, name)
@@ -254,6 +284,8 @@ fn read_components(reader: &mut Reader, depth: usize, name: Named) -> Result<Nam
         (named_at reader.old.tables name) (state reader.old)) }
     ensures keeps { OnOk result (Keeps reader.old reader.new) }
     ensures takes { OnOk result (length reader.new.rest.now < length reader.old.rest.now) }
+    ensures owes { Owes 0 1 reader.old reader.new }
+    ensures leaves { OnOk result (Pays 4 2 reader.old reader.new) }
 {
     reader.skip_letter(b'M');
     let mut last = name;
@@ -272,6 +304,8 @@ fn read_next(reader: &mut Reader, depth: usize, scope: Named) -> Result<Named, S
         (named_at reader.old.tables scope) (state reader.old)) }
     ensures keeps { OnOk result (Keeps reader.old reader.new) }
     ensures takes { OnOk result (length reader.new.rest.now < length reader.old.rest.now) }
+    ensures owes { Owes 0 1 reader.old reader.new }
+    ensures leaves { OnOk result (Pays 1 1 reader.old reader.new) }
 {
     tri!(reader.tables.save(scope.node));
     let name = tri!(read_component(reader, depth, scope));
@@ -287,6 +321,8 @@ fn read_component(reader: &mut Reader, depth: usize, scope: Named) -> Result<Nam
         (named_at reader.old.tables scope) (state reader.old)) }
     ensures keeps { OnOk result (Keeps reader.old reader.new) }
     ensures takes { OnOk result (length reader.new.rest.now < length reader.old.rest.now) }
+    ensures pays { Pays 0 0 reader.old reader.new }
+    ensures leaves { OnOk result (Pays 1 2 reader.old reader.new) }
 {
     if begins(reader.rest, b'I') {
         return read_more_args(reader, depth, scope);
@@ -308,6 +344,8 @@ fn read_more_args(reader: &mut Reader, depth: usize, scope: Named) -> Result<Nam
         (named_at reader.old.tables scope) (state reader.old)) }
     ensures keeps { OnOk result (Keeps reader.old reader.new) }
     ensures takes { OnOk result (length reader.new.rest.now < length reader.old.rest.now) }
+    ensures pays { Pays 0 0 reader.old reader.new }
+    ensures leaves { OnOk result (Pays 1 2 reader.old reader.new) }
 {
     if is_with_args(reader.tables.arena(), scope.node) {
         return Err(Stop::Unreadable);
@@ -322,6 +360,8 @@ fn read_scoped(reader: &mut Reader, scope: Named) -> Result<Named, Stop>
         (state reader.old)) }
     ensures keeps { OnOk result (Keeps reader.old reader.new) }
     ensures takes { OnOk result (length reader.new.rest.now < length reader.old.rest.now) }
+    ensures pays { Pays 0 0 reader.old reader.new }
+    ensures leaves { OnOk result (Pays 1 2 reader.old reader.new) }
 {
     let base = tri!(reader.read_unmarked_base());
     let info = Info {
@@ -343,6 +383,8 @@ fn read_ctor(reader: &mut Reader, scope: Named, is_destructor: bool) -> Result<N
         (named_at reader.old.tables scope).info.inherited (state_spec.skip 2 (state reader.old))) }
     ensures keeps { OnOk result (Keeps reader.old reader.new) }
     ensures takes { OnOk result (length reader.new.rest.now < length reader.old.rest.now) }
+    ensures pays { Pays 0 0 reader.old reader.new }
+    ensures leaves { OnOk result (Pays 1 2 reader.old reader.new) }
 {
     reader.skip(2);
     make_ctor(reader, scope, is_destructor, scope.info.inherited)
@@ -351,11 +393,14 @@ fn read_ctor(reader: &mut Reader, scope: Named, is_destructor: bool) -> Result<N
 // Reads an inherited constructor.
 #[cycle(reader)]
 fn read_inherited_ctor(reader: &mut Reader, depth: usize, scope: Named) -> Result<Named, Stop>
+    requires some { 0 < length reader.old.rest.now }
     requires named { IsNamed reader.old.tables scope }
     ensures reads { GivesNamed result reader.new (spec.parse_inherited (spec.parse_name depth)
         (named_at reader.old.tables scope) (state reader.old)) }
     ensures keeps { OnOk result (Keeps reader.old reader.new) }
     ensures takes { OnOk result (length reader.new.rest.now < length reader.old.rest.now) }
+    ensures pays { Pays 0 0 reader.old reader.new }
+    ensures leaves { OnOk result (Pays 1 2 reader.old reader.new) }
 {
     reader.skip(3);
     let from = tri!(read_name(reader, depth));
@@ -375,6 +420,7 @@ fn make_ctor(
         (option_map (stands reader.old.tables) inherited) (state reader.old)) }
     ensures keeps { OnOk result (Keeps reader.old reader.new) }
     ensures rest { OnOk result (reader.new.rest.now ≡ reader.old.rest.now) }
+    ensures owes { Owes 3 0 reader.old reader.new }
 {
     if is_param(reader.tables.arena(), scope.node) {
         return Err(Stop::Unreadable);
@@ -397,6 +443,7 @@ impl<'a> Reader<'a> {
         ensures reads { Gives result self.new (Some (grammar.std, state self.old)) }
         ensures keeps { OnOk result (Keeps self.old self.new) }
         ensures rest { OnOk result (self.new.rest.now ≡ self.old.rest.now) }
+        ensures owes { Owes 1 0 self.old self.new }
     {
         self.tables.make_fixed(b"std")
     }
@@ -408,6 +455,7 @@ impl<'a> Reader<'a> {
             class) is_destructor) (state self.old)) }
         ensures keeps { OnOk result (Keeps self.old self.new) }
         ensures rest { OnOk result (self.new.rest.now ≡ self.old.rest.now) }
+        ensures owes { Owes 1 0 self.old self.new }
     {
         self.tables.make_ctor_dtor(class, is_destructor)
     }
@@ -418,6 +466,7 @@ impl<'a> Reader<'a> {
         ensures reads { Gives result self.new (Some (bases.expand (stands self.old.tables i), state self.old)) }
         ensures keeps { OnOk result (Keeps self.old self.new) }
         ensures rest { OnOk result (self.new.rest.now ≡ self.old.rest.now) }
+        ensures owes { Owes 1 0 self.old self.new }
     {
         match short_std(self.tables.arena(), i) {
             Some(std) => self.make(Node::Plain(Plain::StdName(std, true))),

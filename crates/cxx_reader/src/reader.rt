@@ -1,13 +1,14 @@
 //! The state of the readers, and what is read by itself.
 #![tactic(auto, using(crate::proofs::Kept::readers), unfolding(cxx_grammar::specs::Leaves::base_as, cxx_tree::specs::Stored::tree_of, cxx_tree::specs::Stored::plain_tree, cxx_tree::specs::Stored::IsBelow, cxx_tree::specs::Stored::IsPlainBelow))]
 
-ghost use Rattle.std.specs.Prelude.{◌≡◌, ℕ, ◌<◌, ◌≤◌, [], ◌∷◌, codes, length, IfOk, OnOk, option_map};
+ghost use Rattle.std.specs.Prelude.{◌≡◌, ℕ, ◌-◌, ◌<◌, ◌≤◌, [], ◌∷◌, codes, length, true, IfOk, IfSome, OnOk, option_map};
 ghost use Rattle.abi_scalars.specs.Bytes.{begins};
 ghost use Rattle.cxx_tree.specs.Stored.{forest, size, tree_of, IsBelow};
 ghost use Rattle.cxx_grammar.specs.State as spec;
 ghost use Rattle.cxx_grammar.specs.Leaves as leaves;
 ghost use Rattle.cxx_reader.specs.Table.{IsNode, stands};
 ghost use Rattle.cxx_reader.specs.Outcome.{state, Keeps, Gives};
+ghost use Rattle.cxx_reader.specs.Cost.{Pays, Owes};
 
 use crate::cases::{base_case, begins};
 use crate::stop::Stop;
@@ -56,6 +57,7 @@ impl<'a> Reader<'a> {
     pub fn skip(&mut self, n: usize)
         ensures state { state self.new ≡ spec.skip n (state self.old) }
         ensures tables { self.new.tables ≡ self.old.tables }
+        ensures takes { length self.new.rest.now ≡ length self.old.rest.now - n }
     {
         self.rest = &self.rest[n.min(self.rest.len())..];
     }
@@ -67,6 +69,7 @@ impl<'a> Reader<'a> {
         ensures state { state self.new ≡ spec.past_byte letter (state self.old) }
         ensures tables { self.new.tables ≡ self.old.tables }
         ensures within { length self.new.rest.now ≤ length self.old.rest.now }
+        ensures takes { result ≡ true → length self.new.rest.now < length self.old.rest.now }
     {
         if begins(self.rest, letter) {
             self.skip(1);
@@ -115,6 +118,7 @@ impl<'a> Reader<'a> {
             self.old.tables.store) node) (state self.old)) }
         ensures keeps { OnOk result (Keeps self.old self.new) }
         ensures rest { OnOk result (self.new.rest.now ≡ self.old.rest.now) }
+        ensures owes { Owes 1 0 self.old self.new }
     {
         self.tables.make(node)
     }
@@ -126,6 +130,7 @@ impl<'a> Reader<'a> {
             self.old.tables.store) node) (state self.old)) }
         ensures keeps { OnOk result (Keeps self.old self.new) }
         ensures rest { OnOk result (self.new.rest.now ≡ self.old.rest.now) }
+        ensures owes { Owes 1 1 self.old self.new }
     {
         let i = tri!(self.tables.make(node));
         tri!(self.tables.save(i));
@@ -137,6 +142,8 @@ impl<'a> Reader<'a> {
         ensures reads { Gives result self.new (leaves.parse_source (state self.old)) }
         ensures keeps { OnOk result (Keeps self.old self.new) }
         ensures takes { OnOk result (length self.new.rest.now < length self.old.rest.now) }
+        ensures pays { Pays 0 0 self.old self.new }
+        ensures leaves { OnOk result (Pays 3 2 self.old self.new) }
     {
         let Some((name, rest)) = identifier(self.rest) else {
             return Err(Stop::Unreadable);
@@ -150,6 +157,8 @@ impl<'a> Reader<'a> {
         ensures reads { Gives result self.new (leaves.parse_prefixed word.now n (state self.old)) }
         ensures keeps { OnOk result (Keeps self.old self.new) }
         ensures takes { OnOk result (length self.new.rest.now < length self.old.rest.now) }
+        ensures pays { Pays 0 0 self.old self.new }
+        ensures leaves { OnOk result (Pays 2 2 self.old self.new) }
     {
         self.skip(n);
         let name = tri!(self.read_source_name());
@@ -161,6 +170,8 @@ impl<'a> Reader<'a> {
         ensures reads { Gives result self.new (leaves.parse_unmarked_base (state self.old)) }
         ensures keeps { OnOk result (Keeps self.old self.new) }
         ensures takes { OnOk result (length self.new.rest.now < length self.old.rest.now) }
+        ensures pays { Pays 0 0 self.old self.new }
+        ensures leaves { OnOk result (Pays 2 2 self.old self.new) }
     {
         match base_case(self.rest) {
             BaseCase::Source => self.read_source_name(),
@@ -175,6 +186,8 @@ impl<'a> Reader<'a> {
         ensures reads { Gives result self.new (leaves.parse_base (state self.old)) }
         ensures keeps { OnOk result (Keeps self.old self.new) }
         ensures takes { OnOk result (length self.new.rest.now < length self.old.rest.now) }
+        ensures pays { Pays 0 0 self.old self.new }
+        ensures leaves { OnOk result (Pays 2 2 self.old self.new) }
     {
         self.skip_letter(b'L');
         self.read_unmarked_base()
@@ -185,6 +198,8 @@ impl<'a> Reader<'a> {
         ensures reads { Gives result self.new (leaves.parse_operator (state self.old)) }
         ensures keeps { OnOk result (Keeps self.old self.new) }
         ensures takes { OnOk result (length self.new.rest.now < length self.old.rest.now) }
+        ensures pays { Pays 0 0 self.old self.new }
+        ensures leaves { OnOk result (Pays 3 2 self.old self.new) }
     {
         match self.rest {
             [first, second, rest @ ..] => match operator_of(*first, *second) {
@@ -203,6 +218,8 @@ impl<'a> Reader<'a> {
         ensures reads { Gives result self.new (leaves.parse_substitution (state self.old)) }
         ensures keeps { OnOk result (Keeps self.old self.new) }
         ensures takes { OnOk result (length self.new.rest.now < length self.old.rest.now) }
+        ensures pays { Pays 0 0 self.old self.new }
+        ensures leaves { OnOk result (Pays 3 2 self.old self.new) }
     {
         self.skip(1);
         match std_of(self.rest) {
@@ -219,6 +236,8 @@ impl<'a> Reader<'a> {
         ensures reads { Gives result self.new (leaves.parse_saved (state self.old)) }
         ensures keeps { OnOk result (Keeps self.old self.new) }
         ensures takes { OnOk result (length self.new.rest.now < length self.old.rest.now) }
+        ensures pays { Pays 0 0 self.old self.new }
+        ensures leaves { OnOk result (Pays 4 2 self.old self.new) }
     {
         let Some((index, rest)) = index_of(Radix::Base36, self.rest) else {
             return Err(Stop::Unreadable);
@@ -235,6 +254,8 @@ impl<'a> Reader<'a> {
         ensures reads { Gives result self.new (leaves.parse_template_param (state self.old)) }
         ensures keeps { OnOk result (Keeps self.old self.new) }
         ensures takes { OnOk result (length self.new.rest.now < length self.old.rest.now) }
+        ensures pays { Pays 0 0 self.old self.new }
+        ensures leaves { OnOk result (Pays 3 2 self.old self.new) }
     {
         self.skip(1);
         let Some((index, rest)) = index_of(Radix::Decimal, self.rest) else {
@@ -249,6 +270,8 @@ impl<'a> Reader<'a> {
         ensures reads { Gives result self.new (leaves.parse_builtin (state self.old)) }
         ensures keeps { OnOk result (Keeps self.old self.new) }
         ensures takes { OnOk result (length self.new.rest.now < length self.old.rest.now) }
+        ensures pays { Pays 0 0 self.old self.new }
+        ensures leaves { OnOk result (Pays 3 2 self.old self.new) }
     {
         if self.skip_letter(b'D') {
             return self.read_d_builtin();
@@ -270,6 +293,8 @@ impl<'a> Reader<'a> {
         ensures reads { Gives result self.new (leaves.parse_d_builtin (state self.old)) }
         ensures keeps { OnOk result (Keeps self.old self.new) }
         ensures takes { OnOk result (length self.new.rest.now < length self.old.rest.now) }
+        ensures pays { Pays 0 0 self.old self.new }
+        ensures leaves { OnOk result (Pays 3 2 self.old self.new) }
     {
         if self.skip_letter(b'n') {
             return self
@@ -292,6 +317,7 @@ impl<'a> Reader<'a> {
 /// Returns the abbreviation of std that the letter after `S` stands for.
 fn std_of(bytes: &[u8]) -> Option<Std>
     ensures value { result ≡ leaves.std_of bytes.now }
+    ensures some { IfSome result (λ _. 0 < length bytes.now) }
 {
     match bytes {
         [b'a', ..] => Some(Std::Allocator),

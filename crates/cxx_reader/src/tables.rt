@@ -13,6 +13,7 @@ ghost use Rattle.cxx_grammar.specs.Binds.{binding_of};
 ghost use Rattle.cxx_grammar.specs.Leaves as leaves;
 ghost use Rattle.cxx_reader.specs.declared.stop.Stop.TheVariants.{Memory};
 ghost use Rattle.cxx_reader.specs.Table.{IsNode, MakesIn, Stays, stands, saved_trees, taken};
+ghost use Rattle.cxx_reader.specs.Cost.{AddsAtMost};
 
 use crate::made::{function, integer, name, typed_number};
 use crate::stop::{Stop, stopped};
@@ -50,6 +51,7 @@ impl Tables {
         ensures nodes { size result.store ≡ 0 }
         ensures empty { saved_trees result ≡ [] }
         ensures pending { result.pending ≡ [] }
+        ensures saved { result.saved ≡ [] }
     {
         Tables {
             arena: Arena::new(alloc),
@@ -63,6 +65,7 @@ impl Tables {
         ensures nodes { size self.new.store ≡ 0 }
         ensures empty { saved_trees self.new ≡ [] }
         ensures pending { self.new.pending ≡ [] }
+        ensures saved { self.new.saved ≡ [] }
     {
         self.arena.clear();
         self.saved.clear();
@@ -100,6 +103,7 @@ impl Tables {
     pub fn make(&mut self, node: Node) -> Result<u32, Stop>
         requires below { IsBelow self.old.store.held (size self.old.store) node }
         ensures makes { MakesIn result self.old self.new (tree_of self.old.store.held (forest self.old.store) node) }
+        ensures adds { AddsAtMost 1 0 0 self.old self.new }
     {
         stopped(self.arena.push(node))
     }
@@ -107,6 +111,7 @@ impl Tables {
     /// Makes a name whose text is always the same.
     pub fn make_fixed(&mut self, text: &'static [u8]) -> Result<u32, Stop>
         ensures makes { MakesIn result self.old self.new (named text.now) }
+        ensures adds { AddsAtMost 1 0 0 self.old self.new }
     {
         self.make(Node::Plain(Plain::Name(Text::Fixed(text))))
     }
@@ -119,6 +124,7 @@ impl Tables {
         gnu: &'static [u8],
     ) -> Result<u32, Stop>
         ensures makes { MakesIn result self.old self.new (leaf is_simple llvm.now gnu.now) }
+        ensures adds { AddsAtMost 1 0 0 self.old self.new }
     {
         self.make(Node::Plain(Plain::Leaf(is_simple, Text::Fixed(llvm), Text::Fixed(gnu))))
     }
@@ -126,6 +132,7 @@ impl Tables {
     /// Makes a name.
     pub fn make_name(&mut self, text: &[u8]) -> Result<u32, Stop>
         ensures makes { MakesIn result self.old self.new (named text.now) }
+        ensures adds { AddsAtMost 1 0 0 self.old self.new }
     {
         stopped(name(&mut self.arena, text))
     }
@@ -135,6 +142,7 @@ impl Tables {
         requires name { IsNode self.old name }
         ensures makes { MakesIn result self.old self.new (rows.prefixed word.now word.now (stands self.old name)
             Primary) }
+        ensures adds { AddsAtMost 1 0 0 self.old self.new }
     {
         let word = Text::Fixed(word);
         stopped(prefixed(&mut self.arena, word, word, name, Prec::Primary))
@@ -145,6 +153,7 @@ impl Tables {
         requires class { IsText self.old.store.held class }
         ensures makes { MakesIn result self.old self.new (rows.ctor_dtor (text_at self.old.store.held class)
             is_destructor) }
+        ensures adds { AddsAtMost 1 0 0 self.old self.new }
     {
         stopped(ctor_dtor(&mut self.arena, class, is_destructor))
     }
@@ -159,6 +168,7 @@ impl Tables {
     ) -> Result<u32, Stop>
         ensures makes { MakesIn result self.old self.new (leaves.integer front.now (leaves.number_printed number.now)
             after.now) }
+        ensures adds { AddsAtMost 1 0 0 self.old self.new }
     {
         stopped(integer(&mut self.arena, alloc, front, number, after))
     }
@@ -168,6 +178,7 @@ impl Tables {
         requires t { IsNode self.old t }
         ensures makes { MakesIn result self.old self.new (rows.typed_literal (stands self.old t)
             (leaves.number_printed number.now)) }
+        ensures adds { AddsAtMost 1 0 0 self.old self.new }
     {
         stopped(typed_number(&mut self.arena, alloc, t, number))
     }
@@ -179,6 +190,7 @@ impl Tables {
         ensures store { self.new.store ≡ self.old.store }
         ensures pending { self.new.pending ≡ self.old.pending }
         ensures memory { IsOkUnless result Memory }
+        ensures adds { AddsAtMost 0 1 0 self.old self.new }
     {
         match self.saved.push(i) {
             Ok(()) => Ok(()),
@@ -212,6 +224,7 @@ impl Tables {
         ensures store { self.new.store ≡ self.old.store }
         ensures saved { saved_trees self.new ≡ saved_trees self.old }
         ensures memory { IsOkUnless result Memory }
+        ensures adds { AddsAtMost 0 0 1 self.old self.new }
     {
         match self.pending.push(i) {
             Ok(()) => Ok(()),
@@ -234,6 +247,7 @@ impl Tables {
         ensures makes { MakesIn result (taken from self.old) self.new (rows.function_encoding
             (option_map (stands self.old) ret) (stands self.old n)
             (trees_from_list (map (stands self.old) (drop from self.old.pending))) None None cv ref_qual) }
+        ensures adds { AddsAtMost 1 0 0 self.old self.new }
     {
         let params = nodes_from(&self.pending, from);
         let made = function(&mut self.arena, ret, n, params, cv, ref_qual);
@@ -274,6 +288,7 @@ impl Tables {
         ensures saved { saved_trees self.new ≡ saved_trees self.old }
         ensures pending { self.new.pending ≡ take from self.old.pending }
         ensures memory { IsOkUnless result Memory }
+        ensures adds { AddsAtMost 0 0 0 self.old self.new }
     {
         let list = self.arena.list(&self.pending[from..]);
         self.pending.truncate(from);

@@ -4,9 +4,11 @@
 ghost use Rattle.std.specs.Prelude.{◌≡◌, ℕ, ◌<◌, ◌≤◌, length, OnOk};
 ghost use Rattle.cxx_tree.specs.Tree.{expansion, pointer};
 ghost use Rattle.cxx_tree.specs.Stored.{forest, size};
+ghost use Rattle.cxx_grammar.specs.Leaves as leaves;
 ghost use Rattle.cxx_reader.specs.Parser as spec;
 ghost use Rattle.cxx_reader.specs.Table.{IsNode, stands};
 ghost use Rattle.cxx_reader.specs.Outcome.{state, Keeps, Gives};
+ghost use Rattle.cxx_reader.specs.Cost.{Pays};
 
 use crate::args::read_args;
 use crate::cases::{begins, type_case};
@@ -22,6 +24,8 @@ pub fn read_type(reader: &mut Reader, depth: usize) -> Result<u32, Stop>
     ensures reads { Gives result reader.new (spec.parse_type depth (state reader.old)) }
     ensures keeps { OnOk result (Keeps reader.old reader.new) }
     ensures takes { OnOk result (length reader.new.rest.now < length reader.old.rest.now) }
+    ensures pays { Pays 0 0 reader.old reader.new }
+    ensures leaves { OnOk result (Pays 2 1 reader.old reader.new) }
 {
     if depth == 0 {
         return Err(Stop::Unreadable);
@@ -42,9 +46,12 @@ pub fn read_type(reader: &mut Reader, depth: usize) -> Result<u32, Stop>
 // Reads a `<qualified-type>`, and saves it.
 #[cycle(reader)]
 fn read_saved_type(reader: &mut Reader, depth: usize) -> Result<u32, Stop>
+    requires some { length (leaves.past_cv (state reader.old)).rest < length reader.old.rest.now }
     ensures reads { Gives result reader.new (spec.parse_saved_type (spec.parse_qualified depth) (state reader.old)) }
     ensures keeps { OnOk result (Keeps reader.old reader.new) }
     ensures takes { OnOk result (length reader.new.rest.now < length reader.old.rest.now) }
+    ensures pays { Pays 0 0 reader.old reader.new }
+    ensures leaves { OnOk result (Pays 2 1 reader.old reader.new) }
 {
     let t = tri!(read_qualified_type(reader, depth));
     tri!(reader.tables.save(t));
@@ -55,9 +62,12 @@ fn read_saved_type(reader: &mut Reader, depth: usize) -> Result<u32, Stop>
 /// included.
 #[cycle(reader)]
 fn read_qualified_type(reader: &mut Reader, depth: usize) -> Result<u32, Stop>
+    requires some { length (leaves.past_cv (state reader.old)).rest < length reader.old.rest.now }
     ensures reads { Gives result reader.new (spec.parse_qualified depth (state reader.old)) }
     ensures keeps { OnOk result (Keeps reader.old reader.new) }
     ensures takes { OnOk result (length reader.new.rest.now < length reader.old.rest.now) }
+    ensures pays { Pays 0 0 reader.old reader.new }
+    ensures leaves { OnOk result (Pays 2 2 reader.old reader.new) }
 {
     if depth == 0 {
         return Err(Stop::Unreadable);
@@ -68,9 +78,12 @@ fn read_qualified_type(reader: &mut Reader, depth: usize) -> Result<u32, Stop>
 
 #[cycle(reader)]
 fn read_qualified(reader: &mut Reader, depth: usize) -> Result<u32, Stop>
+    requires some { length (leaves.past_cv (state reader.old)).rest < length reader.old.rest.now }
     ensures reads { Gives result reader.new (spec.qualified_as (spec.parse_type depth) (state reader.old)) }
     ensures keeps { OnOk result (Keeps reader.old reader.new) }
     ensures takes { OnOk result (length reader.new.rest.now < length reader.old.rest.now) }
+    ensures pays { Pays 0 0 reader.old reader.new }
+    ensures leaves { OnOk result (Pays 2 2 reader.old reader.new) }
 {
     let cv = reader.read_cv();
     let t = tri!(read_type(reader, depth));
@@ -80,10 +93,13 @@ fn read_qualified(reader: &mut Reader, depth: usize) -> Result<u32, Stop>
 // Reads `Dp <type>`.
 #[cycle(reader)]
 fn read_expansion(reader: &mut Reader, depth: usize) -> Result<u32, Stop>
+    requires some { 0 < length reader.old.rest.now }
     ensures reads { Gives result reader.new (spec.parse_around (spec.parse_type depth) expansion 2
         (state reader.old)) }
     ensures keeps { OnOk result (Keeps reader.old reader.new) }
     ensures takes { OnOk result (length reader.new.rest.now < length reader.old.rest.now) }
+    ensures pays { Pays 0 0 reader.old reader.new }
+    ensures leaves { OnOk result (Pays 2 1 reader.old reader.new) }
 {
     reader.skip(2);
     let t = tri!(read_type(reader, depth));
@@ -93,10 +109,13 @@ fn read_expansion(reader: &mut Reader, depth: usize) -> Result<u32, Stop>
 // Reads `P <type>`.
 #[cycle(reader)]
 fn read_pointer(reader: &mut Reader, depth: usize) -> Result<u32, Stop>
+    requires some { 0 < length reader.old.rest.now }
     ensures reads { Gives result reader.new (spec.parse_around (spec.parse_type depth) pointer 1
         (state reader.old)) }
     ensures keeps { OnOk result (Keeps reader.old reader.new) }
     ensures takes { OnOk result (length reader.new.rest.now < length reader.old.rest.now) }
+    ensures pays { Pays 0 0 reader.old reader.new }
+    ensures leaves { OnOk result (Pays 2 1 reader.old reader.new) }
 {
     reader.skip(1);
     let t = tri!(read_type(reader, depth));
@@ -106,10 +125,13 @@ fn read_pointer(reader: &mut Reader, depth: usize) -> Result<u32, Stop>
 // Reads `R <type>` or `O <type>`.
 #[cycle(reader)]
 fn read_reference(reader: &mut Reader, depth: usize, is_lvalue: bool) -> Result<u32, Stop>
+    requires some { 0 < length reader.old.rest.now }
     ensures reads { Gives result reader.new (spec.parse_around (spec.parse_type depth) (spec.reference_to is_lvalue) 1
         (state reader.old)) }
     ensures keeps { OnOk result (Keeps reader.old reader.new) }
     ensures takes { OnOk result (length reader.new.rest.now < length reader.old.rest.now) }
+    ensures pays { Pays 0 0 reader.old reader.new }
+    ensures leaves { OnOk result (Pays 2 1 reader.old reader.new) }
 {
     reader.skip(1);
     let t = tri!(read_type(reader, depth));
@@ -122,6 +144,8 @@ fn read_param_type(reader: &mut Reader, depth: usize) -> Result<u32, Stop>
     ensures reads { Gives result reader.new (spec.parse_param_type (spec.parse_arg depth) (state reader.old)) }
     ensures keeps { OnOk result (Keeps reader.old reader.new) }
     ensures takes { OnOk result (length reader.new.rest.now < length reader.old.rest.now) }
+    ensures pays { Pays 0 0 reader.old reader.new }
+    ensures leaves { OnOk result (Pays 2 1 reader.old reader.new) }
 {
     let t = tri!(reader.read_template_param());
     tri!(reader.tables.save(t));
@@ -134,6 +158,8 @@ fn read_substituted_type(reader: &mut Reader, depth: usize) -> Result<u32, Stop>
     ensures reads { Gives result reader.new (spec.parse_substituted_type (spec.parse_arg depth) (state reader.old)) }
     ensures keeps { OnOk result (Keeps reader.old reader.new) }
     ensures takes { OnOk result (length reader.new.rest.now < length reader.old.rest.now) }
+    ensures pays { Pays 0 0 reader.old reader.new }
+    ensures leaves { OnOk result (Pays 2 1 reader.old reader.new) }
 {
     let t = tri!(reader.read_substitution());
     read_type_args(reader, depth, t)
@@ -146,6 +172,7 @@ fn read_type_args(reader: &mut Reader, depth: usize, t: u32) -> Result<u32, Stop
     ensures reads { Gives result reader.new (spec.parse_type_args (spec.parse_arg depth) (stands reader.old.tables t)
         (state reader.old)) }
     ensures keeps { OnOk result (Keeps reader.old reader.new) }
+    ensures pays { Pays 0 0 reader.old reader.new }
 {
     if !begins(reader.rest, b'I') {
         return Ok(t);
@@ -160,6 +187,8 @@ fn read_class(reader: &mut Reader, depth: usize) -> Result<u32, Stop>
     ensures reads { Gives result reader.new (spec.parse_class (spec.parse_name depth) (state reader.old)) }
     ensures keeps { OnOk result (Keeps reader.old reader.new) }
     ensures takes { OnOk result (length reader.new.rest.now < length reader.old.rest.now) }
+    ensures pays { Pays 0 0 reader.old reader.new }
+    ensures leaves { OnOk result (Pays 2 1 reader.old reader.new) }
 {
     let name = tri!(read_name(reader, depth));
     tri!(reader.tables.save(name.node));

@@ -11,6 +11,7 @@ use Rattle.cxx_reader.specs.Parser.{parse_arg, parse_name, parse_list}
 use Rattle.cxx_reader.specs.Table.{Table, IsNode, stands, saved_trees}
 use Rattle.cxx_reader.specs.Outcome.{state, IsNamed, named_at}
 use Rattle.cxx_reader.proofs.Kept.{Keeps-trans, Keeps-tables, Keeps-after}
+use Rattle.cxx_reader.proofs.Costs.{Pays-tables, Pays-trans, Pays-add}
 use Rattle.cxx_reader.proofs.Turns.{ListSoFar, items_more, components_more, components_end}
 use Rattle.cxx_reader.proofs.Lists.{list_start, none-below, take-length, take-push, one-more, one-more-below, args_stop, components_stop, close_gives}
 use Rattle.cxx_reader.proofs.+reader.Goals as goal
@@ -28,7 +29,8 @@ args::read_args-loop-reader-init t c =
       below = none-below a from value;
       pending = ap (λ (n : ℕ). take n a.pending) value ∙ take-length a.pending ∙ ap (λ (x : Table). x.pending) same;
       grows = Grows-same c.args.reader.now.tables.store a.store (ap (λ (x : Table). x.store) same);
-      taken = omega (arith, ap (λ (s : State). length s.rest) c.skip.ensures.state, length-drop 1 c.args.reader.now.rest.now);
+      taken = omega (arith, c.skip.ensures.takes);
+      pays = Pays-tables c.args.reader.now c.skip.new.self same (omega (arith, c.skip.ensures.takes));
     }
 
 pub args::read_args-returns-in-Err-clause-reads : goal.args::read_args-returns-in-Err-clause-reads
@@ -62,6 +64,7 @@ args::read_args-loop-reader-preserved t c =
       pending = ap (take from) pushed ∙ take-push from a.pending i so_far.long ∙ so_far.pending;
       grows = Grows-trans c.args.reader.now.tables.store a.store b.store so_far.grows grows;
       taken = omega (arith, so_far.taken, read.takes);
+      pays = Pays-add c.args.reader.now c.loop-reader.reader mid after so_far.pays read.leaves c.add.ensures.adds refl;
     }
 
 pub args::read_args-returns-clause-reads : goal.args::read_args-returns-clause-reads
@@ -90,6 +93,7 @@ names::read_components-loop-reader-preserved t c =
       reads = components_more so_far.reads (search rules) read.reads.1 read.takes;
       named = read.reads.0;
       keeps = Keeps-trans c.args.reader.now c.loop-reader.reader c.read_next.new.reader so_far.keeps read.keeps;
+      pays = Pays-trans c.args.reader.now c.loop-reader.reader c.read_next.new.reader so_far.pays read.leaves;
     }
 
 pub names::read_components-returns-clause-reads : goal.names::read_components-returns-clause-reads

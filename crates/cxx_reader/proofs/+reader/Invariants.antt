@@ -6,6 +6,7 @@ use Rattle.cxx_grammar.specs.State.{skip}
 use Rattle.cxx_reader.specs.Parser.{parse_arg, parse_name, parse_list, parse_rest}
 use Rattle.cxx_reader.specs.Table.{IsNode, stands}
 use Rattle.cxx_reader.specs.Outcome.{state, IsNamed, named_at, Keeps}
+use Rattle.cxx_reader.specs.Cost.{Pays}
 use Rattle.cxx_reader.proofs.Turns.{ListSoFar, ComponentsSoFar}
 use Rattle.cxx_reader.proofs.+reader.Given as goal
 
@@ -120,6 +121,7 @@ invariant-args::read_args-loop-reader l = record {
   pending : take l.from l.reader.tables.pending ≡ l.fn.reader.tables.pending;
   grows : Grows l.fn.reader.tables.store l.reader.tables.store;
   taken : length l.reader.rest.now ≤ length l.fn.reader.rest.now;
+  pays : Pays 0 0 l.fn.reader l.reader;
 }
 
 abbrev pub decreases-args::read_args-loop-reader : goal.decreases-args::read_args-loop-reader
@@ -130,6 +132,7 @@ invariant-names::read_components-loop-reader l = record {
   reads : ComponentsSoFar (parse_rest (parse_arg l.depth) (parse_name l.depth) (named_at l.fn.reader.tables l.fn.name) (state l.fn.reader)) (parse_arg l.depth) (parse_name l.depth) (named_at l.reader.tables l.last) (state l.reader);
   named : IsNamed l.reader.tables l.last;
   keeps : Keeps l.fn.reader l.reader;
+  pays : Pays 0 0 l.fn.reader l.reader;
 }
 
 abbrev pub decreases-names::read_components-loop-reader : goal.decreases-names::read_components-loop-reader

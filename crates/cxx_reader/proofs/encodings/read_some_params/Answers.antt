@@ -1,4 +1,4 @@
-use Rattle.std.proofs.Common.{ℕ, ◌≡◌, ◌+◌, ◌<◌, ◌≤◌, List, [], ◌∷◌, ◌++◌, ◌∙◌, length, map, drop, take, sym, ap, subst, arith, rules, Some, length-append}
+use Rattle.std.proofs.Common.{ℕ, ◌≡◌, ◌+◌, ◌<◌, ◌≤◌, List, [], ◌∷◌, ◌++◌, ◌∙◌, length, map, drop, take, refl, sym, ap, subst, arith, rules, Some, length-append}
 use Rattle.std.specs.List.{AllByRecursion}
 use Rattle.cxx_tree.specs.Tree.{Tree}
 use Rattle.cxx_tree.specs.Grows.{Grows}
@@ -11,6 +11,7 @@ use Rattle.cxx_reader.specs.Parser.{parse_type, parse_some_params}
 use Rattle.cxx_reader.specs.Table.{Table, IsNode, stands}
 use Rattle.cxx_reader.specs.Outcome.{state, GivesFrom}
 use Rattle.std.proofs.Common.{Ok}
+use Rattle.cxx_reader.proofs.Costs.{Pays-add}
 use Rattle.cxx_reader.proofs.Turns.{ListSoFar, items_more, items_end}
 use Rattle.cxx_reader.proofs.Lists.{params_stop, take-push, one-more, one-more-below}
 use Rattle.cxx_reader.proofs.encodings.read_some_params.Goals as goal
@@ -47,6 +48,7 @@ loop-reader-preserved c =
       pending = ap (take from) pushed ∙ take-push from a.pending i so_far.long ∙ so_far.pending;
       grows = Grows-trans c.args.reader.now.tables.store a.store b.store so_far.grows grows;
       taken = omega (arith, so_far.taken, read.takes);
+      pays = Pays-add c.args.reader.now c.loop-reader.reader mid after so_far.pays read.leaves kept.adds refl;
     }
 
 pub returns-clause-reads : goal.returns-clause-reads

@@ -5,6 +5,7 @@ use Rattle.cxx_grammar.specs.Cases.{is_encoding_end}
 use Rattle.cxx_reader.specs.Parser.{parse_type, parse_some_params}
 use Rattle.cxx_reader.specs.Table.{IsNode, stands}
 use Rattle.cxx_reader.specs.Outcome.{state}
+use Rattle.cxx_reader.specs.Cost.{Pays}
 use Rattle.cxx_reader.proofs.Turns.{ListSoFar}
 use Rattle.cxx_reader.proofs.encodings.read_some_params.Given as goal
 
@@ -17,6 +18,7 @@ invariant-loop-reader l = record {
   pending : take l.from l.reader.tables.pending ≡ l.fn.reader.tables.pending;
   grows : Grows l.fn.reader.tables.store l.reader.tables.store;
   taken : length l.reader.rest.now ≤ length l.fn.reader.rest.now;
+  pays : Pays 2 0 l.fn.reader l.reader;
 }
 
 abbrev pub decreases-loop-reader : goal.decreases-loop-reader
