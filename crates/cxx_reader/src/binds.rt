@@ -1,15 +1,17 @@
 //! What becomes of the template parameters of an encoding.
 #![tactic(auto, using(crate::proofs::Rules::productions), unfolding(crate::specs::Table::stands, crate::specs::Table::saved_trees, crate::specs::Outcome::named_at, crate::specs::Outcome::list_trees, cxx_tree::specs::Counts::Row))]
 
-ghost use Rattle.std.specs.Prelude.{◌≡◌, ℕ, ◌<◌, ◌≤◌, [], length, map, drop, take, OnOk, IfSome, option_map, Option};
+ghost use Rattle.std.specs.Prelude.{◌≡◌, ℕ, ◌+◌, ◌*◌, ◌<◌, ◌≤◌, [], length, map, drop, take, OnOk, IfSome, option_map, Option};
 ghost use Rattle.cxx_tree.specs.Grows.{Grows};
 ghost use Rattle.cxx_tree.specs.Bind.{bind};
+ghost use Rattle.cxx_tree.specs.Measure.{measure, measure_each};
 ghost use Rattle.cxx_tree.specs.Stored.{forest, size, trees_in, trees_from_list, IsListBelow};
 ghost use Rattle.cxx_grammar.specs.State as grammar;
 ghost use Rattle.cxx_grammar.specs.Bases as bases;
 ghost use Rattle.cxx_grammar.specs.Binds as spec;
 ghost use Rattle.cxx_reader.specs.Table.{IsNode, stands};
 ghost use Rattle.cxx_reader.specs.Outcome.{state, Keeps, KeepsFront, Gives, GivesFrom, GivesCount, IsNamed, named_at, list_trees};
+ghost use Rattle.cxx_reader.specs.Cost.{Pays, Spends, uncounted};
 
 use crate::bases::args_of;
 use crate::reader::{Named, Reader};
@@ -26,6 +28,9 @@ impl<'a> Reader<'a> {
         ensures reads { GivesCount result self.new (spec.count_replaced (stands self.old.tables i) (state self.old)) }
         ensures tables { self.new.tables ≡ self.old.tables }
         ensures rest { self.new.rest.now ≡ self.old.rest.now }
+        ensures spends { Spends 0 self.old self.new }
+        ensures counts { OnOk result (self.new.replaced ≡ self.old.replaced
+            + (measure (stands self.old.tables i)).params) }
     {
         let params = self.tables.arena().measure(i).params as usize;
         if self.replaced.saturating_add(params) > MAX_REPLACED {
@@ -43,6 +48,7 @@ impl<'a> Reader<'a> {
             (drop from self.old.tables.pending))) (stands self.old.tables i)) (state self.old)) }
         ensures keeps { OnOk result (Keeps self.old self.new) }
         ensures rest { self.new.rest.now ≡ self.old.rest.now }
+        ensures spends { Spends (measure (stands self.old.tables i)).params self.old self.new }
     {
         self.tables.bind(self.alloc, from, i)
     }
@@ -55,6 +61,8 @@ impl<'a> Reader<'a> {
             (drop from self.old.tables.pending)) (stands self.old.tables i) (state self.old)) }
         ensures keeps { OnOk result (Keeps self.old self.new) }
         ensures rest { self.new.rest.now ≡ self.old.rest.now }
+        ensures spends { Spends (uncounted is_inherited (measure (stands self.old.tables i)).params) self.old
+            self.new }
     {
         if is_inherited {
             tri!(self.count_replaced(i));
@@ -70,6 +78,8 @@ impl<'a> Reader<'a> {
             (trees_from_list (list_trees self.old.tables args)) (state self.old)) }
         ensures keeps { OnOk result (KeepsFront self.old self.new) }
         ensures rest { self.new.rest.now ≡ self.old.rest.now }
+        ensures spends { Spends (uncounted is_inherited (measure_each (trees_from_list (list_trees self.old.tables
+            args))).params) self.old self.new }
     {
         let from = self.tables.pending_len();
         let len = self.tables.arena().items(args).len();
@@ -105,6 +115,7 @@ impl<'a> Reader<'a> {
             (state self.old)) }
         ensures keeps { OnOk result (KeepsFront self.old self.new) }
         ensures rest { self.new.rest.now ≡ self.old.rest.now }
+        ensures spends { Spends (measure (stands self.old.tables name.node)).params self.old self.new }
     {
         if let Some(args) = self.inherited_args(name) {
             return self.bind_args(true, args);
@@ -134,25 +145,35 @@ impl<'a> Reader<'a> {
             (drop from self.old.tables.pending)) (stands self.old.tables i) (state self.old)) }
         ensures grows { OnOk result (Grows self.old.tables.store self.new.tables.store) }
         ensures pending { OnOk result (self.new.tables.pending ≡ take from self.old.tables.pending) }
+        ensures left { length self.new.tables.pending ≤ from }
         ensures rest { self.new.rest.now ≡ self.old.rest.now }
+        ensures spends { Spends (measure (stands self.old.tables i)).params self.old self.new }
     {
-        let bound = tri!(self.bind_one(from, i));
+        let bound = self.bind_one(from, i);
         self.tables.truncate(from);
-        self.closed(bound)
+        self.closed(tri!(bound))
     }
 
     /// Puts the arguments of the name of an encoding in the place of the template parameters of its tree.
     pub fn bind(&mut self, name: Named, i: u32) -> Result<u32, Stop>
         requires named { IsNamed self.old.tables name }
         requires node { IsNode self.old.tables i }
+        requires holds { (measure (stands self.old.tables name.node)).params
+            ≤ (measure (stands self.old.tables i)).params }
         ensures reads { Gives result self.new (spec.bind_encoding (named_at self.old.tables name)
             (stands self.old.tables i) (state self.old)) }
         ensures keeps { OnOk result (Keeps self.old self.new) }
         ensures rest { self.new.rest.now ≡ self.old.rest.now }
+        ensures pays { Pays 0 0 self.old self.new }
     {
         tri!(self.count_replaced(i));
         let from = self.tables.pending_len();
-        tri!(self.bind_arguments(name));
-        self.bind_tree(from, i)
+        match self.bind_arguments(name) {
+            Ok(()) => self.bind_tree(from, i),
+            Err(stop) => {
+                self.tables.truncate(from);
+                Err(stop)
+            }
+        }
     }
 }

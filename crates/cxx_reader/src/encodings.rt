@@ -1,7 +1,7 @@
 //! Encodings (Itanium C++ ABI 5.1.2).
 #![tactic(auto, using(crate::proofs::Rules::productions), unfolding(cxx_tree::specs::Stored::tree_of, cxx_tree::specs::Stored::plain_tree, cxx_tree::specs::Stored::IsBelow, cxx_tree::specs::Stored::IsPlainBelow, crate::specs::Table::stands, crate::specs::Outcome::named_at))]
 
-ghost use Rattle.std.specs.Prelude.{◌≡◌, ℕ, ◌<◌, ◌≤◌, ◌&&◌, not, length, map, drop, take, OnOk, IfSome, option_map};
+ghost use Rattle.std.specs.Prelude.{◌≡◌, ℕ, ◌+◌, ◌*◌, ◌<◌, ◌≤◌, ◌&&◌, not, length, map, drop, take, OnOk, IfSome, option_map};
 ghost use Rattle.cxx_tree.specs.Grows.{Grows};
 ghost use Rattle.cxx_tree.specs.Stored.{forest, size};
 ghost use Rattle.cxx_grammar.specs.Grammar as grammar;
@@ -122,6 +122,7 @@ impl<'a> Reader<'a> {
 pub fn read_encoding(reader: &mut Reader, depth: usize) -> Result<u32, Stop>
     ensures reads { Gives result reader.new (spec.parse_encoding depth (state reader.old)) }
     ensures keeps { OnOk result (Keeps reader.old reader.new) }
+    ensures pays { Pays 0 0 reader.old reader.new }
 {
     if depth == 0 {
         return Err(Stop::Unreadable);

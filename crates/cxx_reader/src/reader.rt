@@ -57,6 +57,7 @@ impl<'a> Reader<'a> {
     pub fn skip(&mut self, n: usize)
         ensures state { state self.new ≡ spec.skip n (state self.old) }
         ensures tables { self.new.tables ≡ self.old.tables }
+        ensures replaced { self.new.replaced ≡ self.old.replaced }
         ensures takes { length self.new.rest.now ≡ length self.old.rest.now - n }
     {
         self.rest = &self.rest[n.min(self.rest.len())..];
@@ -68,6 +69,7 @@ impl<'a> Reader<'a> {
         ensures value { result ≡ begins (letter ∷ []) self.old.rest.now }
         ensures state { state self.new ≡ spec.past_byte letter (state self.old) }
         ensures tables { self.new.tables ≡ self.old.tables }
+        ensures replaced { self.new.replaced ≡ self.old.replaced }
         ensures within { length self.new.rest.now ≤ length self.old.rest.now }
         ensures takes { result ≡ true → length self.new.rest.now < length self.old.rest.now }
     {
@@ -83,6 +85,7 @@ impl<'a> Reader<'a> {
         ensures value { result ≡ leaves.cv_at (state self.old) }
         ensures state { state self.new ≡ leaves.past_cv (state self.old) }
         ensures tables { self.new.tables ≡ self.old.tables }
+        ensures replaced { self.new.replaced ≡ self.old.replaced }
         ensures within { length self.new.rest.now ≤ length self.old.rest.now }
     {
         let is_restrict = self.skip_letter(b'r');
@@ -100,6 +103,7 @@ impl<'a> Reader<'a> {
         ensures value { result ≡ leaves.ref_at (state self.old) }
         ensures state { state self.new ≡ leaves.past_ref (state self.old) }
         ensures tables { self.new.tables ≡ self.old.tables }
+        ensures replaced { self.new.replaced ≡ self.old.replaced }
         ensures within { length self.new.rest.now ≤ length self.old.rest.now }
     {
         if self.skip_letter(b'O') {

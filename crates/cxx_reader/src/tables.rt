@@ -262,6 +262,8 @@ impl Tables {
         ensures makes { MakesIn result self.old self.new (bind (binding_of (map (stands self.old)
             (drop from self.old.pending))) (stands self.old i)) }
         ensures few { size self.new.store ≤ size self.old.store + (measure (stands self.old i)).params }
+        ensures saved { self.new.saved ≡ self.old.saved }
+        ensures same { self.new.pending ≡ self.old.pending }
     {
         let binding = Binding {
             level: 0,
@@ -273,7 +275,6 @@ impl Tables {
 
     /// Keeps the first nodes of the lists that are read.
     pub fn truncate(&mut self, from: usize)
-        requires within { from ≤ length self.old.pending }
         ensures taken { self.new ≡ taken from self.old }
     {
         self.pending.truncate(from);

@@ -30,7 +30,7 @@ args::read_args-loop-reader-init t c =
       pending = ap (λ (n : ℕ). take n a.pending) value ∙ take-length a.pending ∙ ap (λ (x : Table). x.pending) same;
       grows = Grows-same c.args.reader.now.tables.store a.store (ap (λ (x : Table). x.store) same);
       taken = omega (arith, c.skip.ensures.takes);
-      pays = Pays-tables c.args.reader.now c.skip.new.self same (omega (arith, c.skip.ensures.takes));
+      pays = Pays-tables c.args.reader.now c.skip.new.self same (omega (arith, c.skip.ensures.takes)) c.skip.ensures.replaced;
     }
 
 pub args::read_args-returns-in-Err-clause-reads : goal.args::read_args-returns-in-Err-clause-reads
@@ -64,7 +64,7 @@ args::read_args-loop-reader-preserved t c =
       pending = ap (take from) pushed ∙ take-push from a.pending i so_far.long ∙ so_far.pending;
       grows = Grows-trans c.args.reader.now.tables.store a.store b.store so_far.grows grows;
       taken = omega (arith, so_far.taken, read.takes);
-      pays = Pays-add c.args.reader.now c.loop-reader.reader mid after so_far.pays read.leaves c.add.ensures.adds refl;
+      pays = Pays-add c.args.reader.now c.loop-reader.reader mid after so_far.pays read.leaves c.add.ensures.adds refl refl;
     }
 
 pub args::read_args-returns-clause-reads : goal.args::read_args-returns-clause-reads

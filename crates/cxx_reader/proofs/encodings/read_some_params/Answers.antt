@@ -48,7 +48,7 @@ loop-reader-preserved c =
       pending = ap (take from) pushed ∙ take-push from a.pending i so_far.long ∙ so_far.pending;
       grows = Grows-trans c.args.reader.now.tables.store a.store b.store so_far.grows grows;
       taken = omega (arith, so_far.taken, read.takes);
-      pays = Pays-add c.args.reader.now c.loop-reader.reader mid after so_far.pays read.leaves kept.adds refl;
+      pays = Pays-add c.args.reader.now c.loop-reader.reader mid after so_far.pays read.leaves kept.adds refl refl;
     }
 
 pub returns-clause-reads : goal.returns-clause-reads
