@@ -1,9 +1,11 @@
 -- The parser gives the one encoding that all of the bytes are read as.
-use Rattle.std.proofs.Common.{ℕ, ◌≡◌, ◌≢◌, List, [], ◌∷◌, ◌∙◌, refl, sym, ap, subst, arith, length, Option, Some, None, Bool, true, false, Result, Ok, Err}
+use Rattle.std.proofs.Common.{ℕ, ◌≡◌, ◌≢◌, List, [], ◌∷◌, ◌∙◌, refl, sym, ap, subst, arith, length, drop, zero, suc, Option, Some, None, Bool, true, false, Result, Ok, Err}
 use Rattle.cxx_reader.specs.declared.reader.Reader.{Reader}
 use Rattle.cxx_reader.specs.declared.stop.Stop.{Stop}
 use Rattle.cxx_reader.specs.declared.stop.Stop.TheVariants.{Unreadable, Memory}
 use Rattle.cxx_reader.specs.Outcome.{Gives}
+use Rattle.std.specs.Prelude.{if◌then◌else◌, codes, ◌≤◌}
+use Rattle.abi_scalars.specs.Bytes.{begins}
 use Rattle.std.specs.Str.{IsUtf8}
 use Rattle.abi_scalars.specs.Symbol.{after_prefix}
 use Rattle.cxx_tree.specs.Tree.{Tree}
@@ -11,9 +13,9 @@ use Rattle.cxx_grammar.specs.State.{State}
 use Rattle.cxx_grammar.specs.Grammar.{Encoding}
 use Rattle.cxx_reader.specs.Parser.{parse_encoding}
 use Rattle.cxx_reader.proofs.EncodingReadings.{encoding_sound, encoding_complete}
-use Rattle.cxx_reader.proofs.Sound.{some_same}
+use Rattle.cxx_reader.proofs.Sound.{some_same, chosen}
 use Rattle.cxx_demangle.specs.declared.demangler.Printing.{Printing}
-use Rattle.cxx_demangle.specs.Answer.{start, max_depth, max_text, IsWhole, Reads, IsText, text_of, HasAnswer, HasNoAnswer, HasAtMostOneReading, IsAnswer}
+use Rattle.cxx_demangle.specs.Answer.{start, max_depth, max_text, IsWhole, Reads, IsText, text_of, HasAnswer, HasNoAnswer, HasAtMostOneReading, HasBounds, IsAnswer}
 use Rattle.cxx_demangle.specs.Demangler.{answer_of}
 
 -- all bytes are read
@@ -83,3 +85,24 @@ pub refused : (r : Result ℕ Stop) (after : Reader) (x : Option (Tree × State)
 refused (Ok i) after x g e = absurd cc
 refused (Err Unreadable) after x g e = g
 refused (Err Memory) after x g e = absurd cc
+
+drop-shorter : (n : ℕ) (xs : List ℕ) → length (drop n xs) ≤ length xs
+drop-shorter zero xs = omega arith
+drop-shorter (suc n) [] = omega arith
+drop-shorter (suc n) (x ∷ xs) = omega (arith, drop-shorter n xs)
+
+-- what follows the prefix is no longer than the symbol
+pub inside_shorter : (symbol inside : List ℕ) → after_prefix symbol ≡ Some inside → length inside ≤ length symbol
+inside_shorter symbol inside e =
+    chosen (begins (codes "_Z") symbol) (Some (drop 2 symbol)) (if begins (codes "__Z") symbol then Some (drop 3 symbol) else None) inside
+    (λ _ f. omega (arith, ap length (some_same (drop 2 symbol) inside f), drop-shorter 2 symbol))
+    (λ _ f. chosen (begins (codes "__Z") symbol) (Some (drop 3 symbol)) None inside
+    (λ _ g. omega (arith, ap length (some_same (drop 3 symbol) inside g), drop-shorter 3 symbol)) (λ _ g. absurd cc) f)
+    e
+
+pub bounds_of : (symbol inside : List ℕ) (nodes saved : ℕ) → after_prefix symbol ≡ Some inside → HasBounds inside nodes saved → HasBounds symbol nodes saved
+bounds_of symbol inside nodes saved e b =
+    let shorter = inside_shorter symbol inside e in
+    record { few_nodes = omega (arith, b.few_nodes, shorter); few_saved = omega (arith, b.few_saved, shorter) }
+
+pub ruleset answers = (bounds_of)

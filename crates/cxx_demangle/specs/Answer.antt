@@ -1,5 +1,5 @@
 -- What a symbol's answer is.
-use Rattle.std.specs.Prelude.{◌≡◌, ℕ, ◌≤◌, List, [], length, Option, Some, None, false}
+use Rattle.std.specs.Prelude.{◌≡◌, ℕ, ◌+◌, ◌*◌, ◌≤◌, List, [], length, Option, Some, None, false}
 use Rattle.std.specs.Str.{IsUtf8}
 use Rattle.abi_scalars.specs.Symbol.{after_prefix}
 use Rattle.cxx_tree.specs.Tree.{Tree}
@@ -60,3 +60,9 @@ IsAnswer printing symbol None = HasNoAnswer printing symbol
 -- the symbol is read as one tree at most
 pub record HasAtMostOneReading (symbol : List ℕ) : Type 0 where
   pub agree : (t u : Tree) → Reads symbol t → Reads symbol u → t ≡ u
+
+-- each byte of a symbol makes four nodes at most, and each of the 65,536 nodes that may be replaced two; it saves two trees
+-- at most
+pub record HasBounds (symbol : List ℕ) (nodes saved : ℕ) : Type 0 where
+  pub few_nodes : nodes ≤ 4 * length symbol + 131072
+  pub few_saved : saved ≤ 2 * length symbol

@@ -1,8 +1,9 @@
 -- What a demangler keeps between calls.
-use Rattle.std.specs.Prelude.{ℕ, List, Bool, true, false, Option, Some, None, Result, Ok, Err}
+use Rattle.std.specs.Prelude.{ℕ, List, Bool, true, false, Option, Some, None, Result, Ok, Err, length}
 use Rattle.std.specs.Str.{IsUtf8}
 use Rattle.std.specs.declared.alloc.AllocError.{AllocError}
 use Rattle.cxx_tree.specs.Tree.{Tree}
+use Rattle.cxx_tree.specs.Stored.{size}
 use Rattle.cxx_reader.specs.Table.{Table, IsNode, stands}
 use Rattle.cxx_demangle.specs.declared.demangler.Demangler.TheInside.{Inside}
 use Rattle.cxx_demangle.specs.Answer.{IsWhole}
@@ -12,9 +13,19 @@ abbrev pub answer_of : Bool → List ℕ → Option (List ℕ)
 answer_of true text = Some text
 answer_of false text = None
 
+-- what is left of the last symbol
+pub record LastAnswer : Type 0 where
+  pub text : Option (List ℕ)  -- its answer, if there is one
+  pub nodes : ℕ  -- how many nodes it made
+  pub saved : ℕ  -- how many substitution candidates it saved
+
 -- what the fields mean
-abbrev pub last_answer : Inside → Option (List ℕ)
-last_answer d = answer_of d.is_answered d.text
+abbrev pub last_answer : Inside → LastAnswer
+last_answer d = record {
+  text = answer_of d.is_answered d.text;
+  nodes = size d.tables.store;
+  saved = length d.tables.saved;
+}
 
 -- a text, where there is one, is UTF-8
 abbrev pub IsOptionUtf8 : Option (List ℕ) → Type 0
@@ -23,7 +34,7 @@ IsOptionUtf8 None = Unit {0}
 
 -- what is kept as an answer is UTF-8
 abbrev pub KeepsAnswer : Inside → Type 0
-KeepsAnswer d = IsOptionUtf8 (last_answer d)
+KeepsAnswer d = IsOptionUtf8 (answer_of d.is_answered d.text)
 
 -- the node of the encoding that all of the bytes are read as; or there is no such encoding
 abbrev pub GivesWhole : Result (Option ℕ) AllocError → Table → List ℕ → Type 0

@@ -1,12 +1,13 @@
 //! `Demangler`, which demangles symbol after symbol.
-#![tactic(auto, unfolding(cxx_reader::specs::Table::stands))]
+#![tactic(auto, using(crate::proofs::Whole::answers), unfolding(cxx_reader::specs::Table::stands))]
 
-ghost use Rattle.std.specs.Prelude.{◌≡◌, ℕ, ◌<◌, ◌≤◌, List, IfOk, OnOk, OnErr, MatchResult, ⊤, option_map, is_some, true, false, Option, Ok, Some, None};
+ghost use Rattle.std.specs.Prelude.{◌≡◌, length, IfOk, OnOk, OnErr, MatchResult, ⊤, option_map, is_some, true, false, Ok, None};
 ghost use Rattle.std.specs.Borrow.{sem};
 ghost use Rattle.std.specs.Str.{IsUtf8};
 ghost use Rattle.abi_scalars.specs.Symbol as symbols;
+ghost use Rattle.cxx_tree.specs.Stored.{size};
 ghost use Rattle.cxx_reader.specs.Table.{IsNode, stands};
-ghost use Rattle.cxx_demangle.specs.Answer.{IsAnswer, HasAtMostOneReading, IsText, text_of};
+ghost use Rattle.cxx_demangle.specs.Answer.{IsAnswer, HasAtMostOneReading, HasBounds, IsText, text_of};
 ghost use Rattle.cxx_demangle.specs.Demangler.{GivesWhole};
 
 use abi_scalars::symbol::after_prefix;
@@ -46,10 +47,9 @@ pub struct Demangler {
 }
 
 impl Model for Demangler {
-    ghost use Rattle.std.specs.Prelude.{ℕ, List, Option};
-    ghost use Rattle.cxx_demangle.specs.Demangler.{last_answer, KeepsAnswer};
+    ghost use Rattle.cxx_demangle.specs.Demangler.{LastAnswer, last_answer, KeepsAnswer};
 
-    ghost Value = { Option (List ℕ) };
+    ghost Value = { LastAnswer };
 
     ghost view = { last_answer };
 
@@ -59,6 +59,7 @@ impl Model for Demangler {
 // Reads all of the bytes as an encoding. Returns its node, or `None` if there is no such encoding within the limits.
 fn read(tables: &mut Tables, alloc: Global, bytes: &[u8]) -> Result<Option<u32>, AllocError>
     ensures gives { GivesWhole result tables.new bytes.now }
+    ensures bounds { HasBounds bytes.now (size tables.new.store) (length tables.new.saved) }
 {
     let mut cleared = replace(tables, Tables::new(alloc));
     cleared.clear();
@@ -113,7 +114,8 @@ impl Demangler {
 
     /// Returns a value that has read no symbol. Allocates nothing.
     pub fn new(alloc: Global) -> Self
-        ensures empty { result ≡ None }
+        ensures empty { result.text ≡ None }
+        ensures nothing { (result.nodes ≡ 0) × (result.saved ≡ 0) }
     {
         Demangler {
             is_answered: false,
@@ -131,6 +133,9 @@ impl Demangler {
     /// counted productions nest, no tree is higher than 1,024, none has a work above 1,048,576, and at most 65,536
     /// nodes are replaced. Or what is printed has more than `MAX_TEXT` bytes, or it isn't UTF-8.
     ///
+    /// A symbol of n bytes makes at most 4 · n + 131,072 nodes, and saves at most 2 · n of them, whether it has an answer
+    /// or not.
+    ///
     /// Returns an error if an allocation fails. Then the value has no answer, and it can be used again.
     pub fn prepare(
         &mut self,
@@ -138,14 +143,16 @@ impl Demangler {
         symbol: &str,
         printing: Printing,
     ) -> Result<bool, AllocError>
-        ensures answer { IfOk result (λ _. IsAnswer printing symbol.now self.new) }
-        ensures found { IfOk result (λ found. found ≡ is_some self.new) }
+        ensures answer { IfOk result (λ _. IsAnswer printing symbol.now self.new.text) }
+        ensures found { IfOk result (λ found. found ≡ is_some self.new.text) }
         ensures one { HasAtMostOneReading symbol.now }
-        ensures no_prefix { symbols.after_prefix symbol.now ≡ None → (result ≡ Ok false) × (self.new ≡ None) }
-        ensures err { OnErr result (self.new ≡ None) }
+        ensures no_prefix { symbols.after_prefix symbol.now ≡ None → (result ≡ Ok false) × (self.new.text ≡ None) }
+        ensures err { OnErr result (self.new.text ≡ None) }
+        ensures bounds { HasBounds symbol.now self.new.nodes self.new.saved }
     {
         self.is_answered = false;
         let Some(bytes) = after_prefix(symbol.as_bytes()) else {
+            self.tables.clear();
             return Ok(false);
         };
         let Some(tree) = read(&mut self.tables, alloc, bytes)? else {
@@ -160,7 +167,7 @@ impl Demangler {
     /// Returns the answer to the last symbol, borrowed until the next call. Returns `None` if that symbol had none,
     /// after an error, and before the first symbol.
     pub fn text(&self) -> Option<&str>
-        ensures value { option_map (λ text. text.now) result ≡ self.now }
+        ensures value { option_map (λ text. text.now) result ≡ self.now.text }
     {
         if !self.is_answered {
             return None;
@@ -179,11 +186,12 @@ impl Demangler {
     ) -> Result<Option<&'a str>, AllocError>
         ensures answer { IfOk result (λ found. IsAnswer printing symbol.now (option_map (λ text. text.now) found)) }
         ensures no_prefix { symbols.after_prefix symbol.now ≡ None → result ≡ Ok None }
-        // `last` is the value after the borrow. It keeps the text that was returned, and nothing after an error.
+        // `last` is the value after the borrow. It keeps the text that was returned, and none after an error.
         ensures* kept { sem 𝓛 (follows_so the_row the_row self.entry.ghost_name none (λ _ _. ⊤)
             (λ last. MatchResult result
-            (λ found. last ≡ option_map (λ text. text.now) found)
-            (λ _. last ≡ None))) }
+            (λ found. (last.text ≡ option_map (λ text. text.now) found)
+            × HasBounds symbol.now last.nodes last.saved)
+            (λ _. (last.text ≡ None) × HasBounds symbol.now last.nodes last.saved))) }
     {
         self.prepare(alloc, symbol, printing)?;
         Ok(self.text())

@@ -5,24 +5,24 @@ use Rattle.cxx_demangle.proofs.Whole.{whole_read, none_read, some_left, started,
 use Rattle.cxx_reader.specs.declared.stop.Stop.TheVariants.{Unreadable}
 use Rattle.cxx_demangle.proofs.demangler.read.Goals as goal
 
-pub returns-in-Ok : goal.returns-in-Ok
-returns-in-Ok c =
+pub returns-in-Ok-clause-gives : goal.returns-in-Ok-clause-gives
+returns-in-Ok-clause-gives c =
     let read = (c.in-Ok.ensures {u = tt}).reads in
     let end = c.read_encoding-read.new.reader in
     let parsed = started c.args.bytes.now (saved_trees c.clear.new.self) c.clear.ensures.empty read.1 in
     let empty : length end.rest.now ≡ 0 = search rules in
-    record { gives = (read.0, whole_read c.args.bytes.now _ (state end) parsed (no_bytes end.rest.now empty)) }
+    (read.0, whole_read c.args.bytes.now _ (state end) parsed (no_bytes end.rest.now empty))
 
-pub returns-in-Ok-2 : goal.returns-in-Ok-2
-returns-in-Ok-2 c =
+pub returns-in-Ok-2-clause-gives : goal.returns-in-Ok-2-clause-gives
+returns-in-Ok-2-clause-gives c =
     let read = (c.in-Ok-2.ensures {u = tt}).reads in
     let end = c.read_encoding-read.new.reader in
     let parsed = started c.args.bytes.now (saved_trees c.clear.new.self) c.clear.ensures.empty read.1 in
     let some : length end.rest.now ≢ 0 = search rules in
-    record { gives = some_left c.args.bytes.now _ (state end) parsed (some_bytes end.rest.now some) }
+    some_left c.args.bytes.now _ (state end) parsed (some_bytes end.rest.now some)
 
-pub returns-in-Err-Unreadable : goal.returns-in-Err-Unreadable
-returns-in-Err-Unreadable c =
+pub returns-in-Err-Unreadable-clause-gives : goal.returns-in-Err-Unreadable-clause-gives
+returns-in-Err-Unreadable-clause-gives c =
     let is : c.read_encoding-read.result ≡ Err Unreadable = search rules in
     let none = refused c.read_encoding-read.result c.read_encoding-read.new.reader _ c.read_encoding-read.ensures.reads is in
-    record { gives = none_read c.args.bytes.now (started c.args.bytes.now (saved_trees c.clear.new.self) c.clear.ensures.empty none) }
+    none_read c.args.bytes.now (started c.args.bytes.now (saved_trees c.clear.new.self) c.clear.ensures.empty none)
