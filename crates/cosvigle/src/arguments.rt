@@ -41,8 +41,8 @@ pub struct Printed<'a> {
 }
 
 /// Returns what is printed for an argument: the bytes in front of its symbol, and then the symbol's demangled name, its
-/// signature or its declaration. If there is none, or the symbol isn't UTF-8, the argument itself is printed. If `options.strip` is set,
-/// the symbol may have one more underscore in front. Returns an error if an allocation fails.
+/// signature or its declaration. If there is none, or the symbol isn't UTF-8, the argument itself is printed. If
+/// `options.strip` is set, the symbol may have one more underscore in front. Returns an error if an allocation fails.
 pub fn answer_of<'a>(
     alloc: Global,
     demanglers: &'a mut Demanglers,

@@ -88,8 +88,8 @@ fn ordinary_lines_len(lines: &[u8]) -> usize
 }
 
 /// Returns what is written for a line, which has no line feed here: what is printed for its symbol. Returns the line
-/// itself if nothing is printed, or if the line isn't UTF-8. If `known_utf8` is true, the line is UTF-8 and isn't tested
-/// again.
+/// itself if nothing is printed, or if the line isn't UTF-8. If `known_utf8` is true, the line is UTF-8 and isn't
+/// tested again.
 #[inline(always)]
 fn line_answer<'a>(
     alloc: Global,
