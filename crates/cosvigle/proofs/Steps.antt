@@ -1,5 +1,5 @@
 -- Steps through the letters and names of options.
-use Rattle.std.proofs.Common.{◌≡◌, ◌≢◌, ℕ, suc, ◌+◌, ◌<◌, List, [], ◌∷◌, true, false, ◌==◌, if◌then◌else◌, length, take, drop, get_or, refl, ap, ◌∙◌, arith}
+use Rattle.std.proofs.Common.{◌≡◌, ◌≢◌, ℕ, suc, ◌+◌, ◌<◌, List, [], ◌∷◌, true, false, ◌==◌, Some, None, codes, if◌then◌else◌, length, take, drop, get_or, refl, ap, ◌∙◌, arith}
 use Rattle.std.proofs.Common.{ne_eqb, eq-eqb}
 use Rattle.std.proofs.lemmas.List.{length-drop}
 use Rattle.std.proofs.Math.Seq.{drop-cons}
@@ -7,11 +7,13 @@ use Rattle.std.specs.List.{starts_with}
 use Rattle.abi_scalars.specs.Bytes.{begins}
 use Rattle.cosvigle.specs.declared.options.Flags.{Flags}
 use Rattle.cosvigle.specs.declared.options.EarlyExit.TheVariants as instead
+use Rattle.cosvigle.specs.declared.options.Valued.{Valued}
 use Rattle.cosvigle.specs.declared.options.OptionState.{OptionState}
 use Rattle.cosvigle.specs.declared.options.OptionState.TheVariants.{Ready, NeedsValue, Exit}
 use Rattle.cosvigle.specs.declared.option_names.Found.{Found}
 use Rattle.cosvigle.specs.declared.option_names.Found.TheVariants.{Exact}
-use Rattle.cosvigle.specs.Options.{match_name, with_match, after_letter, after_format, letters, with_value, after_valued, name_len, find_option, after_found, after_name}
+use Rattle.cosvigle.specs.declared.option_names.LongOption.TheVariants as long
+use Rattle.cosvigle.specs.Options.{match_name, with_match, after_letter, after_value, letters, with_value, after_named, name_len, find_option, find_long_option, after_found, after_name}
 
 either_way : (a b : ℕ) → (a == b) ≡ (b == a)
 either_way a b = grind arith
@@ -32,38 +34,53 @@ begins_whole found bytes name letter begun whole = rw (begun, eq-eqb _ _ whole) 
 pub begins_more : (found : Found) (bytes name : List ℕ) (letter : ℕ) → begins bytes name ≡ true → length name ≢ length bytes → with_match found letter ≡ match_name found bytes name letter
 begins_more found bytes name letter begun more = rw (begun, ne_eqb _ _ more) refl
 
--- the value after a letter
-letters_some : (next : Flags) (bytes : List ℕ) → 0 < length bytes → letters (NeedsValue next) bytes ≡ after_format next bytes
-letters_some next [] some = absurd (omega (arith, some))
-letters_some next (b ∷ bytes) some = refl
+-- the option without a letter whose name begins with the bytes
+pub long_first : (bytes : List ℕ) → begins bytes (codes "declarations") ≡ true → Some long.Declarations ≡ find_long_option bytes
+long_first bytes is = rw is refl
 
-pub letters_value : (flags next : Flags) (argument : List ℕ) (at : ℕ) → at + 1 < length argument → after_letter flags (get_or argument at 0) ≡ NeedsValue next
-    → letters (Ready flags) (drop at argument) ≡ after_format next (drop (at + 1) argument)
-letters_value flags next argument at inside is =
+pub long_second : (bytes : List ℕ) → begins bytes (codes "declarations") ≡ false → begins bytes (codes "no-return") ≡ true → Some long.NoReturn ≡ find_long_option bytes
+long_second bytes first is = rw (first, is) refl
+
+pub long_third : (bytes : List ℕ) → begins bytes (codes "declarations") ≡ false → begins bytes (codes "no-return") ≡ false → begins bytes (codes "style") ≡ true
+    → Some long.Style ≡ find_long_option bytes
+long_third bytes first second is = rw (first, second, is) refl
+
+pub long_none : (bytes : List ℕ) → begins bytes (codes "declarations") ≡ false → begins bytes (codes "no-return") ≡ false → begins bytes (codes "style") ≡ false
+    → None ≡ find_long_option bytes
+long_none bytes first second third = rw (first, second, third) refl
+
+-- the value after a letter
+letters_some : (next : Flags) (option : Valued) (bytes : List ℕ) → 0 < length bytes → letters (NeedsValue next option) bytes ≡ after_value next option bytes
+letters_some next option [] some = absurd (omega (arith, some))
+letters_some next option (b ∷ bytes) some = refl
+
+pub letters_value : (flags next : Flags) (option : Valued) (argument : List ℕ) (at : ℕ) → at + 1 < length argument → after_letter flags (get_or argument at 0) ≡ NeedsValue next option
+    → letters (Ready flags) (drop at argument) ≡ after_value next option (drop (at + 1) argument)
+letters_value flags next option argument at inside is =
     let more : 0 < length (drop (suc at) argument) = omega (arith, inside, length-drop (suc at) argument) in
     let place : suc at ≡ at + 1 = omega arith in
     ap (letters (Ready flags)) (drop-cons argument at 0 (omega (arith, inside)))
     ∙ ap (λ s. letters s (drop (suc at) argument)) is
-    ∙ letters_some next (drop (suc at) argument) more
-    ∙ ap (λ n. after_format next (drop n argument)) place
+    ∙ letters_some next option (drop (suc at) argument) more
+    ∙ ap (λ n. after_value next option (drop n argument)) place
 
 -- the value after a name
-pub valued_value : (flags next : Flags) (letter len : ℕ) (bytes : List ℕ) → len ≢ length bytes → after_letter flags letter ≡ NeedsValue next
-    → after_valued flags letter len bytes ≡ after_format next (drop (len + 1) bytes)
-valued_value flags next letter len bytes more is =
-    ap (λ t. if t then after_letter flags letter else with_value (after_letter flags letter) (drop (len + 1) bytes)) (ne_eqb len (length bytes) more)
+pub named_value : (state : OptionState) (next : Flags) (option : Valued) (len : ℕ) (bytes : List ℕ) → len ≢ length bytes → state ≡ NeedsValue next option
+    → after_named state len bytes ≡ after_value next option (drop (len + 1) bytes)
+named_value state next option len bytes more is =
+    ap (λ t. if t then state else with_value state (drop (len + 1) bytes)) (ne_eqb len (length bytes) more)
     ∙ ap (λ s. with_value s (drop (len + 1) bytes)) is
 
-no_value : (state : OptionState) (value : List ℕ) → ((next : Flags) → state ≡ NeedsValue next → ⊥) → with_value state value ≡ Exit instead.UnexpectedValue
+no_value : (state : OptionState) (value : List ℕ) → ((next : Flags) (option : Valued) → state ≡ NeedsValue next option → ⊥) → with_value state value ≡ Exit instead.UnexpectedValue
 no_value (Ready flags) value none = refl
-no_value (NeedsValue flags) value none = absurd (none flags refl)
+no_value (NeedsValue flags option) value none = absurd (none flags option refl)
 no_value (Exit by) value none = refl
 
-pub valued_none : (flags : Flags) (letter len : ℕ) (bytes : List ℕ) → len ≢ length bytes → ((next : Flags) → after_letter flags letter ≡ NeedsValue next → ⊥)
-    → after_valued flags letter len bytes ≡ Exit instead.UnexpectedValue
-valued_none flags letter len bytes more none =
-    ap (λ t. if t then after_letter flags letter else with_value (after_letter flags letter) (drop (len + 1) bytes)) (ne_eqb len (length bytes) more)
-    ∙ no_value (after_letter flags letter) (drop (len + 1) bytes) none
+pub named_none : (state : OptionState) (len : ℕ) (bytes : List ℕ) → len ≢ length bytes → ((next : Flags) (option : Valued) → state ≡ NeedsValue next option → ⊥)
+    → after_named state len bytes ≡ Exit instead.UnexpectedValue
+named_none state len bytes more none =
+    ap (λ t. if t then state else with_value state (drop (len + 1) bytes)) (ne_eqb len (length bytes) more)
+    ∙ no_value state (drop (len + 1) bytes) none
 
 -- the option found, and the length of its name
 pub after_name-found : (flags : Flags) (bytes : List ℕ) (len : ℕ) (found : Found) → len ≡ name_len bytes → found ≡ find_option (take len bytes)

@@ -5,10 +5,11 @@ use Rattle.std.proofs.Math.Seq.{drop-cons}
 use Rattle.std.specs.Borrow.{Bor}
 use Rattle.cosvigle.specs.declared.options.Flags.{Flags}
 use Rattle.cosvigle.specs.declared.options.EarlyExit.{EarlyExit}
+use Rattle.cosvigle.specs.declared.options.Valued.{Valued}
 use Rattle.cosvigle.specs.declared.options.OptionState.{OptionState}
 use Rattle.cosvigle.specs.declared.options.OptionState.TheVariants.{Ready, NeedsValue, Exit}
 use Rattle.cosvigle.specs.declared.options.Kind.{Kind}
-use Rattle.cosvigle.specs.Options.{State, reading, ended, stopped, of_kind, next, read, texts, after_format, kind_of}
+use Rattle.cosvigle.specs.Options.{State, reading, ended, stopped, of_kind, next, read, texts, after_value, kind_of}
 
 -- this argument, and those after it
 argument_at : (arguments : List (Bor (List ℕ))) (at : ℕ) (none : Bor (List ℕ)) → at < length arguments
@@ -25,11 +26,11 @@ turned arguments at none all state inside so_far =
     ∙ ap (λ n. read (next state (get_or arguments at none).now) (drop n (texts arguments))) place
 
 -- it is a value
-pub value_turn : (arguments : List (Bor (List ℕ))) (at : ℕ) (none : Bor (List ℕ)) (all : State) (state result : OptionState) (flags : Flags) (symbols : List (List ℕ)) (last : List ℕ)
-    → at < length arguments → state ≡ NeedsValue flags → result ≡ after_format flags (get_or arguments at none).now
+pub value_turn : (arguments : List (Bor (List ℕ))) (at : ℕ) (none : Bor (List ℕ)) (all : State) (state result : OptionState) (flags : Flags) (option : Valued) (symbols : List (List ℕ)) (last : List ℕ)
+    → at < length arguments → state ≡ NeedsValue flags option → result ≡ after_value flags option (get_or arguments at none).now
     → all ≡ read (reading state symbols last) (drop at (texts arguments))
     → all ≡ read (reading result symbols (get_or arguments at none).now) (drop (at + 1) (texts arguments))
-value_turn arguments at none all state result flags symbols last inside is result_is so_far =
+value_turn arguments at none all state result flags option symbols last inside is result_is so_far =
     let argument : List ℕ = (get_or arguments at none).now in
     turned arguments at none all (reading state symbols last) inside so_far
     ∙ ap (λ s. read (next (reading s symbols last) argument) (drop (at + 1) (texts arguments))) is

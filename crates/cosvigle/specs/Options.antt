@@ -1,10 +1,14 @@
 -- What arguments ask. Options stand as those of `c++filt` do: letters in a group, and names that may be shortened.
-use Rattle.std.specs.Prelude.{◌≡◌, ℕ, ◌+◌, List, [], ◌∷◌, ◌++◌, Bool, true, false, ◌&&◌, ◌||◌, ◌==◌, codes, map, length, take, drop, if◌then◌else◌}
+use Rattle.std.specs.Prelude.{◌≡◌, ℕ, ◌+◌, List, [], ◌∷◌, ◌++◌, Bool, true, false, ◌&&◌, ◌||◌, ◌==◌, Option, Some, None, codes, map, length, take, drop, if◌then◌else◌}
 use Rattle.std.specs.Borrow.{Bor}
 use Rattle.abi_scalars.specs.Bytes.{is, one_of, begins}
+use Rattle.cosvigle.specs.declared.options.Params.{Params}
+use Rattle.cosvigle.specs.declared.options.Params.TheVariants.{Unsaid, Printed, LeftOut}
 use Rattle.cosvigle.specs.declared.options.Flags.{Flags}
 use Rattle.cosvigle.specs.declared.options.EarlyExit.{EarlyExit}
 use Rattle.cosvigle.specs.declared.options.EarlyExit.TheVariants as instead
+use Rattle.cosvigle.specs.declared.options.Valued.{Valued}
+use Rattle.cosvigle.specs.declared.options.Valued.TheVariants as valued
 use Rattle.cosvigle.specs.declared.options.OptionState.{OptionState}
 use Rattle.cosvigle.specs.declared.options.OptionState.TheVariants.{Ready, NeedsValue, Exit}
 use Rattle.cosvigle.specs.declared.options.Kind.{Kind}
@@ -12,9 +16,15 @@ use Rattle.cosvigle.specs.declared.options.Kind.TheVariants.{End, Name, Letters,
 use Rattle.cosvigle.specs.declared.options.Request.{Request}
 use Rattle.cosvigle.specs.declared.options.Request.TheVariants.{Symbols, Stopped}
 use Rattle.symfilter_engine.specs.declared.symbols.Printing.{Printing}
-use Rattle.symfilter_engine.specs.declared.symbols.Printing.TheVariants.{Names, Signatures}
+use Rattle.symfilter_engine.specs.declared.symbols.Printing.TheVariants.{Names, Signatures, Declarations}
+use Rattle.cxx_printer.specs.declared.symbol.Mode.{Mode}
+use Rattle.cxx_printer.specs.declared.symbol.Mode.TheVariants as mode
+use Rattle.cxx_printer.specs.declared.env.Style.{Style}
+use Rattle.cxx_printer.specs.declared.env.Style.TheVariants.{Llvm, Gnu}
 use Rattle.cosvigle.specs.declared.option_names.Found.{Found}
 use Rattle.cosvigle.specs.declared.option_names.Found.TheVariants.{Nothing, Prefix, Several, Exact}
+use Rattle.cosvigle.specs.declared.option_names.LongOption.{LongOption}
+use Rattle.cosvigle.specs.declared.option_names.LongOption.TheVariants as long
 
 -- the texts are the same
 abbrev pub same : List ℕ → List ℕ → Bool
@@ -33,8 +43,39 @@ with_lines on flags = record flags { lines = on }
 abbrev pub with_pass_through : Bool → Flags → Flags
 with_pass_through on flags = record flags { pass_through = on }
 
-abbrev pub with_printing : Printing → Flags → Flags
-with_printing printing flags = record flags { printing = printing }
+abbrev pub with_params : Params → Flags → Flags
+with_params params flags = record flags { params = params }
+
+abbrev pub with_declarations : Bool → Flags → Flags
+with_declarations on flags = record flags { declarations = on }
+
+abbrev pub with_no_return : Bool → Flags → Flags
+with_no_return on flags = record flags { no_return = on }
+
+abbrev pub with_style : Style → Flags → Flags
+with_style style flags = record flags { style = style }
+
+-- how much of a declaration is printed: the name where parameters are left out, and else the return type too unless it
+-- is left out
+abbrev pub mode_with : Params → Bool → Mode
+mode_with LeftOut no_return = mode.Name
+mode_with Unsaid no_return = if no_return then mode.Signature else mode.Declaration
+mode_with Printed no_return = if no_return then mode.Signature else mode.Declaration
+
+abbrev pub mode_of : Flags → Mode
+mode_of flags = mode_with flags.params flags.no_return
+
+-- without declarations: names, unless parameters are asked for
+abbrev pub plain_printing : Params → Printing
+plain_printing Unsaid = Names
+plain_printing Printed = Signatures
+plain_printing LeftOut = Names
+
+-- what is printed for a symbol
+abbrev pub printing_of : Flags → Printing
+printing_of flags =
+    if flags.declarations then Declarations (record { mode = mode_of flags; style = flags.style }) else
+    plain_printing flags.params
 
 -- what a format asks for
 abbrev pub after_format : Flags → List ℕ → OptionState
@@ -43,27 +84,45 @@ after_format flags format =
     if same (codes "none") format then Ready (with_pass_through true flags) else
     Exit instead.UnknownFormat
 
+-- what a style asks for
+abbrev pub after_style : Flags → List ℕ → OptionState
+after_style flags style =
+    if same (codes "llvm") style then Ready (with_style Llvm flags) else
+    if same (codes "gnu") style then Ready (with_style Gnu flags) else
+    Exit instead.UnknownStyle
+
+-- what the value of an option asks for
+abbrev pub after_value : Flags → Valued → List ℕ → OptionState
+after_value flags valued.Format value = after_format flags value
+after_value flags valued.Style value = after_style flags value
+
 -- what the option with a letter asks for
 abbrev pub after_letter : Flags → ℕ → OptionState
 after_letter flags letter =
     if is "_" letter then Ready (with_strip true flags) else
     if is "n" letter then Ready (with_strip false flags) else
     if is "l" letter then Ready (with_lines true flags) else
-    if is "p" letter then Ready (with_printing Names flags) else
-    if is "P" letter then Ready (with_printing Signatures flags) else
+    if is "p" letter then Ready (with_params LeftOut flags) else
+    if is "P" letter then Ready (with_params Printed flags) else
     if one_of (codes "irR") letter then Ready flags else
-    if is "s" letter then NeedsValue flags else
+    if is "s" letter then NeedsValue flags valued.Format else
     if is "t" letter then Exit instead.TypesAlone else
     if is "h" letter then Exit instead.Help else
     if is "v" letter then Exit instead.Version else
     Exit instead.UnknownOption
 
+-- what an option without a letter asks for
+abbrev pub after_long_option : Flags → LongOption → OptionState
+after_long_option flags long.Declarations = Ready (with_declarations true flags)
+after_long_option flags long.NoReturn = Ready (with_no_return true flags)
+after_long_option flags long.Style = NeedsValue flags valued.Style
+
 -- what letters ask for, after what has been read: what follows one that takes a value is that value
 abbrev pub letters : OptionState → List ℕ → OptionState
 letters (Ready flags) [] = Ready flags
 letters (Ready flags) (b ∷ bytes) = letters (after_letter flags b) bytes
-letters (NeedsValue flags) [] = NeedsValue flags
-letters (NeedsValue flags) (b ∷ bytes) = after_format flags (b ∷ bytes)
+letters (NeedsValue flags option) [] = NeedsValue flags option
+letters (NeedsValue flags option) (b ∷ bytes) = after_value flags option (b ∷ bytes)
 letters (Exit stop) bytes = Exit stop
 
 -- an argument with `-`, and letters after it
@@ -77,12 +136,12 @@ with_match (Prefix first) letter = if first == letter then Prefix first else Sev
 with_match Several letter = Several
 with_match (Exact first) letter = Exact first
 
--- an option's name, and its letter
+-- an option's name, and the option's letter
 abbrev pub match_name : Found → List ℕ → List ℕ → ℕ → Found
 match_name found bytes name letter =
     if begins bytes name then (if length name == length bytes then Exact letter else with_match found letter) else found
 
--- the options whose names begin with the bytes: a whole name counts alone
+-- the options with a letter whose names begin with the bytes: a whole name counts alone
 abbrev pub find_option : List ℕ → Found
 find_option bytes =
     match_name (match_name (match_name (match_name (match_name (match_name (match_name
@@ -102,6 +161,13 @@ find_option bytes =
     bytes (codes "help") 104)
     bytes (codes "version") 118
 
+-- the option without a letter whose name begins with the bytes. No two of these names begin alike.
+abbrev pub find_long_option : List ℕ → Option LongOption
+find_long_option bytes =
+    if begins bytes (codes "declarations") then Some long.Declarations else
+    if begins bytes (codes "no-return") then Some long.NoReturn else
+    if begins bytes (codes "style") then Some long.Style else None
+
 -- how many bytes stand before the first `=`
 abbrev pub name_len : List ℕ → ℕ
 name_len [] = 0
@@ -109,22 +175,25 @@ name_len (b ∷ bytes) = if is "=" b then 0 else 1 + name_len bytes
 
 -- what an option asks for that is given a value
 abbrev pub with_value : OptionState → List ℕ → OptionState
-with_value (NeedsValue flags) value = after_format flags value
+with_value (NeedsValue flags option) value = after_value flags option value
 with_value (Ready flags) value = Exit instead.UnexpectedValue
 with_value (Exit by) value = Exit instead.UnexpectedValue
 
--- what the option with a letter asks for, where so many bytes are its name, and after a `=` the others are its value
-abbrev pub after_valued : Flags → ℕ → ℕ → List ℕ → OptionState
-after_valued flags letter len bytes =
-    if len == length bytes then after_letter flags letter else
-    with_value (after_letter flags letter) (drop (len + 1) bytes)
+-- what an option asks for, where so many bytes are its name, and after a `=` the others are its value
+abbrev pub after_named : OptionState → ℕ → List ℕ → OptionState
+after_named state len bytes = if len == length bytes then state else with_value state (drop (len + 1) bytes)
 
--- what the option found asks for
+-- what the option without a letter asks for, if there is one
+abbrev pub after_long : Flags → Option LongOption → ℕ → List ℕ → OptionState
+after_long flags (Some option) len bytes = after_named (after_long_option flags option) len bytes
+after_long flags None len bytes = Exit instead.UnknownOption
+
+-- what the option found asks for. One without a letter counts where no name of one with a letter begins so.
 abbrev pub after_found : Flags → Found → ℕ → List ℕ → OptionState
-after_found flags Nothing len bytes = Exit instead.UnknownOption
+after_found flags Nothing len bytes = after_long flags (find_long_option (take len bytes)) len bytes
 after_found flags Several len bytes = Exit instead.AmbiguousOption
-after_found flags (Prefix letter) len bytes = after_valued flags letter len bytes
-after_found flags (Exact letter) len bytes = after_valued flags letter len bytes
+after_found flags (Prefix letter) len bytes = after_named (after_letter flags letter) len bytes
+after_found flags (Exact letter) len bytes = after_named (after_letter flags letter) len bytes
 
 -- what follows `--`: a name, and a value after `=`
 abbrev pub after_name : Flags → List ℕ → OptionState
@@ -162,7 +231,8 @@ of_kind Symbol flags symbols last argument = reading (Ready flags) (symbols ++ a
 -- one argument more
 abbrev pub next : State → List ℕ → State
 next (reading (Ready flags) symbols last) argument = of_kind (kind_of argument) flags symbols last argument
-next (reading (NeedsValue flags) symbols last) argument = reading (after_format flags argument) symbols argument
+next (reading (NeedsValue flags option) symbols last) argument =
+    reading (after_value flags option argument) symbols argument
 next (reading (Exit stop) symbols last) argument = stopped stop last
 next (ended flags symbols) argument = ended flags (symbols ++ argument ∷ [])
 next (stopped stop last) argument = stopped stop last
@@ -174,7 +244,15 @@ read state (argument ∷ arguments) = read (next state argument) arguments
 
 -- no option
 abbrev pub no_flags : Flags
-no_flags = record { strip = false; lines = false; pass_through = false; printing = Names }
+no_flags = record {
+  strip = false;
+  lines = false;
+  pass_through = false;
+  params = Unsaid;
+  declarations = false;
+  no_return = false;
+  style = Llvm;
+}
 
 -- the bytes of texts
 abbrev pub texts : List (Bor (List ℕ)) → List (List ℕ)
@@ -183,13 +261,13 @@ texts arguments = map (λ argument. argument.now) arguments
 -- what is asked after these were read
 abbrev pub AsksFor : State → Request → Type 0
 AsksFor (reading (Ready flags) symbols last) (Symbols chosen given) = (chosen ≡ flags) × (texts given.items ≡ symbols)
-AsksFor (reading (NeedsValue flags) symbols last) (Stopped by argument) =
+AsksFor (reading (NeedsValue flags option) symbols last) (Stopped by argument) =
     (by ≡ instead.MissingValue) × (argument.now ≡ last)
 AsksFor (reading (Exit stop) symbols last) (Stopped by argument) = (by ≡ stop) × (argument.now ≡ last)
 AsksFor (ended flags symbols) (Symbols chosen given) = (chosen ≡ flags) × (texts given.items ≡ symbols)
 AsksFor (stopped stop last) (Stopped by argument) = (by ≡ stop) × (argument.now ≡ last)
 AsksFor (reading (Ready flags) symbols last) (Stopped by argument) = ⊥
-AsksFor (reading (NeedsValue flags) symbols last) (Symbols chosen given) = ⊥
+AsksFor (reading (NeedsValue flags option) symbols last) (Symbols chosen given) = ⊥
 AsksFor (reading (Exit stop) symbols last) (Symbols chosen given) = ⊥
 AsksFor (ended flags symbols) (Stopped by argument) = ⊥
 AsksFor (stopped stop last) (Symbols chosen given) = ⊥

@@ -3,10 +3,10 @@ ghost use Rattle.std.specs.Prelude.{◌≡◌, [], ◌∷◌, ◌++◌, ◌≤�
 ghost use Rattle.cosvigle.specs.Arguments as spec;
 ghost use Rattle.cosvigle.specs.Arguments.{IsArgumentAnswer};
 
-use itanium_demangle::{Demangler, is_utf8};
+use itanium_demangle::is_utf8;
 use std::alloc::{AllocError, Global};
 use std::str;
-use symfilter_engine::{ReplaceOptions, read_as};
+use symfilter_engine::{Demanglers, ReplaceOptions, read_as};
 
 /// Returns how many bytes are in front of the symbol in an argument: 6 for `__imp_`, and otherwise 0. They are printed
 /// unchanged.
@@ -36,16 +36,16 @@ fn stripped(strip: bool, bytes: &[u8]) -> &[u8]
 pub struct Printed<'a> {
     /// The bytes in front of the symbol.
     pub front: &'a [u8],
-    /// The demangled name, the signature, or the argument.
+    /// The demangled name, the signature, the declaration, or the argument.
     pub text: &'a [u8],
 }
 
-/// Returns what is printed for an argument: the bytes in front of its symbol, and then the symbol's demangled name or
-/// signature. If there is none, or the symbol isn't UTF-8, the argument itself is printed. If `options.strip` is set,
-/// the symbol may have one more underscore in front. Returns an error if an allocation fails.
+/// Returns what is printed for an argument: the bytes in front of its symbol, and then the symbol's demangled name, its
+/// signature or its declaration. If there is none, or the symbol isn't UTF-8, the argument itself is printed. If
+/// `options.strip` is set, the symbol may have one more underscore in front. Returns an error if an allocation fails.
 pub fn answer_of<'a>(
     alloc: Global,
-    demangler: &'a mut Demangler,
+    demanglers: &'a mut Demanglers,
     options: ReplaceOptions,
     argument: &'a [u8],
 ) -> Result<Printed<'a>, AllocError>
@@ -61,8 +61,8 @@ pub fn answer_of<'a>(
         });
     }
     let symbol = unsafe { str::from_utf8_unchecked(symbol) };
-    read_as(alloc, demangler, options.printing, symbol)?;
-    match demangler.text() {
+    read_as(alloc, demanglers, options.printing, symbol)?;
+    match demanglers.text() {
         Some(answer) => Ok(Printed {
             front: &argument[..len],
             text: answer.as_bytes(),

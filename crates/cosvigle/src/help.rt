@@ -5,8 +5,7 @@ pub const HELP: &str = "\
 usage: cosvigle [OPTION].. [SYMBOL]..
 
 Prints the name of each symbol, or the symbol itself if it has none, one a line.
-Without symbols it copies standard input to standard output, with names in place
-of symbols.
+Without symbols it copies standard input, with names in place of symbols.
 
   -_, --strip-underscore     a symbol may begin with ___Z
   -n, --no-strip-underscores a symbol may not begin with ___Z (default)
@@ -14,8 +13,10 @@ of symbols.
   -p, --no-params            print names without parameters (default)
   -l, --lines                each line of the input is one symbol; -_ is ignored
   -s, --format=FORMAT        auto or gnu-v3: read symbols; none: read no symbol
-  -h, --help                 print this text
-  -v, --version              print the version
+      --declarations         print declarations, with their return types
+      --no-return            print declarations without return types
+      --style=STYLE          print declarations as llvm (default) or gnu does
+  -h, --help; -v, --version  print this text; print the version
   @FILE                      stands for the words of this file
   --                         all arguments after it are symbols
   no effect: -i, --no-verbose; -r, --no-recurse-limit; -R, --recurse-limit

@@ -11,6 +11,7 @@
 #![tactic(auto)]
 
 ghost use Rattle.std.specs.Prelude.{◌≡◌};
+ghost use Rattle.cosvigle.specs.Options as spec;
 
 mod arguments;
 mod files;
@@ -22,15 +23,14 @@ mod output;
 use arguments::{Printed, answer_of, set_line};
 use files::{file_name, has_no_nul, words_in};
 use help::{HELP, VERSION};
-use itanium_demangle::Demangler;
-use options::{EarlyExit, Flags, Request, read_arguments};
+use options::{EarlyExit, Flags, Request, printing_of, read_arguments};
 use output::{Output, reported};
 use std::alloc::AllocError;
 use std::env::{Env, FillError};
 use std::io::{ErrorKind, Read, Stdout, Write};
 use std::process::ExitCode;
 use std::{fs, str};
-use symfilter_engine::{FilterFault, ReplaceOptions, Tally, filter_with, replace};
+use symfilter_engine::{Demanglers, FilterFault, ReplaceOptions, Tally, filter_with, replace};
 
 /// The exit status if the arguments can't be read, and nothing is done.
 const USAGE_ERROR: u8 = 2;
@@ -55,18 +55,18 @@ fn put(output: &mut Output<Stdout>, bytes: &[u8]) -> Result<(), FilterFault> {
 /// Returns how the flags say that symbols are replaced.
 fn replacement(flags: Flags) -> ReplaceOptions
     ensures strip { result.strip ≡ flags.strip }
-    ensures printing { result.printing ≡ flags.printing }
+    ensures printing { result.printing ≡ spec.printing_of flags }
 {
     ReplaceOptions {
         strip: flags.strip,
-        printing: flags.printing,
+        printing: printing_of(flags),
     }
 }
 
 /// Returns what is printed for an argument. If `pass_through` is set, that is the argument itself.
 fn output_of<'a>(
     rt: &HostRuntime,
-    demangler: &'a mut Demangler,
+    demanglers: &'a mut Demanglers,
     flags: Flags,
     argument: &'a [u8],
 ) -> Result<Printed<'a>, AllocError> {
@@ -76,20 +76,21 @@ fn output_of<'a>(
             text: argument,
         });
     }
-    answer_of(rt.alloc(), demangler, replacement(flags), argument)
+    answer_of(rt.alloc(), demanglers, replacement(flags), argument)
 }
 
-/// Prints for each symbol its name or its signature, or the symbol itself if it has none. Each is on a line.
+/// Prints for each symbol its name, its signature or its declaration, or the symbol itself if it has none. Each is on a
+/// line.
 fn print_symbols(
     rt: &HostRuntime,
     output: &mut Output<Stdout>,
     flags: Flags,
     symbols: &[&[u8]],
 ) -> Result<(), FilterFault> {
-    let mut demangler = Demangler::new();
+    let mut demanglers = Demanglers::new(rt.alloc());
     let mut line = Vec::new(rt.alloc());
     for symbol in symbols {
-        let answer = output_of(rt, &mut demangler, flags, symbol)?;
+        let answer = output_of(rt, &mut demanglers, flags, symbol)?;
         set_line(&mut line, answer)?;
         put(output, &line)?;
     }
@@ -125,7 +126,7 @@ fn replace_input(
     let mut source = Tally::new(rt.stdin());
     let mut sink = Tally::new(output);
     if flags.lines {
-        return filter_with(rt.alloc(), flags.printing, &mut source, &mut sink);
+        return filter_with(rt.alloc(), printing_of(flags), &mut source, &mut sink);
     }
     replace(rt.alloc(), replacement(flags), &mut source, &mut sink)
 }
@@ -168,6 +169,7 @@ fn exit_early(
         EarlyExit::MissingValue => refuse(rt, "a value is missing: ", argument, ""),
         EarlyExit::TypesAlone => refuse(rt, "types alone aren't read: ", argument, ""),
         EarlyExit::UnknownFormat => refuse(rt, "no such format: ", argument, ""),
+        EarlyExit::UnknownStyle => refuse(rt, "no such style: ", argument, ""),
     };
     Ok(status)
 }

@@ -1,8 +1,8 @@
 //! The names of options, and how they may be shortened.
-ghost use Rattle.std.specs.Prelude.{◌≡◌};
+ghost use Rattle.std.specs.Prelude.{◌≡◌, Option};
 ghost use Rattle.cosvigle.specs.Options as spec;
 
-/// The options whose names begin with the given bytes. An option is identified by its letter.
+/// The options with a letter whose names begin with the given bytes. Such an option is identified by its letter.
 #[derive(Clone, Copy)]
 pub enum Found {
     /// No option.
@@ -39,7 +39,7 @@ fn match_name(found: Found, bytes: &[u8], name: &[u8], letter: u8) -> Found
     with_match(found, letter)
 }
 
-/// Returns the options whose names begin with the bytes.
+/// Returns the options with a letter whose names begin with the bytes.
 pub fn find_option(bytes: &[u8]) -> Found
     ensures value { result ≡ spec.find_option bytes.now }
 {
@@ -57,4 +57,31 @@ pub fn find_option(bytes: &[u8]) -> Found
     let found = match_name(found, bytes, b"lines", b'l');
     let found = match_name(found, bytes, b"help", b'h');
     match_name(found, bytes, b"version", b'v')
+}
+
+/// The options that have a name and no letter.
+#[derive(Clone, Copy)]
+pub enum LongOption {
+    /// `--declarations`
+    Declarations,
+    /// `--no-return`
+    NoReturn,
+    /// `--style`
+    Style,
+}
+
+/// Returns the option without a letter whose name begins with the bytes, of which there is at least one.
+pub fn find_long_option(bytes: &[u8]) -> Option<LongOption>
+    ensures value { result ≡ spec.find_long_option bytes.now }
+{
+    if b"declarations".starts_with(bytes) {
+        return Some(LongOption::Declarations);
+    }
+    if b"no-return".starts_with(bytes) {
+        return Some(LongOption::NoReturn);
+    }
+    if b"style".starts_with(bytes) {
+        return Some(LongOption::Style);
+    }
+    None
 }

@@ -3,9 +3,21 @@ ghost use Rattle.std.specs.Prelude.{◌≡◌, ◌≤◌, length, IfOk};
 ghost use Rattle.cosvigle.specs.Options as spec;
 ghost use Rattle.cosvigle.specs.Options.{reading, texts, AsksFor, IsRequest};
 
-use super::option_names::{Found, find_option};
+use super::option_names::{Found, LongOption, find_long_option, find_option};
+use cxx_demangle::{Mode, Style};
 use std::alloc::{AllocError, Global};
 use symfilter_engine::Printing;
+
+/// What `-P` and `-p` say of the parameters of functions. The last of them counts.
+#[derive(Clone, Copy)]
+pub enum Params {
+    /// Nothing: neither of the two is given.
+    Unsaid,
+    /// They are printed.
+    Printed,
+    /// They are left out.
+    LeftOut,
+}
 
 /// The choices that options make.
 #[derive(Clone, Copy)]
@@ -16,8 +28,41 @@ pub struct Flags {
     pub lines: bool,
     /// Whether no symbol is read, and all stays as it is.
     pub pass_through: bool,
-    /// What is printed for a symbol.
-    pub printing: Printing,
+    /// Whether parameters are printed.
+    pub params: Params,
+    /// Whether symbols are read as declarations.
+    pub declarations: bool,
+    /// Whether the return type of a declaration is left out.
+    pub no_return: bool,
+    /// The style of declarations.
+    pub style: Style,
+}
+
+/// Returns how much of a declaration is printed.
+fn mode_of(flags: Flags) -> Mode
+    ensures value { result ≡ spec.mode_of flags }
+{
+    match flags.params {
+        Params::LeftOut => Mode::Name,
+        _ if flags.no_return => Mode::Signature,
+        _ => Mode::Declaration,
+    }
+}
+
+/// Returns what is printed for a symbol.
+pub fn printing_of(flags: Flags) -> Printing
+    ensures value { result ≡ spec.printing_of flags }
+{
+    if flags.declarations {
+        return Printing::Declarations(cxx_demangle::Printing {
+            mode: mode_of(flags),
+            style: flags.style,
+        });
+    }
+    match flags.params {
+        Params::Printed => Printing::Signatures,
+        _ => Printing::Names,
+    }
 }
 
 /// What the program does instead of reading symbols.
@@ -39,6 +84,17 @@ pub enum EarlyExit {
     TypesAlone,
     /// Reports that no format has this name.
     UnknownFormat,
+    /// Reports that no style has this name.
+    UnknownStyle,
+}
+
+/// The options that take a value.
+#[derive(Clone, Copy)]
+pub enum Valued {
+    /// The format of symbols.
+    Format,
+    /// The style of declarations.
+    Style,
 }
 
 /// The state after the options that have been read.
@@ -46,8 +102,8 @@ pub enum EarlyExit {
 pub enum OptionState {
     /// The options choose these flags.
     Ready(Flags),
-    /// The options choose these flags, and the next argument is the format.
-    NeedsValue(Flags),
+    /// The options choose these flags, and the next argument is the value of this option.
+    NeedsValue(Flags, Valued),
     /// No further option is read.
     Exit(EarlyExit),
 }
@@ -68,19 +124,42 @@ fn after_format(flags: Flags, format: &[u8]) -> OptionState
     match format {
         [b'a', b'u', b't', b'o'] | [b'g', b'n', b'u', b'-', b'v', b'3'] => OptionState::Ready(
             Flags {
-                strip: flags.strip,
-                lines: flags.lines,
                 pass_through: false,
-                printing: flags.printing,
+                ..flags
             },
         ),
         [b'n', b'o', b'n', b'e'] => OptionState::Ready(Flags {
-            strip: flags.strip,
-            lines: flags.lines,
             pass_through: true,
-            printing: flags.printing,
+            ..flags
         }),
         _ => OptionState::Exit(EarlyExit::UnknownFormat),
+    }
+}
+
+/// Returns the state after the style that the bytes name.
+fn after_style(flags: Flags, style: &[u8]) -> OptionState
+    ensures value { result ≡ spec.after_style flags style.now }
+{
+    match style {
+        [b'l', b'l', b'v', b'm'] => OptionState::Ready(Flags {
+            style: Style::Llvm,
+            ..flags
+        }),
+        [b'g', b'n', b'u'] => OptionState::Ready(Flags {
+            style: Style::Gnu,
+            ..flags
+        }),
+        _ => OptionState::Exit(EarlyExit::UnknownStyle),
+    }
+}
+
+/// Returns the state after the value of this option.
+fn after_value(flags: Flags, option: Valued, value: &[u8]) -> OptionState
+    ensures value { result ≡ spec.after_value flags option value.now }
+{
+    match option {
+        Valued::Format => after_format(flags, value),
+        Valued::Style => after_style(flags, value),
     }
 }
 
@@ -91,40 +170,47 @@ fn after_letter(flags: Flags, letter: u8) -> OptionState
     match letter {
         b'_' => OptionState::Ready(Flags {
             strip: true,
-            lines: flags.lines,
-            pass_through: flags.pass_through,
-            printing: flags.printing,
+            ..flags
         }),
         b'n' => OptionState::Ready(Flags {
             strip: false,
-            lines: flags.lines,
-            pass_through: flags.pass_through,
-            printing: flags.printing,
+            ..flags
         }),
         b'l' => OptionState::Ready(Flags {
-            strip: flags.strip,
             lines: true,
-            pass_through: flags.pass_through,
-            printing: flags.printing,
+            ..flags
         }),
         b'p' => OptionState::Ready(Flags {
-            strip: flags.strip,
-            lines: flags.lines,
-            pass_through: flags.pass_through,
-            printing: Printing::Names,
+            params: Params::LeftOut,
+            ..flags
         }),
         b'P' => OptionState::Ready(Flags {
-            strip: flags.strip,
-            lines: flags.lines,
-            pass_through: flags.pass_through,
-            printing: Printing::Signatures,
+            params: Params::Printed,
+            ..flags
         }),
         b'i' | b'r' | b'R' => OptionState::Ready(flags),
-        b's' => OptionState::NeedsValue(flags),
+        b's' => OptionState::NeedsValue(flags, Valued::Format),
         b't' => OptionState::Exit(EarlyExit::TypesAlone),
         b'h' => OptionState::Exit(EarlyExit::Help),
         b'v' => OptionState::Exit(EarlyExit::Version),
         _ => OptionState::Exit(EarlyExit::UnknownOption),
+    }
+}
+
+/// Returns the state after an option that has a name and no letter.
+fn after_long_option(flags: Flags, option: LongOption) -> OptionState
+    ensures value { result ≡ spec.after_long_option flags option }
+{
+    match option {
+        LongOption::Declarations => OptionState::Ready(Flags {
+            declarations: true,
+            ..flags
+        }),
+        LongOption::NoReturn => OptionState::Ready(Flags {
+            no_return: true,
+            ..flags
+        }),
+        LongOption::Style => OptionState::NeedsValue(flags, Valued::Style),
     }
 }
 
@@ -137,8 +223,8 @@ fn after_letters(flags: Flags, argument: &[u8]) -> OptionState
     for at in 1..argument.len() {
         match after_letter(flags, argument[at]) {
             OptionState::Ready(next) => flags = next,
-            OptionState::NeedsValue(next) if at + 1 < argument.len() => {
-                return after_format(next, &argument[at + 1..]);
+            OptionState::NeedsValue(next, option) if at + 1 < argument.len() => {
+                return after_value(next, option, &argument[at + 1..]);
             }
             state => return state,
         }
@@ -159,33 +245,36 @@ fn name_len(bytes: &[u8]) -> usize
     bytes.len()
 }
 
-/// Returns the state after the option with this letter. The first `len` bytes are the option's name, and what follows
-/// a `=` after them is its value.
-fn after_valued(flags: Flags, letter: u8, len: usize, bytes: &[u8]) -> OptionState
+/// Returns the state after an option whose name is the first `len` bytes. What follows a `=` after them is its value.
+/// `state` is the state after the option without a value.
+fn after_named(state: OptionState, len: usize, bytes: &[u8]) -> OptionState
     requires { len ≤ length bytes.now }
-    ensures value { result ≡ spec.after_valued flags letter len bytes.now }
+    ensures value { result ≡ spec.after_named state len bytes.now }
 {
-    let state = after_letter(flags, letter);
     if len == bytes.len() {
         return state;
     }
     match state {
-        OptionState::NeedsValue(next) => after_format(next, &bytes[len + 1..]),
+        OptionState::NeedsValue(next, option) => after_value(next, option, &bytes[len + 1..]),
         _ => OptionState::Exit(EarlyExit::UnexpectedValue),
     }
 }
 
 /// Returns the state after the option whose name follows `--`. The name may be shortened to a beginning that no other
-/// option has. What follows a `=` is the option's value.
+/// option has. A beginning of an option that has a letter means that one. What follows a `=` is the option's value.
 fn after_name(flags: Flags, bytes: &[u8]) -> OptionState
     ensures value { result ≡ spec.after_name flags bytes.now }
 {
     let len = name_len(bytes);
-    match find_option(&bytes[..len]) {
-        Found::Exact(letter) => after_valued(flags, letter, len, bytes),
-        Found::Prefix(letter) => after_valued(flags, letter, len, bytes),
+    let name = &bytes[..len];
+    match find_option(name) {
+        Found::Exact(letter) => after_named(after_letter(flags, letter), len, bytes),
+        Found::Prefix(letter) => after_named(after_letter(flags, letter), len, bytes),
         Found::Several => OptionState::Exit(EarlyExit::AmbiguousOption),
-        Found::Nothing => OptionState::Exit(EarlyExit::UnknownOption),
+        Found::Nothing => match find_long_option(name) {
+            Some(option) => after_named(after_long_option(flags, option), len, bytes),
+            None => OptionState::Exit(EarlyExit::UnknownOption),
+        },
     }
 }
 
@@ -221,7 +310,7 @@ fn request_at_end<'a>(state: OptionState, symbols: Vec<&'a [u8]>, last: &'a [u8]
 {
     match state {
         OptionState::Ready(flags) => Request::Symbols(flags, symbols),
-        OptionState::NeedsValue(_) => Request::Stopped(EarlyExit::MissingValue, last),
+        OptionState::NeedsValue(_, _) => Request::Stopped(EarlyExit::MissingValue, last),
         OptionState::Exit(stop) => Request::Stopped(stop, last),
     }
 }
@@ -234,7 +323,10 @@ pub fn read_arguments<'a>(alloc: Global, arguments: &[&'a [u8]]) -> Result<Reque
         strip: false,
         lines: false,
         pass_through: false,
-        printing: Printing::Names,
+        params: Params::Unsaid,
+        declarations: false,
+        no_return: false,
+        style: Style::Llvm,
     });
     let mut symbols = Vec::new(alloc);
     // The last argument that was an option or the value of one.
@@ -243,8 +335,8 @@ pub fn read_arguments<'a>(alloc: Global, arguments: &[&'a [u8]]) -> Result<Reque
         let argument = arguments[at];
         let flags = match state {
             OptionState::Ready(flags) => flags,
-            OptionState::NeedsValue(flags) => {
-                state = after_format(flags, argument);
+            OptionState::NeedsValue(flags, option) => {
+                state = after_value(flags, option, argument);
                 last = argument;
                 continue;
             }

@@ -2,8 +2,8 @@
 use Rattle.std.specs.Prelude.{ℕ, List, [], Option, Some, None}
 use Rattle.itanium_grammar.specs.Answer.{IsAnswer}
 use Rattle.itanium_demangle.specs.Demangler.{IsPrepared, IsPreparedSignature}
-use Rattle.symfilter_engine.specs.declared.symbols.Printing.{Printing}
-use Rattle.symfilter_engine.specs.declared.symbols.Printing.TheVariants.{Names, Signatures}
+use Rattle.cosvigle_c.specs.declared.kept.Asked.{Asked}
+use Rattle.cosvigle_c.specs.declared.kept.Asked.TheVariants.{Names, Signatures}
 use Rattle.itanium_demangle.specs.LastResult.{LastResult}
 use Rattle.cosvigle_c.specs.declared.kept.Kept.{Kept}
 
@@ -18,11 +18,11 @@ result_of (Some kept) = Some kept.demangler
 result_of None = None
 
 -- what the demangler keeps of a symbol that it was asked for
-abbrev pub HasRead : Printing → List ℕ → LastResult → Type 0
+abbrev pub HasRead : Asked → List ℕ → LastResult → Type 0
 HasRead Names symbol last = IsAnswer symbol last.text × IsPrepared symbol last
 HasRead Signatures symbol last = IsPreparedSignature symbol last
 
 -- there is a demangler, which keeps what a symbol leaves: its answer, counts and components
-abbrev pub KeepsSymbol : Printing → List ℕ → Option Kept → Type 0
-KeepsSymbol printing symbol (Some kept) = HasRead printing symbol kept.demangler
-KeepsSymbol printing symbol None = ⊥
+abbrev pub KeepsSymbol : Asked → List ℕ → Option Kept → Type 0
+KeepsSymbol asked symbol (Some kept) = HasRead asked symbol kept.demangler
+KeepsSymbol asked symbol None = ⊥

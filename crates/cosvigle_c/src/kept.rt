@@ -6,7 +6,16 @@ ghost use Rattle.cosvigle_c.specs.Kept.{HasRead};
 
 use itanium_demangle::Demangler;
 use std::alloc::{AllocError, Global};
-use symfilter_engine::Printing;
+
+/// What is asked of a symbol.
+#[derive(Clone, Copy)]
+pub enum Asked {
+    /// Its demangled name.
+    Names,
+    /// Its signature, which is its demangled name with its parameters. If a symbol has no signature, its demangled
+    /// name.
+    Signatures,
+}
 
 /// A demangler, and a text that was made and that the caller has yet to take. The text is empty if there is none.
 #[derive(Drop)]
@@ -29,21 +38,16 @@ impl Kept {
 
     /// Reads a symbol as a name or as a signature. The demangler keeps the result. Returns an error if an allocation
     /// fails.
-    pub fn read(
-        &mut self,
-        alloc: Global,
-        printing: Printing,
-        symbol: &str,
-    ) -> Result<(), AllocError>
-        ensures answer { OnOk result (IsNameOrSignature printing symbol.now self.new.demangler.text) }
-        ensures read { OnOk result (HasRead printing symbol.now self.new.demangler) }
+    pub fn read(&mut self, alloc: Global, asked: Asked, symbol: &str) -> Result<(), AllocError>
+        ensures answer { OnOk result (IsNameOrSignature asked symbol.now self.new.demangler.text) }
+        ensures read { OnOk result (HasRead asked symbol.now self.new.demangler) }
         ensures text { self.new.text ≡ self.old.text }
     {
-        match printing {
-            Printing::Names => {
+        match asked {
+            Asked::Names => {
                 self.demangler.demangle(alloc, symbol)?;
             }
-            Printing::Signatures => {
+            Asked::Signatures => {
                 self.demangler.demangle_signature(alloc, symbol)?;
             }
         }

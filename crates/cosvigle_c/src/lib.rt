@@ -14,7 +14,7 @@ ghost use Rattle.std.specs.Str.{IsUtf8};
 ghost use Rattle.itanium_grammar.specs.Answer.{IsAnswer};
 ghost use Rattle.itanium_demangle.specs.LastResult.{no_result};
 ghost use Rattle.cosvigle_c.specs.Kept.{result_of, text_of, KeepsSymbol};
-ghost use Rattle.symfilter_engine.specs.declared.symbols.Printing.TheVariants.{Names, Signatures};
+ghost use Rattle.cosvigle_c.specs.declared.kept.Asked.TheVariants.{Names, Signatures};
 ghost use Rattle.cosvigle_c.specs.Calls.{IsNameOrSignature, WritesAnswer, LacksCapacity};
 
 mod handle;
@@ -25,12 +25,11 @@ mod texts;
 
 use handle::Handle;
 use itanium_demangle::is_utf8;
-use kept::Kept;
+use kept::{Asked, Kept};
 use status::{NO_ANSWER, NO_MEMORY, NOT_UTF8, WRITTEN, write_if_fits};
 use std::alloc::Global;
 use std::mem::replace;
 use std::str::from_utf8_unchecked;
-use symfilter_engine::Printing;
 
 /// Returns the version of the library, 0.1.0, as a number: 1,000,000 times the major version, plus 1,000 times the
 /// minor version, plus the patch.
@@ -45,19 +44,19 @@ pub extern "C" fn cosvigle_version() -> u32
 fn ask(
     alloc: Global,
     handle: &mut Handle,
-    printing: Printing,
+    asked: Asked,
     symbol: &[u8],
     answer: &mut [u8],
     needed: &mut usize,
 ) -> i32
     ensures status { result ≢ pos 0 → result ≢ pos 1 → result ≢ pos 2 → result ≢ pos 3 → result ≡ pos 4 }
-    ensures written { result ≡ pos 0 → WritesAnswer printing symbol.now answer.old answer.new needed.new }
-    ensures no_answer { result ≡ pos 1 → IsNameOrSignature printing symbol.now None }
-    ensures no_room { result ≡ pos 3 → LacksCapacity printing symbol.now answer.old answer.new needed.new }
+    ensures written { result ≡ pos 0 → WritesAnswer asked symbol.now answer.old answer.new needed.new }
+    ensures no_answer { result ≡ pos 1 → IsNameOrSignature asked symbol.now None }
+    ensures no_room { result ≡ pos 3 → LacksCapacity asked symbol.now answer.old answer.new needed.new }
     ensures not_utf8 { result ≡ pos 4 ↔ (IsUtf8 symbol.now → ⊥) }
     ensures stays { result ≢ pos 0 → answer.new ≡ answer.old }
     ensures nothing { result ≢ pos 0 → result ≢ pos 3 → needed.new ≡ 0 }
-    ensures made { result ≢ pos 2 → result ≢ pos 4 → KeepsSymbol printing symbol.now handle.new.kept }
+    ensures made { result ≢ pos 2 → result ≢ pos 4 → KeepsSymbol asked symbol.now handle.new.kept }
     ensures keeps { handle.old.kept ≢ None → handle.new.kept ≢ None }
     ensures text { text_of handle.new.kept ≡ text_of handle.old.kept }
     ensures same { result ≡ pos 4 → handle.new.kept ≡ handle.old.kept }
@@ -74,7 +73,7 @@ fn ask(
             Err(_) => return NO_MEMORY,
         },
     };
-    let status = match kept.read(alloc, printing, text) {
+    let status = match kept.read(alloc, asked, text) {
         Ok(()) => match kept.demangler.text() {
             Some(found) => write_if_fits(found.as_bytes(), answer, needed),
             None => NO_ANSWER,
@@ -116,7 +115,7 @@ pub extern "C" fn cosvigle_ask(
     ensures text { text_of handle.new.kept ≡ text_of handle.old.kept }
     ensures same { result ≡ pos 4 → handle.new.kept ≡ handle.old.kept }
 {
-    ask(alloc, handle, Printing::Names, symbol, answer, needed)
+    ask(alloc, handle, Asked::Names, symbol, answer, needed)
 }
 
 /// Writes the signature of a symbol, which is its demangled name with its parameters. If the symbol has no signature,
@@ -142,7 +141,7 @@ pub extern "C" fn cosvigle_ask_signature(
     ensures text { text_of handle.new.kept ≡ text_of handle.old.kept }
     ensures same { result ≡ pos 4 → handle.new.kept ≡ handle.old.kept }
 {
-    ask(alloc, handle, Printing::Signatures, symbol, answer, needed)
+    ask(alloc, handle, Asked::Signatures, symbol, answer, needed)
 }
 
 /// Writes the demangled name of a symbol at the front of `answer`, and its length in bytes to `needed`, with the

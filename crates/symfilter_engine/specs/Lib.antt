@@ -4,3 +4,4 @@ pub mod Filtered
 pub mod Fault
 pub mod Progress
 pub mod Tally
+pub mod Demanglers

@@ -9,12 +9,11 @@ ghost use Rattle.symfilter_engine.specs.Progress.{AreKept, WritesChunkUpTo, Cont
 use super::fault::FilterFault;
 use super::output::write_all;
 use super::streams::{Failed, Sink, Source};
-use super::symbols::Placement;
+use super::symbols::{Demanglers, Placement};
 use super::word_bounds::{whole_words_len, word_end};
 use super::words::may_hold_symbol;
 use super::writing::{whole_lines_len, write_last, write_whole};
 use growing_text::Text;
-use itanium_demangle::Demangler;
 use std::alloc::Global;
 
 /// The length of a chunk in bytes. A chunk grows by as many bytes if a longer line or word must be kept.
@@ -46,18 +45,18 @@ pub(crate) fn filter_chunks<R: Source, W: Sink>(
         (R.remaining source.old) (R.remaining source.new) (W.taken sink.old) (W.taken sink.new) }
 {
     let mut chunk = vec![in alloc; 0u8; CHUNK_LEN]?;
-    let mut demangler = Demangler::new();
+    let mut demanglers = Demanglers::new(alloc);
     let mut output = Text::new(alloc);
     let mut kept = 0;
     let mut mid_word = false;
     'chunks: loop {
         let end = read_more(source, &mut chunk, kept)?;
         if end == kept {
-            return write_last(alloc, &mut demangler, placement, &chunk[..kept], sink);
+            return write_last(alloc, &mut demanglers, placement, &chunk[..kept], sink);
         }
         let (done, goes_on) = write_chunk(
             alloc,
-            &mut demangler,
+            &mut demanglers,
             placement,
             &chunk[..end],
             kept,
@@ -105,7 +104,7 @@ fn read_more<R: Source>(
 /// `mid_word` is true, the bytes begin inside such a word. The first `kept` bytes were kept.
 fn write_chunk<W: Sink>(
     alloc: Global,
-    demangler: &mut Demangler,
+    demanglers: &mut Demanglers,
     placement: Placement,
     bytes: &[u8],
     kept: usize,
@@ -132,7 +131,7 @@ fn write_chunk<W: Sink>(
     match placement {
         Placement::Lines(_) => {
             let ended = whole_lines_len(bytes, kept);
-            write_whole(alloc, demangler, placement, &bytes[..ended], output, sink)?;
+            write_whole(alloc, demanglers, placement, &bytes[..ended], output, sink)?;
             Ok((ended, false))
         }
         Placement::Words(options) => {
@@ -143,7 +142,7 @@ fn write_chunk<W: Sink>(
             }
             let rest = &bytes[first..];
             let whole = whole_words_len(rest, kept);
-            write_whole(alloc, demangler, placement, &rest[..whole], output, sink)?;
+            write_whole(alloc, demanglers, placement, &rest[..whole], output, sink)?;
             let word = &rest[whole..];
             if may_hold_symbol(options.strip, word) {
                 return Ok((first + whole, false));

@@ -9,10 +9,10 @@ use super::streams::{Sink, Source};
 use super::symbols::{Placement, ReplaceOptions};
 use std::alloc::Global;
 
-/// Reads to the end, and writes the replaced text: each symbol in a word is replaced by its demangled name or its
-/// signature. A word is a maximal run of ASCII letters, digits, `_`, `$` and `.`. Its symbol is at its front, after at
-/// most one of `.`, `$` and `__imp_`. These prefix characters and the dots at the word's end stay. With `strip`, one
-/// more underscore may be in front of the symbol, and is dropped.
+/// Reads to the end, and writes the replaced text: each symbol in a word is replaced by its demangled name, its
+/// signature or its declaration. A word is a maximal run of ASCII letters, digits, `_`, `$` and `.`. Its symbol is at
+/// its front, after at most one of `.`, `$` and `__imp_`. These prefix characters and the dots at the word's end stay.
+/// With `strip`, one more underscore may be in front of the symbol, and is dropped.
 ///
 /// Before each read, all that was read is written, except a last word that may hold a symbol. In such a word a symbol
 /// follows the prefix characters, or it has fewer than ten bytes. A line may have any length, since only such a word is

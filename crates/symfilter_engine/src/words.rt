@@ -5,10 +5,9 @@ ghost use Rattle.symfilter_engine.specs.Replaced.{IsWordByte, IsDot, ends_in_dot
 ghost use Rattle.symfilter_engine.specs.Progress.{AppendsReplaced, Extends};
 
 use super::prefixes::first_prefix;
-use super::symbols::{ReplaceOptions, read_as};
+use super::symbols::{Demanglers, ReplaceOptions, read_as};
 use super::word_bounds::{word_end, word_start};
 use growing_text::Text;
-use itanium_demangle::Demangler;
 use std::alloc::{AllocError, Global};
 use std::str;
 
@@ -83,7 +82,7 @@ pub(crate) fn may_hold_symbol(strip: bool, bytes: &[u8]) -> bool
 #[inline(always)]
 fn word_answer<'a>(
     alloc: Global,
-    demangler: &'a mut Demangler,
+    demanglers: &'a mut Demanglers,
     options: ReplaceOptions,
     word: &'a [u8],
 ) -> Result<Option<(usize, &'a str)>, AllocError>
@@ -97,8 +96,8 @@ fn word_answer<'a>(
         return Ok(None);
     };
     let symbol = unsafe { str::from_utf8_unchecked(symbol) };
-    read_as(alloc, demangler, options.printing, symbol)?;
-    match demangler.text() {
+    read_as(alloc, demanglers, options.printing, symbol)?;
+    match demanglers.text() {
         Some(answer) => Ok(Some((chars_len, answer))),
         None => Ok(None),
     }
@@ -107,7 +106,7 @@ fn word_answer<'a>(
 /// Appends the text with its symbols replaced. Returns an error if an allocation fails; then a part may be appended.
 fn append_words_or_part(
     alloc: Global,
-    demangler: &mut Demangler,
+    demanglers: &mut Demanglers,
     options: ReplaceOptions,
     text: &[u8],
     output: &mut Text,
@@ -126,7 +125,7 @@ fn append_words_or_part(
         from = (end + 1).min(text.len());
         let word = &text[start..end];
         let stem = stem_len(word);
-        if let Some((chars_len, answer)) = word_answer(alloc, demangler, options, &word[..stem])? {
+        if let Some((chars_len, answer)) = word_answer(alloc, demanglers, options, &word[..stem])? {
             output.add_pair(&text[done..start + chars_len], answer.as_bytes())?;
             done = start + stem;
         }
@@ -137,7 +136,7 @@ fn append_words_or_part(
 /// Does what `append_words_or_part` does. If that fails, removes the part that was appended, and returns the error.
 pub(crate) fn append_words(
     alloc: Global,
-    demangler: &mut Demangler,
+    demanglers: &mut Demanglers,
     options: ReplaceOptions,
     text: &[u8],
     output: &mut Text,
@@ -146,7 +145,7 @@ pub(crate) fn append_words(
     ensures err { OnErr result (output.new ≡ output.old) }
 {
     let len = output.len();
-    match append_words_or_part(alloc, demangler, options, text, output) {
+    match append_words_or_part(alloc, demanglers, options, text, output) {
         Ok(()) => Ok(()),
         Err(error) => {
             output.truncate(len);

@@ -17,11 +17,11 @@ use super::fault::FilterFault;
 use super::output::write_all;
 use super::prefixes::ordinary_words_len;
 use super::streams::Sink;
-use super::symbols::{Placement, Printing, ReplaceOptions, read_as};
+use super::symbols::{Demanglers, Placement, Printing, ReplaceOptions, read_as};
 use super::word_bounds::{whole_words_len, word_end};
 use super::words::append_words;
 use growing_text::Text;
-use itanium_demangle::{Demangler, is_utf8};
+use itanium_demangle::is_utf8;
 use std::alloc::{AllocError, Global};
 use std::str;
 
@@ -87,13 +87,13 @@ fn ordinary_lines_len(lines: &[u8]) -> usize
     len
 }
 
-/// Returns what is written for a line, which has no line feed here: the name or signature of its symbol. Returns the
-/// line itself if there is none, or if the line isn't UTF-8. If `known_utf8` is true, the line is UTF-8 and isn't
+/// Returns what is written for a line, which has no line feed here: what is printed for its symbol. Returns the line
+/// itself if nothing is printed, or if the line isn't UTF-8. If `known_utf8` is true, the line is UTF-8 and isn't
 /// tested again.
 #[inline(always)]
 fn line_answer<'a>(
     alloc: Global,
-    demangler: &'a mut Demangler,
+    demanglers: &'a mut Demanglers,
     printing: Printing,
     line: &'a [u8],
     known_utf8: bool,
@@ -105,8 +105,8 @@ fn line_answer<'a>(
         return Ok(line);
     }
     let symbol = unsafe { str::from_utf8_unchecked(line) };
-    read_as(alloc, demangler, printing, symbol)?;
-    match demangler.text() {
+    read_as(alloc, demanglers, printing, symbol)?;
+    match demanglers.text() {
         Some(answer) => Ok(answer.as_bytes()),
         None => Ok(line),
     }
@@ -117,7 +117,7 @@ fn line_answer<'a>(
 #[inline(always)]
 fn append_line(
     alloc: Global,
-    demangler: &mut Demangler,
+    demanglers: &mut Demanglers,
     printing: Printing,
     lines: &[u8],
     known_utf8: bool,
@@ -134,7 +134,7 @@ fn append_line(
     let Some(end) = first_place(lines, LINE_FEED) else {
         unreachable!()
     };
-    let answer = line_answer(alloc, demangler, printing, &lines[..end], known_utf8)?;
+    let answer = line_answer(alloc, demanglers, printing, &lines[..end], known_utf8)?;
     output.add_pair(answer, b"\n")?;
     Ok(end + 1)
 }
@@ -161,7 +161,7 @@ fn block_len(text: &[u8], most: usize) -> usize
 /// length in bytes of the text that was replaced. After an error nothing is appended.
 fn append_block(
     alloc: Global,
-    demangler: &mut Demangler,
+    demanglers: &mut Demanglers,
     options: ReplaceOptions,
     text: &[u8],
     output: &mut Text,
@@ -174,11 +174,11 @@ fn append_block(
     ensures err { OnErr result (output.new ≡ output.old) }
 {
     let len = block_len(text, BLOCK_LEN);
-    if append_words(alloc, demangler, options, &text[..len], output).is_ok() {
+    if append_words(alloc, demanglers, options, &text[..len], output).is_ok() {
         return Ok(len);
     }
     let first = block_len(text, 1);
-    append_words(alloc, demangler, options, &text[..first], output)?;
+    append_words(alloc, demanglers, options, &text[..first], output)?;
     Ok(first)
 }
 
@@ -187,7 +187,7 @@ fn append_block(
 #[inline(always)]
 fn append_next(
     alloc: Global,
-    demangler: &mut Demangler,
+    demanglers: &mut Demanglers,
     placement: Placement,
     complete_text: &[u8],
     known_utf8: bool,
@@ -209,13 +209,19 @@ fn append_next(
     match placement {
         Placement::Lines(printing) => append_line(
             alloc,
-            demangler,
+            demanglers,
             printing,
             complete_text,
             known_utf8,
             output,
         ),
-        Placement::Words(options) => append_block(alloc, demangler, options, complete_text, output),
+        Placement::Words(options) => append_block(
+            alloc,
+            demanglers,
+            options,
+            complete_text,
+            output,
+        ),
     }
 }
 
@@ -224,7 +230,7 @@ fn append_next(
 /// appended before. Otherwise it stops there, and the next call begins with the line or words that failed.
 fn gather_whole(
     alloc: Global,
-    demangler: &mut Demangler,
+    demanglers: &mut Demanglers,
     placement: Placement,
     complete_text: &[u8],
     known_utf8: bool,
@@ -240,7 +246,7 @@ fn gather_whole(
 {
     let mut rest = complete_text;
     while !rest.is_empty() && output.len() < OUTPUT_LEN {
-        match append_next(alloc, demangler, placement, rest, known_utf8, output) {
+        match append_next(alloc, demanglers, placement, rest, known_utf8, output) {
             Ok(more) => rest = &rest[more..],
             Err(error) if rest.len() == complete_text.len() => return Err(error),
             Err(_) => break,
@@ -253,7 +259,7 @@ fn gather_whole(
 /// at the front, without a copy, if they have at least `LONG_LEN` bytes. Otherwise it is what `gather_whole` gathers.
 fn write_next<W: Sink>(
     alloc: Global,
-    demangler: &mut Demangler,
+    demanglers: &mut Demanglers,
     placement: Placement,
     complete_text: &[u8],
     known_utf8: bool,
@@ -284,7 +290,7 @@ fn write_next<W: Sink>(
     output.reserve(OUTPUT_CAPACITY)?;
     let len = gather_whole(
         alloc,
-        demangler,
+        demanglers,
         placement,
         complete_text,
         known_utf8,
@@ -297,7 +303,7 @@ fn write_next<W: Sink>(
 /// Writes the text for these whole lines or words.
 pub(crate) fn write_whole<W: Sink>(
     alloc: Global,
-    demangler: &mut Demangler,
+    demanglers: &mut Demanglers,
     placement: Placement,
     complete_text: &[u8],
     output: &mut Text,
@@ -316,7 +322,7 @@ pub(crate) fn write_whole<W: Sink>(
     let known_utf8 = matches!(placement, Placement::Lines(_)) && is_utf8(complete_text);
     let mut rest = complete_text;
     while !rest.is_empty() {
-        let len = write_next(alloc, demangler, placement, rest, known_utf8, output, sink)?;
+        let len = write_next(alloc, demanglers, placement, rest, known_utf8, output, sink)?;
         rest = &rest[len..];
     }
     Ok(())
@@ -325,7 +331,7 @@ pub(crate) fn write_whole<W: Sink>(
 /// Writes the text for the last bytes of the input: a line without a line feed, a word, or nothing.
 pub(crate) fn write_last<W: Sink>(
     alloc: Global,
-    demangler: &mut Demangler,
+    demanglers: &mut Demanglers,
     placement: Placement,
     last: &[u8],
     sink: &mut W,
@@ -344,12 +350,12 @@ pub(crate) fn write_last<W: Sink>(
     }
     match placement {
         Placement::Lines(printing) => {
-            let answer = line_answer(alloc, demangler, printing, last, false)?;
+            let answer = line_answer(alloc, demanglers, printing, last, false)?;
             write_all(sink, answer)
         }
         Placement::Words(options) => {
             let mut output = Text::new(alloc);
-            append_words(alloc, demangler, options, last, &mut output)?;
+            append_words(alloc, demanglers, options, last, &mut output)?;
             write_all(sink, output.as_slice())
         }
     }

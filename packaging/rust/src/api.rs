@@ -2,11 +2,39 @@
 
 use crate::extracted::itanium_demangle as inner;
 use crate::extracted::symfilter_engine::{
-    Failed, FilterFault, Printing, ReplaceOptions, Sink, Tally, filter_with, read_as, replace as replace_words,
+    self as engine, Failed, FilterFault, Sink, Tally, filter_with, replace as replace_words,
 };
 use crate::rattle::alloc::{AllocError, Global};
 use crate::rattle::{string, vec};
 use std::fmt;
+
+/// What is printed for a symbol.
+#[derive(Clone, Copy, Debug, PartialEq, Eq)]
+pub enum Printing {
+    /// Its demangled name.
+    Names,
+    /// Its signature, which is its demangled name with its parameters. If a symbol has no signature, its demangled
+    /// name.
+    Signatures,
+}
+
+impl From<Printing> for engine::Printing {
+    fn from(printing: Printing) -> Self {
+        match printing {
+            Printing::Names => engine::Printing::Names,
+            Printing::Signatures => engine::Printing::Signatures,
+        }
+    }
+}
+
+/// How symbols in words are replaced.
+#[derive(Clone, Copy, Debug, PartialEq, Eq)]
+pub struct ReplaceOptions {
+    /// Whether one more underscore may stand in front of a symbol, and is dropped.
+    pub strip: bool,
+    /// What replaces a symbol.
+    pub printing: Printing,
+}
 
 /// What a call without `try_` does where an allocation failed.
 #[track_caller]
@@ -84,7 +112,10 @@ impl Demangler {
 
     /// Reads a symbol, and returns what is printed for it.
     fn read(&mut self, printing: Printing, symbol: &str) -> Result<Option<&str>, AllocError> {
-        read_as(Global, &mut self.inner, printing, symbol)?;
+        match printing {
+            Printing::Names => self.inner.prepare(Global, symbol)?,
+            Printing::Signatures => self.inner.prepare_signature(Global, symbol)?,
+        };
         Ok(self.inner.text())
     }
 
@@ -181,6 +212,7 @@ pub fn replace(text: &[u8], options: ReplaceOptions) -> Vec<u8> {
 /// If an allocation fails.
 pub fn try_replace(text: &[u8], options: ReplaceOptions) -> Result<Vec<u8>, AllocError> {
     let mut made = Made::default();
+    let options = engine::ReplaceOptions { strip: options.strip, printing: options.printing.into() };
     replace_words(Global, options, &mut Tally::new(text), &mut made)?;
     Ok(made.bytes.into_std())
 }
@@ -210,7 +242,7 @@ pub fn filter(lines: &[u8], printing: Printing) -> Vec<u8> {
 /// If an allocation fails.
 pub fn try_filter(lines: &[u8], printing: Printing) -> Result<Vec<u8>, AllocError> {
     let mut made = Made::default();
-    filter_with(Global, printing, &mut Tally::new(lines), &mut made)?;
+    filter_with(Global, printing.into(), &mut Tally::new(lines), &mut made)?;
     Ok(made.bytes.into_std())
 }
 

@@ -42,10 +42,9 @@ mod extracted;
 mod api;
 
 pub use api::{
-    Demangler, demangle_owned, demangle_signature_owned, filter, replace, try_demangle_owned,
+    Demangler, Printing, ReplaceOptions, demangle_owned, demangle_signature_owned, filter, replace, try_demangle_owned,
     try_demangle_signature_owned, try_filter, try_replace, version,
 };
-pub use extracted::symfilter_engine::{Printing, ReplaceOptions};
 pub use rattle::alloc::AllocError;
 
 /// What the programs of this package call.

@@ -1,7 +1,7 @@
 use Rattle.std.proofs.Common.{◌+◌, sym, ap, ◌∙◌, arith}
 use Rattle.std.proofs.lemmas.List.{take_rest}
 use Rattle.std.proofs.lemmas.Grind.{common_steps}
-use Rattle.cosvigle.specs.Options.{after_format}
+use Rattle.cosvigle.specs.Options.{after_value}
 use Rattle.cosvigle.proofs.Steps.{letters_value}
 use Rattle.cosvigle.proofs.options.after_letters.Goals as goal
 
@@ -11,8 +11,8 @@ returns-in-NeedsValue c =
     let at = c.loop-at.at in
     record {
       value =
-          c.after_format.ensures.value ∙ ap (after_format c.in-NeedsValue.next) (take_rest argument (at + 1))
-          ∙ sym (c.loop-at.invariant ∙ letters_value c.loop-at.flags c.in-NeedsValue.next argument at (omega arith) (sym c.after_letter.ensures.value ∙ c.in-NeedsValue.is));
+          c.after_value.ensures.value ∙ ap (after_value c.in-NeedsValue.next c.in-NeedsValue.option) (take_rest argument (at + 1))
+          ∙ sym (c.loop-at.invariant ∙ letters_value c.loop-at.flags c.in-NeedsValue.next c.in-NeedsValue.option argument at (omega arith) (sym c.after_letter.ensures.value ∙ c.in-NeedsValue.is));
     }
 
 pub returns-in_default : goal.returns-in_default

@@ -13,7 +13,7 @@ loop-at-preserved-in-NeedsValue c =
     let all = c.args.arguments.now in
     let at = c.loop-at.at in
     let inside : at < length all = omega arith in
-    value_turn all at _ _ c.loop-at.state c.after_format-state.result c.in-NeedsValue.flags _ _ inside c.in-NeedsValue.is c.after_format-state.ensures.value c.loop-at.invariant
+    value_turn all at _ _ c.loop-at.state c.after_value-state.result c.in-NeedsValue.flags c.in-NeedsValue.option _ _ inside c.in-NeedsValue.is c.after_value-state.ensures.value c.loop-at.invariant
 
 pub returns-in-Exit : goal.returns-in-Exit
 returns-in-Exit c =

@@ -171,8 +171,8 @@ copy_within-requires-clause-dest_in_bounds g c = grind arith
 pub overflow_sub-kept : goal.overflow_sub-kept
 overflow_sub-kept g c = grind (arith, common_steps)
 
-pub same-demangler-in-chunks-2 : goal.same-demangler-in-chunks-2
-same-demangler-in-chunks-2 g c = grind arith
+pub same-demanglers-in-chunks-2 : goal.same-demanglers-in-chunks-2
+same-demanglers-in-chunks-2 g c = grind arith
 
 pub chunks-smaller : goal.chunks-smaller
-chunks-smaller g c = grind arith
+chunks-smaller g c = c.in_ok-end.ensures.fewer (omega (arith, c.in_ok-end.ensures.ok.low, c.if-end-kept.false))
