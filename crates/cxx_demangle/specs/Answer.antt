@@ -61,8 +61,8 @@ IsAnswer printing symbol None = HasNoAnswer printing symbol
 pub record HasAtMostOneReading (symbol : List ℕ) : Type 0 where
   pub agree : (t u : Tree) → Reads symbol t → Reads symbol u → t ≡ u
 
--- each byte of a symbol makes four nodes at most, and each of the 65,536 nodes that may be replaced two; it saves two trees
--- at most
+-- each byte of a symbol makes at most four nodes, and each of the 65,536 nodes that may be replaced two. Each byte
+-- saves at most two trees
 pub record HasBounds (symbol : List ℕ) (nodes saved : ℕ) : Type 0 where
   pub few_nodes : nodes ≤ 4 * length symbol + 131072
   pub few_saved : saved ≤ 2 * length symbol
