@@ -6,8 +6,8 @@
 //! `scalar.rt` numbers and source names at a place of the input, and `symbol.rt` the prefix and the suffix of a symbol.
 //! The contracts are equations with definitions of `specs/`, and bounds.
 //!
-//! Two grammars read by it: that of names, in `itanium_syntax`, and that of declarations, whose readers aren't written
-//! yet. What they read in different ways isn't here, such as a call offset. Begin with `numerals.rt`.
+//! Two grammars read by it: that of names, in `itanium_syntax`, and that of declarations, in
+//! `cxx_reader`. What they read in different ways isn't here, such as a call offset. Begin with `numerals.rt`.
 #![tactic(auto)]
 
 pub mod numerals;

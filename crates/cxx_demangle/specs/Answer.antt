@@ -20,7 +20,8 @@ max_text = 1048576
 abbrev pub start : List ℕ → State
 start bytes = record { rest = bytes; saved = []; replaced = 0 }
 
--- an encoding, within the limits, that is all of the bytes
+-- an encoding, within the limits, that is all of the bytes. The limits of trees stand where a tree is made (`make` of
+-- `cxx_grammar/specs/State`), and that of replaced nodes in `count_replaced` of `cxx_grammar/specs/Binds`
 pub record IsWhole (bytes : List ℕ) (t : Tree) : Type 0 where
   pub end : State
   pub reading : Encoding max_depth (start bytes) t end

@@ -61,6 +61,7 @@ fn read(tables: &mut Tables, alloc: Global, bytes: &[u8]) -> Result<Option<u32>,
     ensures gives { GivesWhole result tables.new bytes.now }
     ensures bounds { HasBounds bytes.now (size tables.new.store) (length tables.new.saved) }
 {
+    // The reader owns the tables while it reads.
     let mut cleared = replace(tables, Tables::new(alloc));
     cleared.clear();
     let mut reader = Reader {
@@ -91,6 +92,7 @@ fn print(
     ensures text { OnOk result (text.new ≡ text_of printing (stands tables.now tree)) }
 {
     text.clear();
+    // Neither blocks nor suffixes are read so far.
     let symbol = Symbol {
         tree,
         is_block: false,

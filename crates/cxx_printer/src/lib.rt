@@ -1,4 +1,4 @@
-//! Prints trees of demangled symbols as LLVM does, or as GNU's c++filt does.
+//! Prints trees of demangled symbols as LLVM does, or as GNU's c++filt does. Begin with `symbol.rt`, and then `print.rt`.
 #![tactic(auto)]
 
 /// The value of a result. An error is returned from the function around it, as it is.

@@ -1,4 +1,5 @@
-//! Reads the bytes of a mangled symbol as the nodes of a tree (Itanium C++ ABI 5.1).
+//! Reads the bytes of a mangled symbol as the nodes of a tree (Itanium C++ ABI 5.1). Begin with `encodings.rt`, whose
+//! `read_encoding` reads all of a symbol, and with `reader.rt`. `specs/Parser` has what each reader is proved to do.
 #![tactic(auto)]
 
 /// The value of a result. An error is returned as it is.

@@ -84,7 +84,7 @@ fn read_with_args(reader: &mut Reader, depth: usize, name: Named) -> Result<Name
     make_named(reader, Node::Plain(Plain::WithArgs(name.node, args)), info)
 }
 
-// Reads the arguments of a name, if there are any. Then the name is saved.
+// Reads the arguments of a name, if there are any. If there are some, the name is saved before they are read.
 #[cycle(reader)]
 fn read_unscoped(reader: &mut Reader, depth: usize, node: u32) -> Result<Named, Stop>
     requires node { IsNode reader.old.tables node }
@@ -287,6 +287,7 @@ fn read_components(reader: &mut Reader, depth: usize, name: Named) -> Result<Nam
     ensures owes { Owes 0 1 reader.old reader.new }
     ensures leaves { OnOk result (Pays 4 2 reader.old reader.new) }
 {
+    // The mark of the initializer of a data member, which prints nothing.
     reader.skip_letter(b'M');
     let mut last = name;
     while !begins(reader.rest, b'E') {
@@ -327,6 +328,7 @@ fn read_component(reader: &mut Reader, depth: usize, scope: Named) -> Result<Nam
     if begins(reader.rest, b'I') {
         return read_more_args(reader, depth, scope);
     }
+    // The mark of internal linkage, which prints nothing.
     reader.skip_letter(b'L');
     match component_case(reader.rest) {
         ComponentCase::Ctor => read_ctor(reader, scope, false),

@@ -1,4 +1,5 @@
-//! Trees of demangled symbols, as nodes of an arena (Itanium C++ ABI 5.1).
+//! Trees of demangled symbols, as nodes of an arena (Itanium C++ ABI 5.1). Begin with `node.rt` and `arena.rt`;
+//! `specs/Tree` defines the trees.
 #![tactic(auto)]
 
 /// The value of a result. An error is returned as it is.
