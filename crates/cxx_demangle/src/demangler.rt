@@ -82,12 +82,7 @@ fn read(tables: &mut Tables, alloc: Global, bytes: &[u8]) -> Result<Option<u32>,
 }
 
 // Makes the text the printing of a tree.
-fn print(
-    tables: &Tables,
-    tree: u32,
-    printing: Printing,
-    text: &mut Text,
-) -> Result<(), AllocError>
+fn print(tables: &Tables, tree: u32, printing: Printing, text: &mut Text) -> Result<(), AllocError>
     requires within { IsNode tables.now tree }
     ensures text { OnOk result (text.new ≡ text_of printing (stands tables.now tree)) }
 {

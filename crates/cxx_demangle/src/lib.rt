@@ -6,6 +6,7 @@
 #![tactic(auto)]
 
 mod demangler;
+pub mod laws;
 
 pub use crate::demangler::{Demangler, MAX_DEPTH, MAX_TEXT, Printing};
 pub use cxx_printer::{Mode, Style};

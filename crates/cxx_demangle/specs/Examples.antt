@@ -1,0 +1,27 @@
+-- Symbols with their declarations.
+use Rattle.std.specs.Prelude.{codes, Some, None}
+use Rattle.cxx_printer.specs.declared.env.Style.TheVariants.{Llvm, Gnu}
+use Rattle.cxx_printer.specs.declared.symbol.Mode.TheVariants.{Name, Signature, Declaration}
+use Rattle.cxx_demangle.specs.declared.demangler.Printing.{Printing}
+use Rattle.cxx_demangle.specs.Answer.{IsAnswer}
+
+abbrev pub whole : Printing
+whole = record { mode = Declaration; style = Llvm }
+
+pub record WorkedSymbols : Type 0 where
+  -- a function without parameters
+  pub function : IsAnswer whole (codes "_Z1fv") (Some (codes "f()"))
+  -- a member function with its qualifiers
+  pub member : IsAnswer whole (codes "_ZNK1A1fEv") (Some (codes "A::f() const"))
+  -- a name that was saved, and a pointer to it
+  pub substitution : IsAnswer whole (codes "_Z1f1APS_") (Some (codes "f(A, A*)"))
+  -- a return type, and a template parameter that stands for an argument
+  pub parameter : IsAnswer whole (codes "_Z1fIiEvT_") (Some (codes "void f<int>(int)"))
+  -- the same without its return type
+  pub signature : IsAnswer (record whole { mode = Signature }) (codes "_Z1fIiEvT_") (Some (codes "f<int>(int)"))
+  -- a pack that is expanded
+  pub pack : IsAnswer whole (codes "_Z1fIJicEEvDpT_") (Some (codes "void f<int, char>(int, char)"))
+  -- a template parameter that stands for nothing
+  pub no_argument : IsAnswer whole (codes "_Z1fT_") None
+  -- a byte that isn't read
+  pub rest : IsAnswer whole (codes "_Z1fv.") None
