@@ -63,6 +63,7 @@ worked_symbols = record {
   substitution = some_by _ (codes "_Z1f1APS_") (codes "1f1APS_") (codes "f(A, A*)") refl refl (omega arith) refl;
   parameter = some_by _ (codes "_Z1fIiEvT_") (codes "1fIiEvT_") (codes "void f<int>(int)") refl refl (omega arith) refl;
   signature = some_by _ (codes "_Z1fIiEvT_") (codes "1fIiEvT_") (codes "f<int>(int)") refl refl (omega arith) refl;
+  vendor = some_by _ (codes "_Zv13negi") (codes "v13negi") (codes "operator neg(int)") refl refl (omega arith) refl;
   pack = some_by _ (codes "_Z1fIJicEEvDpT_") (codes "1fIJicEEvDpT_") (codes "void f<int, char>(int, char)") refl refl (omega arith) refl;
   no_argument = none_by whole (codes "_Z1fT_") (codes "1fT_") refl refl;
   rest = rest_by whole (codes "_Z1fv.") (codes "1fv.") 46 [] refl refl;

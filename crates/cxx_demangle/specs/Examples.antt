@@ -19,6 +19,8 @@ pub record WorkedSymbols : Type 0 where
   pub parameter : IsAnswer whole (codes "_Z1fIiEvT_") (Some (codes "void f<int>(int)"))
   -- the same without its return type
   pub signature : IsAnswer (record whole { mode = Signature }) (codes "_Z1fIiEvT_") (Some (codes "f<int>(int)"))
+  -- an operator of a vendor, with the number of its operands
+  pub vendor : IsAnswer whole (codes "_Zv13negi") (Some (codes "operator neg(int)"))
   -- a pack that is expanded
   pub pack : IsAnswer whole (codes "_Z1fIJicEEvDpT_") (Some (codes "void f<int, char>(int, char)"))
   -- a template parameter that stands for nothing

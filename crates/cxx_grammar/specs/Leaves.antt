@@ -39,7 +39,7 @@ base_as base.Source s = parse_source s
 -- li <source-name>
 base_as base.Literal s = parse_prefixed (codes "operator\"\" ") 2 s
 -- v <digit> <source-name>
-base_as base.Vendor s = parse_prefixed (codes "operator ") 1 s
+base_as base.Vendor s = parse_prefixed (codes "operator ") 2 s
 base_as base.Operator s = parse_operator s
 
 -- a name without a scope, after its `L`

@@ -73,7 +73,7 @@ base_as_takes : (k : BaseCase) (s : State) (t : Tree) (after : State) → base_a
 unfolding base_as
 base_as_takes base.Source s t after e = source_takes s t after e
 base_as_takes base.Literal s t after e = prefixed_takes (codes "operator\"\" ") 2 s t after e
-base_as_takes base.Vendor s t after e = prefixed_takes (codes "operator ") 1 s t after e
+base_as_takes base.Vendor s t after e = prefixed_takes (codes "operator ") 2 s t after e
 base_as_takes base.Operator s t after e = operator_takes s t after e
 
 pub unmarked_takes : (s : State) (t : Tree) (after : State) → parse_unmarked_base s ≡ Some (t, after) → left after < left s

@@ -180,7 +180,7 @@ impl<'a> Reader<'a> {
         match base_case(self.rest) {
             BaseCase::Source => self.read_source_name(),
             BaseCase::Literal => self.read_prefixed(b"operator\"\" ", 2),
-            BaseCase::Vendor => self.read_prefixed(b"operator ", 1),
+            BaseCase::Vendor => self.read_prefixed(b"operator ", 2),
             BaseCase::Operator => self.read_operator(),
         }
     }

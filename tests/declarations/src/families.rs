@@ -131,6 +131,7 @@ pub fn limited() -> Vec<Case> {
     cases.extend(numbered("a chain", chain, MAX_HEIGHT - 2, chain_text));
     cases.extend(numbered("doubled arguments", doubled, most_doubled(), doubled_text));
     cases.extend(numbered("doubled template parameters", replaced, most_replaced(), replaced_text));
+    cases.push(("an operator of a vendor", "_Zv23mixii".to_string(), Some("operator mix(int, int)".to_string())));
     cases.push(("an empty pack", "_Z1fIJEDpT_Evv".to_string(), Some("void f<>()".to_string())));
     cases.push(("two empty packs", "_Z1fIJJEJEEEvDpT_".to_string(), Some("void f<>(, )".to_string())));
     cases.push((
