@@ -109,6 +109,7 @@ impl<'a> Reader<'a> {
     }
 
     /// Makes a node.
+    #[inline(always)]
     pub fn make(&mut self, node: Node) -> Result<u32, Stop>
         requires below { IsBelow self.old.tables.store.held (size self.old.tables.store) node }
         ensures reads { Gives result self.new (spec.make (tree_of self.old.tables.store.held (forest
@@ -120,6 +121,7 @@ impl<'a> Reader<'a> {
     }
 
     /// Makes a node, and saves it.
+    #[inline(always)]
     pub fn make_saved(&mut self, node: Node) -> Result<u32, Stop>
         requires below { IsBelow self.old.tables.store.held (size self.old.tables.store) node }
         ensures reads { Gives result self.new (spec.make_saved (tree_of self.old.tables.store.held (forest

@@ -97,6 +97,7 @@ impl Tables {
     }
 
     /// Makes a node.
+    #[inline(always)]
     pub fn make(&mut self, node: Node) -> Result<u32, Stop>
         requires below { IsBelow self.old.store.held (size self.old.store) node }
         ensures makes { MakesIn result self.old self.new (tree_of self.old.store.held (forest self.old.store) node) }
