@@ -159,6 +159,7 @@ impl<'a> Reader<'a> {
     }
 
     /// Reads a name without a scope, after its `L`.
+    #[inline(always)]
     pub fn read_unmarked_base(&mut self) -> Result<u32, Stop>
         ensures reads { Gives result self.new (leaves.parse_unmarked_base (state self.old)) }
         ensures keeps { OnOk result (Keeps self.old self.new) }

@@ -125,6 +125,7 @@ impl Tables {
     }
 
     /// Makes a name.
+    #[inline(always)]
     pub fn make_name(&mut self, text: &[u8]) -> Result<u32, Stop>
         ensures makes { MakesIn result self.old self.new (named text.now) }
     {
