@@ -98,11 +98,7 @@ pub fn around(own: usize, m: Measure) -> Option<Measure>
 fn counted(params: u32) -> u32
     ensures value { result ≡ min 2097152 (spec.counted params) }
 {
-    if params == 0 {
-        0
-    } else {
-        at_most(params as u64 + 1)
-    }
+    at_most(params as u64 + (params != 0) as u64)
 }
 
 /// Returns the counts of a template parameter.

@@ -27,15 +27,16 @@ fn of_list(arena: &Arena, list: List) -> Measure
     sum
 }
 
-// The counts of no node, or of one.
+// The counts of no node, or of one, and of what stands after it.
 #[inline(always)]
-fn of_option(arena: &Arena, node: Option<u32>) -> Measure
+fn option_and(arena: &Arena, node: Option<u32>, after: Measure) -> Measure
     requires below { IsOptionBelow (size arena.now) node }
-    ensures counts { Row result (spec.measure_each (option_at (forest arena.now) node)) }
+    ensures counts { (m : spec.Measure) → Row after m → Row result
+        (spec.join (spec.measure_each (option_at (forest arena.now) node)) m) }
 {
     match node {
-        None => nothing(),
-        Some(i) => join(arena.measure(i), nothing()),
+        None => after,
+        Some(i) => join(arena.measure(i), after),
     }
 }
 
@@ -87,6 +88,19 @@ fn of_parts(arena: &Arena, reversed: bool, parts: Parts) -> Measure
         sum = with_part(arena, reversed, list[k], sum);
     }
     sum
+}
+
+// The counts of what stands before the parts of a phrase, and of these.
+#[inline(always)]
+fn and_parts(arena: &Arena, before: Measure, parts: Parts) -> Measure
+    requires below { IsPartsBelow arena.now.held (size arena.now) parts }
+    ensures counts { (m : spec.Measure) → Row before m → Row result
+        (spec.join m (spec.measure_parts false (parts_in arena.now.held (forest arena.now) parts))) }
+{
+    if parts.range.from == parts.range.to {
+        return before;
+    }
+    join(before, of_parts(arena, false, parts))
 }
 
 // The number of bytes of a text.
@@ -192,19 +206,15 @@ pub fn of_node(arena: &Arena, node: Node) -> Option<Measure>
             join(arena.measure(element), of_parts(arena, false, dimension)),
         ),
         Node::Function(function) => {
-            let after = join(
-                of_list(arena, function.params),
-                of_parts(arena, false, function.exception),
-            );
+            let params = of_list(arena, function.params);
+            let after = and_parts(arena, params, function.exception);
             around(1, join(arena.measure(function.ret), after))
         }
         Node::Encoding(encoding) => {
-            let after = join(
-                of_list(arena, encoding.params),
-                of_parts(arena, false, encoding.rest),
-            );
+            let params = of_list(arena, encoding.params);
+            let after = and_parts(arena, params, encoding.rest);
             let named = join(arena.measure(encoding.name), after);
-            around(1, join(of_option(arena, encoding.ret), named))
+            around(1, option_and(arena, encoding.ret, named))
         }
         Node::Pack(items) => pack_of(arena, items),
     }
