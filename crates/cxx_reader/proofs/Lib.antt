@@ -9,3 +9,4 @@ pub mod Takes
 pub mod Complete
 pub mod EncodingReadings
 pub mod Bound
+pub mod Unbound

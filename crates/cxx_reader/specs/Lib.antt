@@ -3,3 +3,4 @@ pub mod Table
 pub mod View
 pub mod Cost
 pub mod Outcome
+pub mod Unbound

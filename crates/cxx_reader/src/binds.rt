@@ -1,7 +1,7 @@
 //! What becomes of the template parameters of an encoding.
 #![tactic(auto, using(crate::proofs::Rules::productions), unfolding(crate::specs::Table::stands, crate::specs::Table::saved_trees, crate::specs::Outcome::named_at, crate::specs::Outcome::list_trees, cxx_tree::specs::Counts::Row))]
 
-ghost use Rattle.std.specs.Prelude.{◌≡◌, ℕ, ◌+◌, ◌*◌, ◌<◌, ◌≤◌, [], length, map, drop, take, OnOk, IfSome, option_map, Option};
+ghost use Rattle.std.specs.Prelude.{◌≡◌, ℕ, ◌+◌, ◌*◌, ◌<◌, ◌≤◌, [], length, map, drop, take, OnOk, IfSome, option_map, Option, true};
 ghost use Rattle.cxx_tree.specs.Grows.{Grows};
 ghost use Rattle.cxx_tree.specs.Bind.{bind};
 ghost use Rattle.cxx_tree.specs.Measure.{measure, measure_each};
@@ -10,6 +10,7 @@ ghost use Rattle.cxx_grammar.specs.State as grammar;
 ghost use Rattle.cxx_grammar.specs.Bases as bases;
 ghost use Rattle.cxx_grammar.specs.Binds as spec;
 ghost use Rattle.cxx_reader.specs.Table.{IsNode, stands};
+ghost use Rattle.cxx_reader.specs.Unbound.{IsUnbound, bind_counted};
 ghost use Rattle.cxx_reader.specs.Outcome.{state, Keeps, KeepsFront, Gives, GivesFrom, GivesCount, IsNamed, named_at, list_trees};
 ghost use Rattle.cxx_reader.specs.Cost.{Pays, Spends, uncounted};
 
@@ -154,6 +155,43 @@ impl<'a> Reader<'a> {
         self.closed(tri!(bound))
     }
 
+    // Returns whether the tree of an encoding stays as it is, since neither it nor its name holds a template parameter.
+    #[tactic(auto, using(crate::proofs::Unbound::unbound), unfolding(crate::specs::Table::stands, crate::specs::Outcome::named_at, cxx_tree::specs::Counts::Row))]
+    fn is_unbound(&self, name: Named, i: u32) -> bool
+        requires named { IsNamed self.now.tables name }
+        requires node { IsNode self.now.tables i }
+        ensures stays { result ≡ true → IsUnbound (named_at self.now.tables name) (stands self.now.tables i) }
+    {
+        if name.info.inherited.is_some() {
+            return false;
+        }
+        let named = self.tables.arena().measure(name.node);
+        let tree = self.tables.arena().measure(i);
+        named.params == 0 && tree.params == 0
+    }
+
+    // Binds the arguments of the name of an encoding, and then its tree, whose template parameters are counted.
+    fn bind_counted(&mut self, name: Named, i: u32) -> Result<u32, Stop>
+        requires named { IsNamed self.old.tables name }
+        requires node { IsNode self.old.tables i }
+        ensures reads { Gives result self.new (bind_counted (named_at self.old.tables name) (stands self.old.tables i)
+            (state self.old)) }
+        ensures keeps { OnOk result (Keeps self.old self.new) }
+        ensures rest { self.new.rest.now ≡ self.old.rest.now }
+        ensures spends { Spends ((measure (stands self.old.tables name.node)).params
+            + (measure (stands self.old.tables i)).params) self.old self.new }
+        ensures left { length self.new.tables.pending ≤ length self.old.tables.pending }
+    {
+        let from = self.tables.pending_len();
+        match self.bind_arguments(name) {
+            Ok(()) => self.bind_tree(from, i),
+            Err(stop) => {
+                self.tables.truncate(from);
+                Err(stop)
+            }
+        }
+    }
+
     /// Puts the arguments of the name of an encoding in the place of the template parameters of its tree.
     pub fn bind(&mut self, name: Named, i: u32) -> Result<u32, Stop>
         requires named { IsNamed self.old.tables name }
@@ -167,13 +205,9 @@ impl<'a> Reader<'a> {
         ensures pays { Pays 0 0 self.old self.new }
     {
         tri!(self.count_replaced(i));
-        let from = self.tables.pending_len();
-        match self.bind_arguments(name) {
-            Ok(()) => self.bind_tree(from, i),
-            Err(stop) => {
-                self.tables.truncate(from);
-                Err(stop)
-            }
+        if self.is_unbound(name, i) {
+            return Ok(i);
         }
+        self.bind_counted(name, i)
     }
 }

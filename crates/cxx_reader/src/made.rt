@@ -14,6 +14,7 @@ use cxx_tree::{Arena, Cv, Node, Plain, PushError, RefQual};
 use std::alloc::{AllocError, Global};
 
 /// Makes a name.
+#[inline(always)]
 pub fn name(arena: &mut Arena, text: &[u8]) -> Result<u32, PushError>
     ensures makes { Makes result arena.old arena.new (named text.now) }
     ensures few { size arena.new ≤ size arena.old + 1 }

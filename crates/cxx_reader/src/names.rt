@@ -52,6 +52,7 @@ fn plain(node: u32) -> Named
 }
 
 // Makes a name of a node, and of what is learned of it.
+#[inline(always)]
 fn make_named(reader: &mut Reader, node: Node, info: Info) -> Result<Named, Stop>
     requires below { IsBelow reader.old.tables.store.held (size reader.old.tables.store) node }
     requires inherited { IfSome info.inherited (IsNode reader.old.tables) }

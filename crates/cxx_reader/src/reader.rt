@@ -116,6 +116,7 @@ impl<'a> Reader<'a> {
     }
 
     /// Makes a node.
+    #[inline(always)]
     pub fn make(&mut self, node: Node) -> Result<u32, Stop>
         requires below { IsBelow self.old.tables.store.held (size self.old.tables.store) node }
         ensures reads { Gives result self.new (spec.make (tree_of self.old.tables.store.held (forest
@@ -128,6 +129,7 @@ impl<'a> Reader<'a> {
     }
 
     /// Makes a node, and saves it.
+    #[inline(always)]
     pub fn make_saved(&mut self, node: Node) -> Result<u32, Stop>
         requires below { IsBelow self.old.tables.store.held (size self.old.tables.store) node }
         ensures reads { Gives result self.new (spec.make_saved (tree_of self.old.tables.store.held (forest
@@ -170,6 +172,7 @@ impl<'a> Reader<'a> {
     }
 
     /// Reads a name without a scope, after its `L`.
+    #[inline(always)]
     pub fn read_unmarked_base(&mut self) -> Result<u32, Stop>
         ensures reads { Gives result self.new (leaves.parse_unmarked_base (state self.old)) }
         ensures keeps { OnOk result (Keeps self.old self.new) }

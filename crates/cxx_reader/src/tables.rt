@@ -100,6 +100,7 @@ impl Tables {
     }
 
     /// Makes a node.
+    #[inline(always)]
     pub fn make(&mut self, node: Node) -> Result<u32, Stop>
         requires below { IsBelow self.old.store.held (size self.old.store) node }
         ensures makes { MakesIn result self.old self.new (tree_of self.old.store.held (forest self.old.store) node) }
@@ -130,6 +131,7 @@ impl Tables {
     }
 
     /// Makes a name.
+    #[inline(always)]
     pub fn make_name(&mut self, text: &[u8]) -> Result<u32, Stop>
         ensures makes { MakesIn result self.old self.new (named text.now) }
         ensures adds { AddsAtMost 1 0 0 self.old self.new }

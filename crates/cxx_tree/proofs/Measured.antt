@@ -1,51 +1,41 @@
 -- The counts of nodes.
-use Rattle.std.proofs.Common.{ℕ, ◌≡◌, ◌+◌, ◌<◌, ◌≤◌, Bool, true, false, ◌&&◌, List, [], ◌∷◌, ◌++◌, length, drop, slice_range, ◌-◌, refl, sym, ap, ◌∙◌, arith, zero, suc}
+use Rattle.std.proofs.Common.{ℕ, ◌≡◌, ◌+◌, ◌<◌, Bool, true, false, List, [], ◌∷◌, ◌++◌, length, drop, slice_range, ◌-◌, refl, sym, ap, subst, ◌∙◌, arith, zero, suc}
 use Rattle.std.proofs.Math.ListN.{get_or}
 use Rattle.std.proofs.lemmas.Grind.{common_steps}
-use Rattle.std.proofs.lemmas.Bool.{leb-true}
-use Rattle.std.specs.Prelude.{nat_le}
-use mathlib.Core.Bool.{true≢false}
+use Rattle.std.specs.Prelude.{Option, None, Some, MatchOption}
 use Rattle.std.specs.List.{AllByRecursion}
 use Rattle.cxx_tree.specs.declared.counts.Measure as stored
+use Rattle.cxx_tree.specs.declared.arena.Entry as entry
 use Rattle.cxx_tree.specs.declared.node.Range.{Range}
 use Rattle.cxx_tree.specs.declared.node.List as handle
 use Rattle.cxx_tree.specs.declared.node.Part.{Part}
 use Rattle.cxx_tree.specs.declared.node.Part.TheVariants as part
 use Rattle.cxx_tree.specs.Tree.{Tree}
-use Rattle.cxx_tree.specs.Measure.{Measure, measure, measure_each, measure_parts, nothing, join, count, within}
+use Rattle.cxx_tree.specs.Measure.{Measure, measure, measure_each, measure_parts, nothing, join, count}
 use Rattle.cxx_tree.specs.Counts.{Row, Tallied, AreExact, AreCounted, part_and}
 use Rattle.cxx_tree.specs.Stored.{Held, tree_at, trees_at, trees_in, list_at, parts_of, IsRange, IsListBelow, IsPartBelow}
 
-both : (a b : Bool) → (a && b) ≡ true → (a ≡ true) × (b ≡ true)
-both true true e = (refl, refl)
-both true false e = (refl, e)
-both false b e = absurd (true≢false (sym e))
-
-within-low : (height each packs : ℕ) → within height each packs ≡ true → (height ≤ 1024) × (each + packs ≤ 1048576)
-within-low height each packs e =
-    let two = both (nat_le height 1024) (nat_le (each + packs) 1048576) e in (leb-true height 1024 two.0, leb-true (each + packs) 1048576 two.1)
-
-pub counted-at : (cs : List stored.Measure) (ts : List Tree) → AreCounted cs ts → (i : ℕ) (d : stored.Measure) → i < length ts → Row (get_or cs i d) (measure (tree_at ts i)) × AreExact (measure (tree_at ts i))
+pub counted-at : (es : List entry.Entry) (ts : List Tree) → AreCounted es ts → (i : ℕ) (d : entry.Entry) → i < length ts → Row (get_or es i d).counts (measure (tree_at ts i)) × AreExact (measure (tree_at ts i))
 unfolding AreCounted
 counted-at [] [] h i d b = absurd (omega arith)
 counted-at [] (t ∷ ts) h i d b = absurd h
-counted-at (c ∷ cs) [] h i d b = absurd h
-counted-at (c ∷ cs) (t ∷ ts) h zero d b = (h.0, h.1)
-counted-at (c ∷ cs) (t ∷ ts) h (suc i) d b = counted-at cs ts h.2 i d (omega arith)
+counted-at (e ∷ es) [] h i d b = absurd h
+counted-at (e ∷ es) (t ∷ ts) h zero d b = (h.0, h.1)
+counted-at (e ∷ es) (t ∷ ts) h (suc i) d b = counted-at es ts h.2 i d (omega arith)
 
-pub counted-length : (cs : List stored.Measure) (ts : List Tree) → AreCounted cs ts → length cs ≡ length ts
+pub counted-length : (es : List entry.Entry) (ts : List Tree) → AreCounted es ts → length es ≡ length ts
 unfolding AreCounted
 counted-length [] [] h = refl
 counted-length [] (t ∷ ts) h = absurd h
-counted-length (c ∷ cs) [] h = absurd h
-counted-length (c ∷ cs) (t ∷ ts) h = omega (arith, counted-length cs ts h.2)
+counted-length (e ∷ es) [] h = absurd h
+counted-length (e ∷ es) (t ∷ ts) h = omega (arith, counted-length es ts h.2)
 
-pub counted-push : (cs : List stored.Measure) (ts : List Tree) (c : stored.Measure) (t : Tree) → AreCounted cs ts → Row c (measure t) → AreExact (measure t) → AreCounted (cs ++ c ∷ []) (ts ++ t ∷ [])
+pub counted-push : (es : List entry.Entry) (ts : List Tree) (e : entry.Entry) (t : Tree) → AreCounted es ts → Row e.counts (measure t) → AreExact (measure t) → AreCounted (es ++ e ∷ []) (ts ++ t ∷ [])
 unfolding AreCounted
-counted-push [] [] c t h r e = (r, e, tt)
-counted-push [] (u ∷ ts) c t h r e = absurd h
-counted-push (d ∷ cs) [] c t h r e = absurd h
-counted-push (d ∷ cs) (u ∷ ts) c t h r e = (h.0, h.1, counted-push cs ts c t h.2 r e)
+counted-push [] [] e t h r x = (r, x, tt)
+counted-push [] (u ∷ ts) e t h r x = absurd h
+counted-push (d ∷ es) [] e t h r x = absurd h
+counted-push (d ∷ es) (u ∷ ts) e t h r x = (h.0, h.1, counted-push es ts e t h.2 r x)
 
 length-range : (is : List ℕ) (r : Range) → IsRange (length is) r → length (slice_range is r.from r.to) ≡ r.to - r.from
 length-range is r b = grind (arith, common_steps, b.0, b.1)
@@ -107,13 +97,12 @@ pub row-fit : (c : stored.Measure) (m : Measure) → Row c m → m.fits ≡ true
 unfolding Row
 row-fit c m r = r.1
 
-pub row-fits : (c : stored.Measure) (m : Measure) → Tallied c m → m.fits ≡ true → Row c m
-unfolding Row Tallied
-row-fits c m t f = (t.0, f, (within-low m.height m.each m.packs (sym t.1 ∙ f)).0)
+pub tallied-some : (o : Option stored.Measure) (c : stored.Measure) (m : Measure) → Tallied o m → o ≡ Some c → Row c m × AreExact m
+unfolding Tallied
+tallied-some o c m t e = subst (λ (x : Option stored.Measure). MatchOption x (m.fits ≡ false) (λ d. Row d m × AreExact m)) e t
 
-pub exact-fits : (c : stored.Measure) (m : Measure) → Tallied c m → m.fits ≡ true → AreExact m
-unfolding Tallied AreExact
-exact-fits c m t f =
-    let low = (within-low m.height m.each m.packs (sym t.1 ∙ f)).1 in (omega (arith, low), omega (arith, low))
+pub tallied-none : (o : Option stored.Measure) (m : Measure) → Tallied o m → o ≡ None → m.fits ≡ false
+unfolding Tallied
+tallied-none o m t e = subst (λ (x : Option stored.Measure). MatchOption x (m.fits ≡ false) (λ d. Row d m × AreExact m)) e t
 
 pub ruleset measured = (in-list, in-parts)

@@ -1,8 +1,9 @@
 -- How an arena counts.
-use Rattle.std.specs.Prelude.{◌≡◌, ◌≤◌, min, Bool, true, List, [], ◌∷◌}
+use Rattle.std.specs.Prelude.{◌≡◌, ◌≤◌, min, Bool, true, false, Option, MatchOption, List, [], ◌∷◌}
 use Rattle.cxx_tree.specs.declared.counts.Measure as stored
+use Rattle.cxx_tree.specs.declared.arena.Entry as entry
 use Rattle.cxx_tree.specs.Tree.{Tree}
-use Rattle.cxx_tree.specs.Measure.{Measure, measure, measure_each, part_measure, join_as, within}
+use Rattle.cxx_tree.specs.Measure.{Measure, measure, measure_each, part_measure, join_as}
 use Rattle.cxx_tree.specs.declared.node.Part.{Part}
 use Rattle.cxx_tree.specs.declared.node.Part.TheVariants as part
 use Rattle.cxx_tree.specs.Stored.{Held, tree_at, trees_in}
@@ -20,20 +21,20 @@ Counts c m =
 unfoldable pub Row : stored.Measure → Measure → Type 0
 Row c m = Counts c m × (m.fits ≡ true) × (m.height ≤ 1024)
 
--- the counts of a tree whose children are within the limits
-unfoldable pub Tallied : stored.Measure → Measure → Type 0
-Tallied c m = Counts c m × (m.fits ≡ within m.height m.each m.packs)
-
 -- a work that isn't above the limit
 unfoldable pub AreExact : Measure → Type 0
 AreExact m = (m.each ≤ 1048576) × (m.packs ≤ 1048576)
 
+-- the counts of a tree, or none if it isn't within the limits
+unfoldable pub Tallied : Option stored.Measure → Measure → Type 0
+Tallied o m = MatchOption o (m.fits ≡ false) (λ c. Row c m × AreExact m)
+
 -- the counts of the trees of an arena, each of which is within the limits
-unfoldable pub AreCounted : List stored.Measure → List Tree → Type 0
+unfoldable pub AreCounted : List entry.Entry → List Tree → Type 0
 AreCounted [] [] = Unit {0}
-AreCounted (c ∷ cs) [] = ⊥
+AreCounted (e ∷ es) [] = ⊥
 AreCounted [] (t ∷ ts) = ⊥
-AreCounted (c ∷ cs) (t ∷ ts) = Row c (measure t) × AreExact (measure t) × AreCounted cs ts
+AreCounted (e ∷ es) (t ∷ ts) = Row e.counts (measure t) × AreExact (measure t) × AreCounted es ts
 
 -- a part of a phrase, and those behind it
 unfoldable pub part_and : Held → List Tree → Bool → Part → Measure → Measure

@@ -1,13 +1,18 @@
 -- What an arena keeps of the nodes that it holds.
-use Rattle.std.specs.Prelude.{ℕ, ◌+◌, List, [], ◌∷◌}
+use Rattle.std.specs.Prelude.{ℕ, ◌+◌, List, [], ◌∷◌, map}
 use Rattle.cxx_tree.specs.declared.arena.Arena.TheInside.{Inside}
+use Rattle.cxx_tree.specs.declared.arena.Entry as stored
 use Rattle.cxx_tree.specs.declared.node.Node.{Node}
 use Rattle.cxx_tree.specs.Stored.{Held, Store, IsBelow, forest}
 use Rattle.cxx_tree.specs.Counts.{AreCounted}
 
+-- the nodes that entries hold
+abbrev pub nodes_of : List stored.Entry → List Node
+nodes_of es = map (λ e. e.node) es
+
 abbrev pub store_of : Inside → Store
 store_of a = record {
-  nodes = a.nodes.items;
+  nodes = nodes_of a.entries.items;
   held = record { lists = a.lists.items; parts = a.parts.items; texts = a.texts.items };
 }
 
@@ -20,4 +25,4 @@ abbrev pub IsStore : Store → Type 0
 IsStore s = AreStored s.held 0 s.nodes
 
 abbrev pub IsConsistent : Inside → Type 0
-IsConsistent a = IsStore (store_of a) × AreCounted a.counts.items (forest (store_of a))
+IsConsistent a = IsStore (store_of a) × AreCounted a.entries.items (forest (store_of a))

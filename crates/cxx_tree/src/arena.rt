@@ -9,7 +9,7 @@ ghost use Rattle.cxx_tree.specs.declared.arena.PushError.TheVariants as PushErro
 ghost use Rattle.std.specs.List.{AllByRecursion};
 ghost use Rattle.cxx_tree.specs.Stored.{forest, size, tree_of, tree_at, IsBelow, IsText, IsRange, text_at, list_at, parts_at};
 
-use crate::counts::{Measure, fits};
+use crate::counts::Measure;
 use crate::measuring::of_node;
 use crate::node::{List, Node, Part, Parts, Range, Text};
 use std::alloc::{AllocError, Global};
@@ -36,12 +36,17 @@ impl From<AllocError> for PushError {
     }
 }
 
+// A node, and its counts.
+#[derive(Clone, Copy)]
+pub struct Entry {
+    node: Node,
+    counts: Measure,
+}
+
 /// Nodes, each after its children. Each stands for a tree within the limits.
 #[derive(Drop)]
 pub struct Arena {
-    nodes: Vec<Node>,
-    // The counts of each node.
-    counts: Vec<Measure>,
+    entries: Vec<Entry>,
     lists: Vec<u32>,
     parts: Vec<Part>,
     texts: Vec<u8>,
@@ -67,8 +72,7 @@ impl Arena {
         ensures held { (result.held.lists ≡ []) × (result.held.parts ≡ []) × (result.held.texts ≡ []) }
     {
         Arena {
-            nodes: Vec::new(alloc),
-            counts: Vec::new(alloc),
+            entries: Vec::new(alloc),
             lists: Vec::new(alloc),
             parts: Vec::new(alloc),
             texts: Vec::new(alloc),
@@ -81,8 +85,7 @@ impl Arena {
         ensures size { size self.new ≡ 0 }
         ensures held { (self.new.held.lists ≡ []) × (self.new.held.parts ≡ []) × (self.new.held.texts ≡ []) }
     {
-        self.nodes.clear();
-        self.counts.clear();
+        self.entries.clear();
         self.lists.clear();
         self.parts.clear();
         self.texts.clear();
@@ -92,7 +95,7 @@ impl Arena {
     pub fn len(&self) -> usize
         ensures value { result ≡ size self.now }
     {
-        self.nodes.len()
+        self.entries.len()
     }
 
     /// Returns a node.
@@ -103,7 +106,7 @@ impl Arena {
         ensures below { IsBelow self.now.held i result.now }
         ensures fits { (spec.measure (tree_at (forest self.now) i)).fits ≡ true }
     {
-        &self.nodes[i as usize]
+        &self.entries[i as usize].node
     }
 
     /// Returns the bytes of a text.
@@ -137,12 +140,13 @@ impl Arena {
     }
 
     /// Returns the counts of a node.
+    #[inline(always)]
     pub fn measure(&self, i: u32) -> Measure
         requires within { i < size self.now }
         ensures counts { Row result (spec.measure (tree_at (forest self.now) i)) }
         ensures exact { AreExact (spec.measure (tree_at (forest self.now) i)) }
     {
-        self.counts[i as usize]
+        self.entries[i as usize].counts
     }
 
     /// Returns the number of elements of the first pack in the tree of a node, outside of expansions.
@@ -155,6 +159,7 @@ impl Arena {
     }
 
     /// Appends a node, whose children stand here, and returns its index.
+    #[inline(always)]
     pub fn push(&mut self, node: Node) -> Result<u32, PushError>
         requires below { IsBelow self.old.held (size self.old) node }
         ensures index { IfOk result (λ i. i ≡ size self.old) }
@@ -168,24 +173,15 @@ impl Arena {
         ensures makes { Makes result self.old self.new (tree_of self.old.held (forest self.old) node) }
         ensures err { OnErr result (self.new ≡ self.old) }
     {
-        let measure = of_node(self, node);
-        if !fits(measure) {
-            return Err(PushError::Limit);
-        }
-        let index = self.nodes.len();
+        let counts = match of_node(self, node) {
+            Some(counts) => counts,
+            None => return Err(PushError::Limit),
+        };
+        let index = self.entries.len();
         if index > MAX_INDEX {
             return Err(PushError::Memory);
         }
-        // Memory first, so that nothing fails after the node is pushed.
-        match self.counts.reserve(1) {
-            Ok(()) => {}
-            Err(_) => return Err(PushError::Memory),
-        }
-        match self.nodes.push(node) {
-            Ok(()) => {}
-            Err(_) => return Err(PushError::Memory),
-        }
-        match self.counts.push(measure) {
+        match self.entries.push(Entry { node, counts }) {
             Ok(()) => {}
             Err(_) => return Err(PushError::Memory),
         }

@@ -27,6 +27,7 @@ pub struct Measure {
 }
 
 /// Returns the counts of no tree.
+#[inline(always)]
 pub fn nothing() -> Measure
     ensures counts { Row result spec.nothing }
 {
@@ -39,14 +40,16 @@ pub fn nothing() -> Measure
     }
 }
 
-// A number, or `MOST` if it is greater.
-fn at_most(n: u64) -> u32
+/// Returns a number, or `MOST` if it is greater.
+#[inline(always)]
+pub fn at_most(n: u64) -> u32
     ensures value { result ≡ min 2097152 n }
 {
     if n > MOST as u64 { MOST } else { n as u32 }
 }
 
 /// Returns the counts of two rows of trees, one after the other.
+#[inline(always)]
 pub fn join(a: Measure, b: Measure) -> Measure
     ensures counts { (m n : spec.Measure) → Row a m → Row b n → Row result (spec.join m n) }
 {
@@ -66,44 +69,54 @@ pub fn join(a: Measure, b: Measure) -> Measure
     }
 }
 
-/// Returns the counts of a tree with these children, whose own work is given.
-pub fn around(own: usize, m: Measure) -> Measure
+/// Returns the counts of a tree with these children, whose own work is given, or `None` if it isn't within the limits.
+#[inline(always)]
+pub fn around(own: usize, m: Measure) -> Option<Measure>
     ensures counts { (n : spec.Measure) → Row m n → Tallied result (spec.around own n) }
 {
-    Measure {
-        height: m.height.saturating_add(1),
+    if m.height >= MAX_HEIGHT {
+        return None;
+    }
+    if own > MAX_WORK as usize {
+        return None;
+    }
+    let children = m.each as u64 + m.packs as u64;
+    if children > MAX_WORK as u64 - own as u64 {
+        return None;
+    }
+    Some(Measure {
+        height: m.height + 1,
         elements: m.elements,
-        each: at_most((own as u64).saturating_add(m.each as u64)),
+        each: own as u32 + m.each,
         packs: m.packs,
         params: counted(m.params),
-    }
+    })
 }
 
 // A node that contains template parameters is one more.
+#[inline(always)]
 fn counted(params: u32) -> u32
     ensures value { result ≡ min 2097152 (spec.counted params) }
 {
-    if params == 0 {
-        0
-    } else {
-        at_most(params as u64 + 1)
-    }
+    at_most(params as u64 + (params != 0) as u64)
 }
 
 /// Returns the counts of a template parameter.
-pub fn param() -> Measure
+#[inline(always)]
+pub fn param() -> Option<Measure>
     ensures counts { Tallied result spec.param_measure }
 {
-    Measure {
+    Some(Measure {
         height: 1,
         elements: None,
         each: 1,
         packs: 0,
         params: 1,
-    }
+    })
 }
 
 /// Returns the counts of a pattern that is repeated for each element of its packs.
+#[inline(always)]
 pub fn repeated(m: Measure) -> Measure
     ensures counts { (n : spec.Measure) → Row m n → AreExact n → Row result (spec.repeated n) }
 {
@@ -120,22 +133,20 @@ pub fn repeated(m: Measure) -> Measure
     }
 }
 
-/// Returns the counts of a pack of `n` arguments.
-pub fn packed(n: u32, m: Measure) -> Measure
+/// Returns the counts of a pack of `n` arguments, or `None` if it isn't within the limits.
+#[inline(always)]
+pub fn packed(n: u32, m: Measure) -> Option<Measure>
     ensures counts { (k : spec.Measure) → Row m k → Tallied result (spec.packed n k) }
 {
-    Measure {
-        height: m.height.saturating_add(1),
+    let packs = m.each as u64 + m.packs as u64;
+    if m.height >= MAX_HEIGHT || packs >= MAX_WORK as u64 {
+        return None;
+    }
+    Some(Measure {
+        height: m.height + 1,
         elements: Some(n),
         each: 1,
-        packs: at_most(m.each as u64 + m.packs as u64),
+        packs: packs as u32,
         params: counted(m.params),
-    }
-}
-
-/// Returns whether a tree with these counts, whose children are within the limits, is within them.
-pub fn fits(m: Measure) -> bool
-    ensures value { (n : spec.Measure) → Tallied m n → result ≡ n.fits }
-{
-    m.height <= MAX_HEIGHT && m.each as u64 + m.packs as u64 <= MAX_WORK as u64
+    })
 }

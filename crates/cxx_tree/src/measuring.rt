@@ -8,7 +8,7 @@ ghost use Rattle.cxx_tree.specs.Counts.{Row, Tallied, part_and};
 ghost use Rattle.cxx_tree.specs.Stored.{forest, size, tree_of, plain_tree, declaration_tree, tree_at, option_at, trees_in, parts_in, text_at, IsBelow, IsPlainBelow, IsDeclarationBelow, IsListBelow, IsPartsBelow, IsPartBelow, IsOptionBelow, IsText};
 
 use crate::arena::Arena;
-use crate::counts::{Measure, around, join, nothing, packed, param, repeated};
+use crate::counts::{Measure, around, at_most, join, nothing, packed, param, repeated};
 use crate::kinds::Manner;
 use crate::node::{Declaration, List, Node, Part, Parts, Plain, Text};
 
@@ -27,18 +27,21 @@ fn of_list(arena: &Arena, list: List) -> Measure
     sum
 }
 
-// The counts of no node, or of one.
-fn of_option(arena: &Arena, node: Option<u32>) -> Measure
+// The counts of no node, or of one, and of what stands after it.
+#[inline(always)]
+fn option_and(arena: &Arena, node: Option<u32>, after: Measure) -> Measure
     requires below { IsOptionBelow (size arena.now) node }
-    ensures counts { Row result (spec.measure_each (option_at (forest arena.now) node)) }
+    ensures counts { (m : spec.Measure) → Row after m → Row result
+        (spec.join (spec.measure_each (option_at (forest arena.now) node)) m) }
 {
     match node {
-        None => nothing(),
-        Some(i) => join(arena.measure(i), nothing()),
+        None => after,
+        Some(i) => join(arena.measure(i), after),
     }
 }
 
 // The counts of a tree that is a part of a phrase.
+#[inline(always)]
 fn of_tree(arena: &Arena, manner: Manner, i: u32) -> Measure
     requires below { i < size arena.now }
     ensures counts { Row result (spec.part_measure manner (spec.measure (tree_at (forest arena.now) i))) }
@@ -51,6 +54,7 @@ fn of_tree(arena: &Arena, manner: Manner, i: u32) -> Measure
 }
 
 // The counts of two rows, of which the second comes first if the flag says so.
+#[inline(always)]
 fn join_as(reversed: bool, a: Measure, b: Measure) -> Measure
     ensures counts { (m n : spec.Measure) → Row a m → Row b n → Row result (spec.join_as reversed m n) }
 {
@@ -58,6 +62,7 @@ fn join_as(reversed: bool, a: Measure, b: Measure) -> Measure
 }
 
 // The counts of a part and of those after it.
+#[inline(always)]
 fn with_part(arena: &Arena, reversed: bool, part: Part, rest: Measure) -> Measure
     requires below { IsPartBelow arena.now.held (size arena.now) part }
     ensures counts { (m : spec.Measure) → Row rest m → Row result
@@ -85,7 +90,21 @@ fn of_parts(arena: &Arena, reversed: bool, parts: Parts) -> Measure
     sum
 }
 
+// The counts of what stands before the parts of a phrase, and of these.
+#[inline(always)]
+fn and_parts(arena: &Arena, before: Measure, parts: Parts) -> Measure
+    requires below { IsPartsBelow arena.now.held (size arena.now) parts }
+    ensures counts { (m : spec.Measure) → Row before m → Row result
+        (spec.join m (spec.measure_parts false (parts_in arena.now.held (forest arena.now) parts))) }
+{
+    if parts.range.from == parts.range.to {
+        return before;
+    }
+    join(before, of_parts(arena, false, parts))
+}
+
 // The number of bytes of a text.
+#[inline(always)]
 fn text_len(arena: &Arena, text: Text) -> usize
     requires within { IsText arena.now.held text }
     ensures value { result ≡ length (text_at arena.now.held text) }
@@ -94,8 +113,37 @@ fn text_len(arena: &Arena, text: Text) -> usize
     arena.bytes(text).len()
 }
 
-// The counts of a node whose text has one side.
-fn of_plain(arena: &Arena, plain: Plain) -> Measure
+// The counts of two nodes, one after the other. Each is within the limits, so that no sum of their works is above
+// `MOST`.
+#[tactic(auto, unfolding(crate::specs::Counts::Row, crate::specs::Counts::AreExact))]
+#[inline(always)]
+fn pair(arena: &Arena, i: u32, j: u32) -> Measure
+    requires first { i < size arena.now }
+    requires second { j < size arena.now }
+    ensures counts { Row result (spec.join (spec.measure (tree_at (forest arena.now) i))
+        (spec.measure (tree_at (forest arena.now) j))) }
+{
+    let a = arena.measure(i);
+    let b = arena.measure(j);
+    Measure {
+        height: if a.height > b.height {
+            a.height
+        } else {
+            b.height
+        },
+        elements: match a.elements {
+            Some(n) => Some(n),
+            None => b.elements,
+        },
+        each: a.each + b.each,
+        packs: a.packs + b.packs,
+        params: at_most(a.params as u64 + b.params as u64),
+    }
+}
+
+// The counts of a node whose text has one side, or `None` if it isn't within the limits.
+#[inline(always)]
+fn of_plain(arena: &Arena, plain: Plain) -> Option<Measure>
     requires below { IsPlainBelow arena.now.held (size arena.now) plain }
     ensures counts { Tallied result (spec.measure (plain_tree arena.now.held (forest arena.now) plain)) }
 {
@@ -110,10 +158,10 @@ fn of_plain(arena: &Arena, plain: Plain) -> Measure
             phrase.own,
             of_parts(arena, phrase.is_reversed, parts),
         ),
-        Plain::Scoped(_, scope, name) => around(1, join(arena.measure(scope), arena.measure(name))),
+        Plain::Scoped(_, scope, name) => around(1, pair(arena, scope, name)),
         Plain::WithArgs(name, args) => around(1, join(arena.measure(name), of_list(arena, args))),
         Plain::AbiTag(name, tag) => around(1 + text_len(arena, tag), arena.measure(name)),
-        Plain::InModule(name, owner) => around(1, join(arena.measure(name), arena.measure(owner))),
+        Plain::InModule(name, owner) => around(1, pair(arena, name, owner)),
         Plain::Data(name) => around(1, arena.measure(name)),
         Plain::ObjcProtocol(t, protocol) => around(1 + text_len(arena, protocol), arena.measure(t)),
         Plain::List(items) => around(1, of_list(arena, items)),
@@ -122,20 +170,15 @@ fn of_plain(arena: &Arena, plain: Plain) -> Measure
     }
 }
 
-// The counts of a declaration.
-fn of_declaration(arena: &Arena, declaration: Declaration) -> Measure
+// The counts of a declaration, or `None` if it isn't within the limits.
+#[inline(always)]
+fn of_declaration(arena: &Arena, declaration: Declaration) -> Option<Measure>
     requires below { IsDeclarationBelow arena.now.held (size arena.now) declaration }
     ensures counts { Tallied result (spec.measure (declaration_tree arena.now.held (forest arena.now) declaration)) }
 {
     match declaration {
-        Declaration::TypeParam(constraint, name) => around(
-            1,
-            join(arena.measure(constraint), arena.measure(name)),
-        ),
-        Declaration::NonTypeParam(name, t) => around(
-            1,
-            join(arena.measure(name), arena.measure(t)),
-        ),
+        Declaration::TypeParam(constraint, name) => around(1, pair(arena, constraint, name)),
+        Declaration::NonTypeParam(name, t) => around(1, pair(arena, name, t)),
         Declaration::TemplateParam(name, declarations, rest) => {
             let after = join(of_list(arena, declarations), of_parts(arena, false, rest));
             around(1, join(arena.measure(name), after))
@@ -144,8 +187,9 @@ fn of_declaration(arena: &Arena, declaration: Declaration) -> Measure
     }
 }
 
-/// Returns the counts of a node, whose children stand in the arena.
-pub fn of_node(arena: &Arena, node: Node) -> Measure
+/// Returns the counts of a node, whose children stand in the arena, or `None` if it isn't within the limits.
+#[inline(always)]
+pub fn of_node(arena: &Arena, node: Node) -> Option<Measure>
     requires below { IsBelow arena.now.held (size arena.now) node }
     ensures counts { Tallied result (spec.measure (tree_of arena.now.held (forest arena.now) node)) }
 {
@@ -156,35 +200,29 @@ pub fn of_node(arena: &Arena, node: Node) -> Measure
             1,
             arena.measure(t),
         ),
-        Node::MemberPointer(class, member) => around(
-            1,
-            join(arena.measure(member), arena.measure(class)),
-        ),
+        Node::MemberPointer(class, member) => around(1, pair(arena, member, class)),
         Node::Array(element, dimension) => around(
             1,
             join(arena.measure(element), of_parts(arena, false, dimension)),
         ),
         Node::Function(function) => {
-            let after = join(
-                of_list(arena, function.params),
-                of_parts(arena, false, function.exception),
-            );
+            let params = of_list(arena, function.params);
+            let after = and_parts(arena, params, function.exception);
             around(1, join(arena.measure(function.ret), after))
         }
         Node::Encoding(encoding) => {
-            let after = join(
-                of_list(arena, encoding.params),
-                of_parts(arena, false, encoding.rest),
-            );
+            let params = of_list(arena, encoding.params);
+            let after = and_parts(arena, params, encoding.rest);
             let named = join(arena.measure(encoding.name), after);
-            around(1, join(of_option(arena, encoding.ret), named))
+            around(1, option_and(arena, encoding.ret, named))
         }
         Node::Pack(items) => pack_of(arena, items),
     }
 }
 
-// The counts of a pack.
-fn pack_of(arena: &Arena, items: List) -> Measure
+// The counts of a pack, or `None` if it isn't within the limits.
+#[inline(always)]
+fn pack_of(arena: &Arena, items: List) -> Option<Measure>
     requires below { IsListBelow arena.now.held (size arena.now) items }
     ensures counts { Tallied result (spec.packed (spec.count (trees_in arena.now.held (forest arena.now) items))
         (spec.measure_each (trees_in arena.now.held (forest arena.now) items))) }

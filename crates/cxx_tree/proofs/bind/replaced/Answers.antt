@@ -1,5 +1,4 @@
 use Rattle.std.proofs.Common.{subst}
-use Rattle.std.proofs.Math.ListN.{get_or}
 use Rattle.cxx_tree.specs.Tree.{Tree}
 use Rattle.cxx_tree.specs.Grows.{Makes}
 use Rattle.cxx_tree.proofs.Replaced.{bound-name}

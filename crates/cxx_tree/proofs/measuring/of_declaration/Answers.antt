@@ -9,7 +9,7 @@ pub returns-in-TemplateParam : goal.returns-in-TemplateParam
 unfolding measure declaration_tree
 returns-in-TemplateParam c =
     let after = c.join-after.ensures.counts _ _ c.of_list.ensures.counts c.of_parts.ensures.counts in
-    let all = c.join-in-TemplateParam.ensures.counts _ _ c.measure-in-TemplateParam.ensures.counts after in
+    let all = c.join.ensures.counts _ _ c.measure.ensures.counts after in
     record {
       counts = subst (λ (d : Declaration). Tallied c.around-in-TemplateParam.result (measure (declaration_tree c.args.arena.now.held (forest c.args.arena.now) d))) (sym c.in-TemplateParam.is)
           (c.around-in-TemplateParam.ensures.counts _ all);

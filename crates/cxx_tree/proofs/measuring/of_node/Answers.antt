@@ -8,7 +8,7 @@ use Rattle.cxx_tree.proofs.measuring.of_node.Goals as goal
 pub returns-in-Function : goal.returns-in-Function
 unfolding measure tree_of
 returns-in-Function c =
-    let after = c.join-after.ensures.counts _ _ c.of_list.ensures.counts c.of_parts-in-Function.ensures.counts in
+    let after = c.and_parts-after.ensures.counts _ c.of_list-params.ensures.counts in
     let all = c.join-in-Function.ensures.counts _ _ c.measure-in-Function.ensures.counts after in
     record {
       counts = subst (λ (x : Node). Tallied c.around-in-Function.result (measure (tree_of c.args.arena.now.held (forest c.args.arena.now) x))) (sym c.in-Function.is)
@@ -18,9 +18,9 @@ returns-in-Function c =
 pub returns-in-Encoding : goal.returns-in-Encoding
 unfolding measure tree_of
 returns-in-Encoding c =
-    let after = c.join-after-in-Encoding.ensures.counts _ _ c.of_list-in-Encoding.ensures.counts c.of_parts-in-Encoding.ensures.counts in
+    let after = c.and_parts-after-in-Encoding.ensures.counts _ c.of_list-params-in-Encoding.ensures.counts in
     let named = c.join-named.ensures.counts _ _ c.measure-in-Encoding.ensures.counts after in
-    let all = c.join-in-Encoding.ensures.counts _ _ c.of_option.ensures.counts named in
+    let all = c.option_and.ensures.counts _ named in
     record {
       counts = subst (λ (x : Node). Tallied c.around-in-Encoding.result (measure (tree_of c.args.arena.now.held (forest c.args.arena.now) x))) (sym c.in-Encoding.is)
           (c.around-in-Encoding.ensures.counts _ all);

@@ -18,7 +18,7 @@ invariant_of-self-2 c =
       Begins-same Part h.parts h.parts refl,
       Begins-same ℕ h.texts h.texts refl,
     ) in
-    (grown s g e c.self.invariant.0, subst (AreCounted c.self.inside.counts.items) (sym (grown-forest s g e c.self.invariant.0)) c.self.invariant.1)
+    (grown s g e c.self.invariant.0, subst (AreCounted c.self.inside.entries.items) (sym (grown-forest s g e c.self.invariant.0)) c.self.invariant.1)
 
 pub returns-clause-forest : goal.returns-clause-forest
 returns-clause-forest c =

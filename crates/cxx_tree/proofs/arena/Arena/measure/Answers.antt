@@ -1,5 +1,5 @@
 use Rattle.std.proofs.Common.{◌<◌, sym, subst, length, ap, arith}
-use Rattle.cxx_tree.specs.declared.counts.Measure as stored
+use Rattle.cxx_tree.specs.declared.arena.Entry as entry
 use Rattle.cxx_tree.specs.Measure.{measure}
 use Rattle.cxx_tree.specs.Counts.{Row, AreExact}
 use Rattle.cxx_tree.specs.Stored.{Store, forest, size, tree_at}
@@ -10,20 +10,20 @@ use Rattle.cxx_tree.proofs.arena.Arena.measure.Goals as goal
 
 pub index-requires : goal.index-requires
 index-requires c =
-    let all = counted-length c.self.inside.counts.items (forest (store_of c.self.inside)) c.self.invariant.1 in
-    omega (arith, c.requires.within, ap size c.self.view_is, all, length-forest (store_of c.self.inside), c.self.inside.counts.ok)
+    let all = counted-length c.self.inside.entries.items (forest (store_of c.self.inside)) c.self.invariant.1 in
+    omega (arith, c.requires.within, ap size c.self.view_is, all, length-forest (store_of c.self.inside), c.self.inside.entries.ok)
 
 pub returns-clause-counts : goal.returns-clause-counts
 returns-clause-counts c =
     let s = store_of c.self.inside in
     let small : c.args.i < length (forest s) = omega (arith, c.requires.within, ap size c.self.view_is, length-forest s) in
-    subst (λ (r : Store). Row c.index.result.now (measure (tree_at (forest r) c.args.i))) c.self.view_is
-    (subst (λ (m : stored.Measure). Row m (measure (tree_at (forest s) c.args.i))) (sym c.index.ensures)
-    (counted-at c.self.inside.counts.items (forest s) c.self.invariant.1 c.args.i c.index.result.now small).0)
+    subst (λ (r : Store). Row c.index.result.now.counts (measure (tree_at (forest r) c.args.i))) c.self.view_is
+    (subst (λ (e : entry.Entry). Row e.counts (measure (tree_at (forest s) c.args.i))) (sym c.index.ensures)
+    (counted-at c.self.inside.entries.items (forest s) c.self.invariant.1 c.args.i c.index.result.now small).0)
 
 pub returns-clause-exact : goal.returns-clause-exact
 returns-clause-exact c =
     let s = store_of c.self.inside in
     let small : c.args.i < length (forest s) = omega (arith, c.requires.within, ap size c.self.view_is, length-forest s) in
     subst (λ (r : Store). AreExact (measure (tree_at (forest r) c.args.i))) c.self.view_is
-    (counted-at c.self.inside.counts.items (forest s) c.self.invariant.1 c.args.i c.index.result.now small).1
+    (counted-at c.self.inside.entries.items (forest s) c.self.invariant.1 c.args.i c.index.result.now small).1

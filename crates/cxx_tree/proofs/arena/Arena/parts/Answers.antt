@@ -18,7 +18,7 @@ invariant_of-self-2 c =
       Begins-end Part h.parts c.args.parts.now c.extend_from_slice.new.self.items (c.in_ok-extend_from_slice.ensures {u = tt}).items,
       Begins-same ℕ h.texts h.texts refl,
     ) in
-    (grown s g e c.self.invariant.0, subst (AreCounted c.self.inside.counts.items) (sym (grown-forest s g e c.self.invariant.0)) c.self.invariant.1)
+    (grown s g e c.self.invariant.0, subst (AreCounted c.self.inside.entries.items) (sym (grown-forest s g e c.self.invariant.0)) c.self.invariant.1)
 
 pub returns-clause-forest : goal.returns-clause-forest
 returns-clause-forest c =
