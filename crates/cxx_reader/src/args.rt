@@ -20,6 +20,7 @@ use cxx_tree::{List, Node, Plain};
 
 /// Reads `<template-arg>* E`, after a letter.
 #[cycle(reader)]
+#[inline(always)]
 pub fn read_args(reader: &mut Reader, depth: usize) -> Result<List, Stop>
     ensures reads { GivesList result reader.new (spec.parse_args (spec.parse_arg depth) (state reader.old)) }
     ensures keeps { OnOk result (Keeps reader.old reader.new) }

@@ -171,6 +171,7 @@ fn read_unqualified(reader: &mut Reader, depth: usize) -> Result<Named, Stop>
 
 /// Reads `<nested-name> ::= N [<CV-qualifiers>] [<ref-qualifier>] <component>+ E`.
 #[cycle(reader)]
+#[inline(always)]
 fn read_nested_name(reader: &mut Reader, depth: usize) -> Result<Named, Stop>
     ensures reads { GivesNamed result reader.new (spec.parse_nested (spec.parse_arg depth) (spec.parse_name depth)
         (state reader.old)) }
@@ -279,6 +280,7 @@ fn read_after(reader: &mut Reader, depth: usize, scope: Named) -> Result<Named, 
 
 // Reads what follows a component: other components, up to the `E`.
 #[cycle(reader)]
+#[inline(always)]
 fn read_components(reader: &mut Reader, depth: usize, name: Named) -> Result<Named, Stop>
     requires named { IsNamed reader.old.tables name }
     ensures reads { GivesNamed result reader.new (spec.parse_rest (spec.parse_arg depth) (spec.parse_name depth)

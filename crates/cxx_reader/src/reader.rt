@@ -189,6 +189,7 @@ impl<'a> Reader<'a> {
     }
 
     /// Reads a name without a scope.
+    #[inline(always)]
     pub fn read_base(&mut self) -> Result<u32, Stop>
         ensures reads { Gives result self.new (leaves.parse_base (state self.old)) }
         ensures keeps { OnOk result (Keeps self.old self.new) }
