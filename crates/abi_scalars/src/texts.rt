@@ -63,6 +63,7 @@ pub fn begins_source(bytes: &[u8]) -> bool
 /// one byte at least, and the bytes after it. Returns `None` if no length is next, if it begins with `0` or is past
 /// 2^64 - 1, or if fewer bytes follow it. (Itanium C++ ABI 5.1.2, "General Structure")
 #[tactic(auto, unfolding(crate::specs::Texts::identifier))]
+#[inline(always)]
 pub fn identifier(bytes: &[u8]) -> Option<(&[u8], &[u8])>
     ensures value { option_map (λ found. (found.0.now, found.1.now)) result ≡ spec.identifier bytes.now }
     ensures some { IfSome result (λ found. 0 < length found.0.now) }

@@ -144,6 +144,7 @@ impl<'a> Reader<'a> {
     }
 
     /// Reads `<source-name> ::= <positive length number> <identifier>`.
+    #[inline(always)]
     pub fn read_source_name(&mut self) -> Result<u32, Stop>
         ensures reads { Gives result self.new (leaves.parse_source (state self.old)) }
         ensures keeps { OnOk result (Keeps self.old self.new) }

@@ -13,5 +13,5 @@ returns-in_ok-prepare_signature-in-Signatures-clause-printed c =
 
 pub returns-in_ok-prepare-in-Declarations-clause-printed : goal.returns-in_ok-prepare-in-Declarations-clause-printed
 returns-in_ok-prepare-in-Declarations-clause-printed c =
-    subst (λ p. IsPrintedAs p c.args.symbol.now c.prepare-in-Declarations.new.self) (sym c.in-Declarations.is)
+    subst (λ p. IsPrintedAs p c.args.symbol.now c.prepare-in-Declarations.new.self.text) (sym c.in-Declarations.is)
     (declaration_printed c.in_ok-prepare-in-Declarations.ensures.answer)
