@@ -130,8 +130,7 @@ impl Demangler {
     /// counted productions nest, no tree is higher than 1,024, none has a work above 1,048,576, and at most 65,536
     /// nodes are replaced. Or what is printed has more than `MAX_TEXT` bytes, or it isn't UTF-8.
     ///
-    /// A symbol of n bytes makes at most 4 · n + 131,072 nodes, and saves at most 2 · n of them, whether it has an answer
-    /// or not.
+    /// A symbol of n bytes leaves at most 4 · n + 131,072 nodes and 2 · n saved ones, whether it has an answer or not.
     ///
     /// Returns an error if an allocation fails. Then the value has no answer, and it can be used again.
     pub fn prepare(
@@ -182,6 +181,7 @@ impl Demangler {
         printing: Printing,
     ) -> Result<Option<&'a str>, AllocError>
         ensures answer { IfOk result (λ found. IsAnswer printing symbol.now (option_map (λ text. text.now) found)) }
+        ensures one { HasAtMostOneReading symbol.now }
         ensures no_prefix { symbols.after_prefix symbol.now ≡ None → result ≡ Ok None }
         // `last` is the value after the borrow. It keeps the text that was returned, and none after an error.
         ensures* kept { sem 𝓛 (follows_so the_row the_row self.entry.ghost_name none (λ _ _. ⊤)
