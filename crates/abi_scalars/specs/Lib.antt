@@ -3,3 +3,4 @@ pub mod Symbol
 pub mod Scalars
 pub mod Indices
 pub mod Texts
+pub mod Ascii

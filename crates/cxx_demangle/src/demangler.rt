@@ -11,6 +11,7 @@ ghost use Rattle.cxx_demangle.specs.Answer.{IsAnswer, HasAtMostOneReading, HasBo
 ghost use Rattle.cxx_demangle.specs.Demangler.{GivesWhole};
 
 use abi_scalars::symbol::after_prefix;
+use abi_scalars::utf8::is_utf8;
 use cxx_printer::{Mode, Style, Symbol, print_symbol};
 use cxx_reader::{Reader, Stop, Tables, read_encoding};
 use growing_text::Text;
@@ -18,7 +19,7 @@ use std::alloc::{AllocError, Global};
 use std::fmt::{self, Debug, Formatter, Write};
 use std::marker::Model;
 use std::mem::replace;
-use std::str::{from_utf8, from_utf8_unchecked};
+use std::str::from_utf8_unchecked;
 
 /// The most counted productions that may nest in a symbol. The counted productions are encodings, names, types,
 /// qualified types and template arguments.
@@ -101,7 +102,7 @@ fn is_answer(text: &[u8]) -> bool
     ensures yes { result ≡ true → IsText text.now }
     ensures no { result ≡ false → ¬ (IsText text.now) }
 {
-    text.len() <= MAX_TEXT && from_utf8(text).is_ok()
+    text.len() <= MAX_TEXT && is_utf8(text)
 }
 
 impl Demangler {

@@ -1,4 +1,3 @@
-pub mod Ascii
 pub mod Shapes
 pub mod Waiting
 pub mod Fitting

@@ -1,4 +1,3 @@
-pub mod Ascii
 pub mod Meaning
 pub mod Readers
 pub mod Demangler

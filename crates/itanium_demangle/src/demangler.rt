@@ -14,7 +14,7 @@ ghost use Rattle.itanium_demangle.specs.Demangler.{IsPrinted, IsPrepared, IsPrep
 ghost use Rattle.itanium_demangle.specs.LastResult.{no_result};
 
 use crate::mangled_name::read_mangled_name;
-use crate::utf8::is_utf8;
+use abi_scalars::utf8::is_utf8;
 use demangle_text::{Buffer, Mark};
 use itanium_reader::{Reader, Stop};
 use itanium_syntax::symbol::{after_prefix, suffix};

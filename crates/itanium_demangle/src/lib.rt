@@ -39,9 +39,8 @@
 mod demangler;
 pub mod laws;
 mod mangled_name;
-mod utf8;
 
 pub use crate::demangler::{Demangler, MAX_DEPTH, demangle_owned};
-pub use crate::utf8::is_utf8;
+pub use abi_scalars::utf8::is_utf8;
 pub use itanium_reader::MAX_TEXT;
 pub use itanium_syntax::scalar;

@@ -1,6 +1,6 @@
 use Rattle.std.proofs.Common.{◌-◌, ◌≤◌, length}
-use Rattle.itanium_demangle.specs.Ascii.{AreAscii}
-use Rattle.itanium_demangle.proofs.utf8.is_long_ascii.Given as goal
+use Rattle.abi_scalars.specs.Ascii.{AreAscii}
+use Rattle.abi_scalars.proofs.utf8.is_long_ascii.Given as goal
 
 abbrev pub invariant-loop-at : goal.invariant-loop-at
 invariant-loop-at l =

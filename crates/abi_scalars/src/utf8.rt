@@ -1,7 +1,7 @@
 //! Tests whether bytes are UTF-8. Most symbols and results are ASCII, so ASCII is tested first, several bytes at once.
 ghost use Rattle.std.specs.Prelude.{◌≡◌, ◌<◌, ◌+◌, ◌≤◌, length, true, false};
 ghost use Rattle.std.specs.Str.{IsUtf8};
-ghost use Rattle.itanium_demangle.specs.Ascii.{AreAscii};
+ghost use Rattle.abi_scalars.specs.Ascii.{AreAscii};
 
 use std::simd::prelude::*;
 use std::str::from_utf8;

@@ -8,7 +8,7 @@ use Rattle.std.proofs.lemmas.Bool.{cases_lt, ltb-false}
 use Rattle.std.proofs.lemmas.List.{get_or_past, length-map}
 use Rattle.std.proofs.lemmas.Str.{IsUtf8-from_ascii}
 use Rattle.std.specs.Str.{IsUtf8}
-use Rattle.itanium_demangle.specs.Ascii.{AreAscii}
+use Rattle.abi_scalars.specs.Ascii.{AreAscii}
 
 -- which lanes are greater than the last one
 pub mask_of : (n : ℕ) (lanes : List ℕ) → length lanes ≡ n → n ≤ 64

@@ -2,8 +2,8 @@ use Rattle.std.proofs.Common.{◌+◌, ◌∙◌, sym, ltb}
 use Rattle.std.specs.Simd.Lanes.{chunk}
 use Rattle.std.proofs.lemmas.Bool.{eqb-true, not-false}
 use Rattle.std.proofs.lemmas.Simd.{length-chunk, none_from_empty_mask}
-use Rattle.itanium_demangle.proofs.Ascii.{low_from, mask_of}
-use Rattle.itanium_demangle.proofs.utf8.has_non_ascii.Goals as goal
+use Rattle.abi_scalars.proofs.Ascii.{low_from, mask_of}
+use Rattle.abi_scalars.proofs.utf8.has_non_ascii.Goals as goal
 
 pub returns : goal.returns
 returns g c =
