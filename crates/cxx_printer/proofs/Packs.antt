@@ -213,7 +213,7 @@ in_parts h n (p ∷ ps) zero d b l = b.0
 in_parts h n (p ∷ ps) (suc k) d b l = in_parts h n ps k d b.1 (omega arith)
 
 -- trees with one side
-behind-left : (t : Text) → IsLeft t → closed t.form ++ right_behind false t ≡ []
+pub behind-left : (t : Text) → IsLeft t → closed t.form ++ right_behind false t ≡ []
 unfolding closed
 behind-left t e =
     ap (λ (f : Form). closed f ++ right_behind false t) e.2

@@ -12,7 +12,7 @@ ghost use Rattle.cxx_tree.specs.declared.kinds.Listing.TheVariants as listing;
 ghost use Rattle.cxx_tree.specs.declared.kinds.Manner.TheVariants as manner;
 ghost use Rattle.cxx_tree.specs.declared.kinds.Prec.TheVariants as prec;
 ghost use Rattle.cxx_tree.specs.declared.node.Node.TheVariants as node;
-ghost use Rattle.cxx_tree.specs.Tree.{Tree, pack, reference};
+ghost use Rattle.cxx_tree.specs.Tree.{Tree, pack, pointer, qualified, reference, scoped, with_args};
 ghost use Rattle.cxx_tree.specs.Measure.{measure};
 ghost use Rattle.cxx_tree.specs.Stored.{forest, size, tree_of, IsBelow, tree_at, trees_at, trees_in, option_at, plain_tree, declaration_tree, parts_in, text_at, IsText, IsListBelow, IsOptionBelow, IsPlainBelow, IsDeclarationBelow, IsPartsBelow, IsPartBelow};
 ghost use Rattle.cxx_printer.specs.declared.shapes.Ending.TheVariants as ending;
@@ -20,7 +20,7 @@ ghost use Rattle.cxx_printer.specs.Heads as heads;
 ghost use Rattle.cxx_printer.specs.Printing as spec;
 ghost use Rattle.cxx_printer.specs.Words as words;
 ghost use Rattle.cxx_printer.specs.Prints.{Prints};
-ghost use Rattle.cxx_printer.specs.Asked.{PrintsItem, item, text_of_part};
+ghost use Rattle.cxx_printer.specs.Asked.{item, text_of_part};
 
 use crate::env::Env;
 use crate::operands::{
@@ -28,13 +28,14 @@ use crate::operands::{
 };
 use crate::shapes::{
     Ending, element, ending_of, ending_of_list, form_of, has_right, is_closed, is_one_sided,
-    is_starred, referent_of,
+    is_plain, is_starred, referent_of, two_names,
 };
 use crate::words::member_opened;
 use crate::writing::{
-    write, write_blank_unless, write_closed, write_cv, write_equals, write_id, write_mark,
-    write_number, write_opened, write_ref, write_separator, write_sizeof, write_std, write_styled,
-    write_text,
+    styled_bytes, try_separator, write, write_behind, write_blank_unless, write_byte, write_closed,
+    write_cv, write_cv_mark, write_equals, write_id, write_item, write_joined, write_mark,
+    write_number, write_opened, write_ref, write_separator, write_sizeof, write_star, write_std,
+    write_styled, write_text,
 };
 use cxx_tree::{
     Arena, Cv, Declaration, Encoding, Function, List, Listing, Manner, Node, Part, Parts, Phrase,
@@ -43,7 +44,7 @@ use cxx_tree::{
 use growing_text::Text;
 use std::alloc::AllocError;
 
-/// Appends what a tree prints. That of a name is copied here, without a call.
+/// Appends what a tree prints. A name in a scope is printed by one call.
 #[inline(always)]
 #[cycle(printer)]
 pub fn print(arena: &Arena, env: Env, i: u32, out: &mut Text) -> Result<(), AllocError>
@@ -51,23 +52,202 @@ pub fn print(arena: &Arena, env: Env, i: u32, out: &mut Text) -> Result<(), Allo
     ensures prints { Prints result out.old out.new (spec.whole (spec.print (tree_at (forest arena.now) i) env)) }
 {
     match *arena.node(i) {
-        Node::Plain(Plain::Name(text)) => write(out, arena.bytes(text)),
+        Node::Plain(Plain::Scoped(false, scope, name)) => print_scoped(
+            arena, env, scope, name, out,
+        ),
         _ => print_node(arena, env, i, out),
+    }
+}
+
+/// Appends what a tree prints. The frequent nodes come first.
+#[inline(never)]
+#[cycle(printer)]
+pub fn print_node(arena: &Arena, env: Env, i: u32, out: &mut Text) -> Result<(), AllocError>
+    requires within { i < size arena.now }
+    ensures prints { Prints result out.old out.new (spec.whole (spec.print (tree_at (forest arena.now) i) env)) }
+{
+    match *arena.node(i) {
+        Node::Plain(Plain::Scoped(false, scope, name)) => print_scoped(
+            arena, env, scope, name, out,
+        ),
+        Node::Plain(Plain::WithArgs(name, args)) => print_with_args(arena, env, i, name, args, out),
+        Node::Plain(Plain::Phrase(phrase, parts)) => print_phrase(
+            arena, env, i, phrase, parts, out,
+        ),
+        Node::Plain(Plain::Name(ref text)) => write_text(arena, text, out),
+        _ => print_type(arena, env, i, out),
+    }
+}
+
+// Appends what a tree prints. The frequent types come first.
+#[inline(always)]
+#[cycle(printer)]
+fn print_type(arena: &Arena, env: Env, i: u32, out: &mut Text) -> Result<(), AllocError>
+    requires within { i < size arena.now }
+    ensures prints { Prints result out.old out.new (spec.whole (spec.print (tree_at (forest arena.now) i) env)) }
+{
+    match *arena.node(i) {
+        Node::Encoding(ref encoding) => print_encoding(arena, env, i, encoding, out),
+        Node::Qualified(t, cv) => print_qualified(arena, env, i, t, cv, out),
+        Node::Pointer(t) => print_pointer(arena, env, i, t, out),
+        Node::Reference(t, is_lvalue) => print_reference(arena, env, i, is_lvalue, t, out),
+        _ => print_other(arena, env, i, out),
     }
 }
 
 // Appends what a tree prints.
 #[inline(never)]
 #[cycle(printer)]
-fn print_node(arena: &Arena, env: Env, i: u32, out: &mut Text) -> Result<(), AllocError>
+fn print_other(arena: &Arena, env: Env, i: u32, out: &mut Text) -> Result<(), AllocError>
     requires within { i < size arena.now }
     ensures prints { Prints result out.old out.new (spec.whole (spec.print (tree_at (forest arena.now) i) env)) }
 {
     match *arena.node(i) {
         Node::Plain(ref plain) => print_plain(arena, env, i, plain, out),
-        Node::Encoding(ref encoding) => print_encoding(arena, env, i, encoding, out),
         _ => print_sides(arena, env, i, out),
     }
+}
+
+// Appends what a node prints that qualifies another one.
+#[inline(never)]
+#[cycle(printer)]
+fn print_qualified(
+    arena: &Arena,
+    env: Env,
+    i: u32,
+    t: u32,
+    cv: Cv,
+    out: &mut Text,
+) -> Result<(), AllocError>
+    requires within { i < size arena.now }
+    requires below { t < i }
+    requires tree { tree_at (forest arena.now) i ≡ qualified (tree_at (forest arena.now) t) cv }
+    ensures prints { Prints result out.old out.new (spec.whole (spec.print (tree_at (forest arena.now) i) env)) }
+{
+    if !is_plain(arena, t) {
+        return print_sides(arena, env, i, out);
+    }
+    tri!(print(arena, env, t, out));
+    write_cv(cv, out)
+}
+
+// Appends what a pointer prints.
+#[inline(never)]
+#[cycle(printer)]
+fn print_pointer(arena: &Arena, env: Env, i: u32, t: u32, out: &mut Text) -> Result<(), AllocError>
+    requires within { i < size arena.now }
+    requires below { t < i }
+    requires tree { tree_at (forest arena.now) i ≡ pointer (tree_at (forest arena.now) t) }
+    ensures prints { Prints result out.old out.new (spec.whole (spec.print (tree_at (forest arena.now) i) env)) }
+{
+    match *arena.node(t) {
+        Node::Plain(ref plain) => match *plain {
+            Plain::ObjcProtocol(_, _) => print_sides(arena, env, i, out),
+            _ => print_plain_pointer(arena, env, t, out),
+        },
+        Node::Qualified(u, cv) => {
+            if !is_plain(arena, u) {
+                return print_sides(arena, env, i, out);
+            }
+            print_cv_pointer(arena, env, u, cv, out)
+        }
+        _ => print_sides(arena, env, i, out),
+    }
+}
+
+// Appends what a pointer to a node with one side prints.
+#[inline(always)]
+#[cycle(printer)]
+fn print_plain_pointer(arena: &Arena, env: Env, t: u32, out: &mut Text) -> Result<(), AllocError>
+    requires within { t < size arena.now }
+    ensures prints { Prints result out.old out.new
+        (spec.whole (spec.print (tree_at (forest arena.now) t) env) ++ codes "*") }
+{
+    tri!(print(arena, env, t, out));
+    write_byte(out, b'*')
+}
+
+// Appends what a pointer to a qualified node prints.
+#[inline(always)]
+#[cycle(printer)]
+fn print_cv_pointer(
+    arena: &Arena,
+    env: Env,
+    t: u32,
+    cv: Cv,
+    out: &mut Text,
+) -> Result<(), AllocError>
+    requires within { t < size arena.now }
+    ensures prints { Prints result out.old out.new
+        (spec.whole (spec.print (tree_at (forest arena.now) t) env) ++ (words.cv_text cv ++ codes "*")) }
+{
+    tri!(print(arena, env, t, out));
+    write_star(cv, out)
+}
+
+// Appends what a reference prints.
+#[inline(never)]
+#[cycle(printer)]
+fn print_reference(
+    arena: &Arena,
+    env: Env,
+    i: u32,
+    is_lvalue: bool,
+    t: u32,
+    out: &mut Text,
+) -> Result<(), AllocError>
+    requires within { i < size arena.now }
+    requires below { t < i }
+    requires tree { tree_at (forest arena.now) i ≡ reference (tree_at (forest arena.now) t) is_lvalue }
+    ensures prints { Prints result out.old out.new (spec.whole (spec.print (tree_at (forest arena.now) i) env)) }
+{
+    match *arena.node(t) {
+        Node::Plain(_) => print_plain_reference(arena, env, is_lvalue, t, out),
+        Node::Qualified(u, cv) => {
+            if !is_plain(arena, u) {
+                return print_sides(arena, env, i, out);
+            }
+            print_cv_reference(arena, env, is_lvalue, u, cv, out)
+        }
+        _ => print_sides(arena, env, i, out),
+    }
+}
+
+// Appends what a reference to a node with one side prints.
+#[inline(always)]
+#[cycle(printer)]
+fn print_plain_reference(
+    arena: &Arena,
+    env: Env,
+    is_lvalue: bool,
+    t: u32,
+    out: &mut Text,
+) -> Result<(), AllocError>
+    requires within { t < size arena.now }
+    ensures prints { Prints result out.old out.new
+        (spec.whole (spec.print (tree_at (forest arena.now) t) env) ++ words.mark is_lvalue) }
+{
+    tri!(print(arena, env, t, out));
+    write_mark(is_lvalue, out)
+}
+
+// Appends what a reference to a qualified node prints.
+#[inline(always)]
+#[cycle(printer)]
+fn print_cv_reference(
+    arena: &Arena,
+    env: Env,
+    is_lvalue: bool,
+    t: u32,
+    cv: Cv,
+    out: &mut Text,
+) -> Result<(), AllocError>
+    requires within { t < size arena.now }
+    ensures prints { Prints result out.old out.new
+        (spec.whole (spec.print (tree_at (forest arena.now) t) env) ++ (words.cv_text cv ++ words.mark is_lvalue)) }
+{
+    tri!(print(arena, env, t, out));
+    write_cv_mark(cv, is_lvalue, out)
 }
 
 // Appends what a tree prints on both sides.
@@ -87,7 +267,7 @@ fn print_sides(arena: &Arena, env: Env, i: u32, out: &mut Text) -> Result<(), Al
 // Appends what a function prints.
 #[inline(never)]
 #[cycle(printer)]
-fn print_encoding(
+pub fn print_encoding(
     arena: &Arena,
     env: Env,
     bound: u32,
@@ -217,7 +397,7 @@ fn print_plain(
         Plain::Leaf(_, ref llvm, ref gnu) => write_styled(arena, env, llvm, gnu, out),
         Plain::StdName(std, is_expanded) => write_std(env, std, is_expanded, out),
         Plain::Phrase(phrase, parts) => print_phrase(arena, env, bound, phrase, parts, out),
-        Plain::Scoped(is_friend, scope, name) => print_scoped(
+        Plain::Scoped(is_friend, scope, name) => print_in_scope(
             arena, env, is_friend, scope, name, out,
         ),
         Plain::WithArgs(name, args) => print_with_args(arena, env, bound, name, args, out),
@@ -231,9 +411,9 @@ fn print_plain(
     }
 }
 
-#[inline(never)]
+#[inline(always)]
 #[cycle(printer)]
-fn print_scoped(
+fn print_in_scope(
     arena: &Arena,
     env: Env,
     is_friend: bool,
@@ -249,9 +429,116 @@ fn print_scoped(
     if is_friend {
         return print_friend(arena, env, scope, name, out);
     }
+    print_scoped(arena, env, scope, name, out)
+}
+
+// Appends what a name in a scope prints. Names are copied here, without a call.
+#[inline(never)]
+#[cycle(printer)]
+fn print_scoped(
+    arena: &Arena,
+    env: Env,
+    scope: u32,
+    name: u32,
+    out: &mut Text,
+) -> Result<(), AllocError>
+    requires scope { scope < size arena.now }
+    requires name { name < size arena.now }
+    ensures prints { Prints result out.old out.new (spec.scope_text env (spec.print (tree_at (forest arena.now) scope)
+        env) ++ (codes "::" ++ spec.whole (spec.print (tree_at (forest arena.now) name) env))) }
+{
+    match *arena.node(name) {
+        Node::Plain(Plain::Name(text)) => print_scoped_text(
+            arena,
+            env,
+            scope,
+            arena.bytes(text),
+            out,
+        ),
+        _ => print_scoped_tree(arena, env, scope, name, out),
+    }
+}
+
+#[inline(never)]
+#[cycle(printer)]
+fn print_scoped_tree(
+    arena: &Arena,
+    env: Env,
+    scope: u32,
+    name: u32,
+    out: &mut Text,
+) -> Result<(), AllocError>
+    requires scope { scope < size arena.now }
+    requires name { name < size arena.now }
+    ensures prints { Prints result out.old out.new (spec.scope_text env (spec.print (tree_at (forest arena.now) scope)
+        env) ++ (codes "::" ++ spec.whole (spec.print (tree_at (forest arena.now) name) env))) }
+{
     tri!(print_scope(arena, env, scope, out));
     tri!(write(out, b"::"));
     print(arena, env, name, out)
+}
+
+// Appends a scope, and a text after it.
+#[inline(always)]
+#[cycle(printer)]
+fn print_scoped_text(
+    arena: &Arena,
+    env: Env,
+    scope: u32,
+    name: &[u8],
+    out: &mut Text,
+) -> Result<(), AllocError>
+    requires scope { scope < size arena.now }
+    ensures prints { Prints result out.old out.new (spec.scope_text env (spec.print (tree_at (forest arena.now) scope)
+        env) ++ (codes "::" ++ name.now)) }
+{
+    match *arena.node(scope) {
+        Node::Plain(Plain::Name(text)) => write_joined(arena.bytes(text), name, out),
+        _ => print_path(arena, env, scope, name, out),
+    }
+}
+
+// Appends a scope, and a text after it. A scope that is a name in another one is copied here, without a call.
+#[inline(never)]
+#[cycle(printer)]
+fn print_path(
+    arena: &Arena,
+    env: Env,
+    scope: u32,
+    name: &[u8],
+    out: &mut Text,
+) -> Result<(), AllocError>
+    requires scope { scope < size arena.now }
+    ensures prints { Prints result out.old out.new (spec.scope_text env (spec.print (tree_at (forest arena.now) scope)
+        env) ++ (codes "::" ++ name.now)) }
+{
+    match two_names(arena, scope) {
+        Some((first, second)) => {
+            if !out.try_joined(first, b"::", second) {
+                return print_behind_scope(arena, env, scope, name, out);
+            }
+            write_behind(out, b"::", name)
+        }
+        None => print_behind_scope(arena, env, scope, name, out),
+    }
+}
+
+// Appends a scope, and a text after it.
+#[inline(never)]
+#[cycle(printer)]
+fn print_behind_scope(
+    arena: &Arena,
+    env: Env,
+    scope: u32,
+    name: &[u8],
+    out: &mut Text,
+) -> Result<(), AllocError>
+    requires scope { scope < size arena.now }
+    ensures prints { Prints result out.old out.new (spec.scope_text env (spec.print (tree_at (forest arena.now) scope)
+        env) ++ (codes "::" ++ name.now)) }
+{
+    tri!(print_scope(arena, env, scope, out));
+    write_behind(out, b"::", name)
 }
 
 #[inline(never)]
@@ -284,6 +571,16 @@ pub fn print_scope(arena: &Arena, env: Env, i: u32, out: &mut Text) -> Result<()
     if env.is_llvm() {
         return print(arena, env, i, out);
     }
+    print_gnu_scope(arena, env, i, out)
+}
+
+#[inline(never)]
+#[cycle(printer)]
+fn print_gnu_scope(arena: &Arena, env: Env, i: u32, out: &mut Text) -> Result<(), AllocError>
+    requires within { i < size arena.now }
+    ensures prints { Prints result out.old out.new (spec.without_return (spec.print (tree_at (forest arena.now) i)
+        env)) }
+{
     match *arena.node(i) {
         Node::Encoding(ref encoding) => print_signature(arena, env, i, encoding, out),
         Node::Plain(ref plain) => scope_plain(arena, env, i, plain, out),
@@ -349,7 +646,7 @@ fn print_with_args(
 {
     tri!(print(arena, env, name, out));
     tri!(blank_behind_less(arena, env, name, out));
-    print_angles(arena, env, bound, args, out)
+    print_args(arena, env, bound, args, out)
 }
 
 // Appends a blank after a name that ends with a `<`, in GNU's style.
@@ -489,36 +786,233 @@ fn print_list(
     ensures prints { Prints result out.old out.new (spec.list_from true env (spec.items_of (trees_at (forest arena.now)
         items.now))) }
 {
-    let mut is_first = true;
+    print_items(arena, env, bound, items, out)
+}
+
+#[inline(always)]
+#[cycle(printer)]
+fn print_items(
+    arena: &Arena,
+    env: Env,
+    bound: u32,
+    items: &[u32],
+    out: &mut Text,
+) -> Result<(), AllocError>
+    requires bound { bound ≤ size arena.now }
+    requires below { AllByRecursion (λ t. t < bound) items.now }
+    ensures prints { Prints result out.old out.new (spec.list_from true env (spec.items_of (trees_at (forest arena.now)
+        items.now))) }
+{
+    let start = out.len();
     for t in items {
-        is_first = tri!(print_item(arena, env, is_first, *t, out));
+        tri!(print_item(arena, env, start, *t, out));
     }
     Ok(())
 }
 
-/// Appends an item of a list, with a comma before it if it isn't the first. Returns whether the next one is the first.
-#[inline(always)]
+/// Appends an item of a list that begins at a place, with a comma before it if something of the list stands there.
+#[inline(never)]
 #[cycle(printer)]
 fn print_item(
+    arena: &Arena,
+    env: Env,
+    start: usize,
+    t: u32,
+    out: &mut Text,
+) -> Result<(), AllocError>
+    requires within { t < size arena.now }
+    ensures prints { Prints result out.old out.new (spec.item_behind (nat_eq (length out.old) start) (spec.item_text env
+        (item (tree_at (forest arena.now) t)))) }
+{
+    let is_first = out.len() == start;
+    match *arena.node(t) {
+        Node::Plain(Plain::Scoped(false, scope, name)) => print_scoped_item(
+            arena, env, is_first, t, scope, name, out,
+        ),
+        Node::Plain(Plain::WithArgs(name, args)) => print_args_item(
+            arena, env, is_first, t, name, args, out,
+        ),
+        Node::Plain(ref plain) => print_plain_item(arena, env, is_first, t, plain, out),
+        _ => print_type_item(arena, env, is_first, t, out),
+    }
+}
+
+#[inline(always)]
+#[cycle(printer)]
+fn print_plain_item(
+    arena: &Arena,
+    env: Env,
+    is_first: bool,
+    t: u32,
+    plain: &Plain,
+    out: &mut Text,
+) -> Result<(), AllocError>
+    requires within { t < size arena.now }
+    requires below { IsPlainBelow arena.now.held t plain.now }
+    requires tree { tree_at (forest arena.now) t ≡ plain_tree arena.now.held (forest arena.now) plain.now }
+    ensures prints { Prints result out.old out.new (spec.item_behind is_first (spec.item_text env (item (tree_at
+        (forest arena.now) t)))) }
+{
+    match *plain {
+        Plain::Name(text) => write_item(is_first, arena.bytes(text), out),
+        Plain::Leaf(_, ref llvm, ref gnu) => write_leaf_item(
+            is_first,
+            styled_bytes(arena, env, llvm, gnu),
+            out,
+        ),
+        _ => print_any_item(arena, env, is_first, t, out),
+    }
+}
+
+#[inline(never)]
+fn write_leaf_item(is_first: bool, text: &[u8], out: &mut Text) -> Result<(), AllocError>
+    ensures prints { Prints result out.old out.new (spec.item_behind is_first text.now) }
+{
+    write_item(is_first, text, out)
+}
+
+#[inline(always)]
+#[cycle(printer)]
+fn print_type_item(
     arena: &Arena,
     env: Env,
     is_first: bool,
     t: u32,
     out: &mut Text,
-) -> Result<bool, AllocError>
+) -> Result<(), AllocError>
     requires within { t < size arena.now }
-    ensures prints { PrintsItem result out.old out.new is_first (spec.item_text env (item (tree_at (forest
-        arena.now) t))) }
+    ensures prints { Prints result out.old out.new (spec.item_behind is_first (spec.item_text env (item (tree_at
+        (forest arena.now) t)))) }
 {
+    match *arena.node(t) {
+        Node::Pointer(u) => print_pointer_item(arena, env, is_first, t, u, out),
+        Node::Reference(u, is_lvalue) => print_reference_item(
+            arena, env, is_first, t, is_lvalue, u, out,
+        ),
+        _ => print_any_item(arena, env, is_first, t, out),
+    }
+}
+
+#[inline(always)]
+#[cycle(printer)]
+fn print_scoped_item(
+    arena: &Arena,
+    env: Env,
+    is_first: bool,
+    t: u32,
+    scope: u32,
+    name: u32,
+    out: &mut Text,
+) -> Result<(), AllocError>
+    requires within { t < size arena.now }
+    requires scope { scope < t }
+    requires name { name < t }
+    requires tree { tree_at (forest arena.now) t ≡ scoped false (tree_at (forest arena.now) scope) (tree_at (forest
+        arena.now) name) }
+    ensures prints { Prints result out.old out.new (spec.item_behind is_first (spec.item_text env (item (tree_at
+        (forest arena.now) t)))) }
+{
+    if !try_separator(is_first, out) {
+        return print_any_item(arena, env, is_first, t, out);
+    }
+    print_scoped(arena, env, scope, name, out)
+}
+
+#[inline(always)]
+#[cycle(printer)]
+fn print_args_item(
+    arena: &Arena,
+    env: Env,
+    is_first: bool,
+    t: u32,
+    name: u32,
+    args: List,
+    out: &mut Text,
+) -> Result<(), AllocError>
+    requires within { t < size arena.now }
+    requires name { name < t }
+    requires args { IsListBelow arena.now.held t args }
+    requires tree { tree_at (forest arena.now) t ≡ with_args (tree_at (forest arena.now) name) (trees_in arena.now.held
+        (forest arena.now) args) }
+    ensures prints { Prints result out.old out.new (spec.item_behind is_first (spec.item_text env (item (tree_at
+        (forest arena.now) t)))) }
+{
+    if !try_separator(is_first, out) {
+        return print_any_item(arena, env, is_first, t, out);
+    }
+    print_with_args(arena, env, t, name, args, out)
+}
+
+#[inline(always)]
+#[cycle(printer)]
+fn print_pointer_item(
+    arena: &Arena,
+    env: Env,
+    is_first: bool,
+    t: u32,
+    u: u32,
+    out: &mut Text,
+) -> Result<(), AllocError>
+    requires within { t < size arena.now }
+    requires below { u < t }
+    requires tree { tree_at (forest arena.now) t ≡ pointer (tree_at (forest arena.now) u) }
+    ensures prints { Prints result out.old out.new (spec.item_behind is_first (spec.item_text env (item (tree_at
+        (forest arena.now) t)))) }
+{
+    if !try_separator(is_first, out) {
+        return print_any_item(arena, env, is_first, t, out);
+    }
+    print_pointer(arena, env, t, u, out)
+}
+
+#[inline(always)]
+#[cycle(printer)]
+fn print_reference_item(
+    arena: &Arena,
+    env: Env,
+    is_first: bool,
+    t: u32,
+    is_lvalue: bool,
+    u: u32,
+    out: &mut Text,
+) -> Result<(), AllocError>
+    requires within { t < size arena.now }
+    requires below { u < t }
+    requires tree { tree_at (forest arena.now) t ≡ reference (tree_at (forest arena.now) u) is_lvalue }
+    ensures prints { Prints result out.old out.new (spec.item_behind is_first (spec.item_text env (item (tree_at
+        (forest arena.now) t)))) }
+{
+    if !try_separator(is_first, out) {
+        return print_any_item(arena, env, is_first, t, out);
+    }
+    print_reference(arena, env, t, is_lvalue, u, out)
+}
+
+// Appends an item of a list that may print nothing.
+#[inline(never)]
+#[cycle(printer)]
+fn print_any_item(
+    arena: &Arena,
+    env: Env,
+    is_first: bool,
+    t: u32,
+    out: &mut Text,
+) -> Result<(), AllocError>
+    requires within { t < size arena.now }
+    ensures prints { Prints result out.old out.new (spec.item_behind is_first (spec.item_text env (item (tree_at
+        (forest arena.now) t)))) }
+{
+    if is_first {
+        return print_item_text(arena, env, t, out);
+    }
     let before = out.len();
-    tri!(write_separator(is_first, out));
+    tri!(write(out, b", "));
     let start = out.len();
     tri!(print_item_text(arena, env, t, out));
     if out.len() == start {
         out.truncate(before);
-        return Ok(is_first);
     }
-    Ok(false)
+    Ok(())
 }
 
 #[inline(never)]
@@ -641,7 +1135,7 @@ fn print_parts(
     Ok(())
 }
 
-#[inline(never)]
+#[inline(always)]
 #[cycle(printer)]
 fn print_part(
     arena: &Arena,
@@ -674,7 +1168,7 @@ fn print_tree(
     ensures prints { Prints result out.old out.new (spec.part_text manner env (item (tree_at (forest arena.now) t))) }
 {
     match manner {
-        Manner::Whole(context) => print_node(arena, env.in_context(context), t, out),
+        Manner::Whole(context) => print(arena, env.in_context(context), t, out),
         Manner::Operand(prec, loose) => print_operand(arena, env, prec, loose, t, out),
         Manner::Scope => print_scope(arena, env, t, out),
         Manner::Callee => print_callee(arena, env, t, out),
@@ -865,9 +1359,26 @@ pub fn print_parens(
     ensures prints { Prints result out.old out.new (spec.parens env (spec.items_of (trees_in arena.now.held (forest
         arena.now) list))) }
 {
-    tri!(write(out, b"("));
-    tri!(print_list(arena, env.enclosed(), bound, arena.items(list), out));
-    write(out, b")")
+    print_params(arena, env, bound, list, out)
+}
+
+#[inline(always)]
+#[cycle(printer)]
+fn print_params(
+    arena: &Arena,
+    env: Env,
+    bound: u32,
+    list: List,
+    out: &mut Text,
+) -> Result<(), AllocError>
+    requires bound { bound ≤ size arena.now }
+    requires below { IsListBelow arena.now.held bound list }
+    ensures prints { Prints result out.old out.new (spec.parens env (spec.items_of (trees_in arena.now.held (forest
+        arena.now) list))) }
+{
+    tri!(write_byte(out, b'('));
+    tri!(print_items(arena, env.enclosed(), bound, arena.items(list), out));
+    write_byte(out, b')')
 }
 
 #[inline(never)]
@@ -884,10 +1395,27 @@ fn print_angles(
     ensures prints { Prints result out.old out.new (spec.angles env (spec.items_of (trees_in arena.now.held (forest
         arena.now) list))) }
 {
-    tri!(write(out, b"<"));
-    tri!(print_list(arena, env.in_angle(), bound, arena.items(list), out));
+    print_args(arena, env, bound, list, out)
+}
+
+#[inline(always)]
+#[cycle(printer)]
+fn print_args(
+    arena: &Arena,
+    env: Env,
+    bound: u32,
+    list: List,
+    out: &mut Text,
+) -> Result<(), AllocError>
+    requires bound { bound ≤ size arena.now }
+    requires below { IsListBelow arena.now.held bound list }
+    ensures prints { Prints result out.old out.new (spec.angles env (spec.items_of (trees_in arena.now.held (forest
+        arena.now) list))) }
+{
+    tri!(write_byte(out, b'<'));
+    tri!(print_items(arena, env.in_angle(), bound, arena.items(list), out));
     tri!(blank_behind_greater(arena, env.in_angle(), bound, arena.items(list), out));
-    write(out, b">")
+    write_byte(out, b'>')
 }
 
 // Appends a blank after a list that ends with a `>`, in GNU's style.
@@ -1604,7 +2132,7 @@ fn gnu_after_params(
     print_right(arena, env, function.ret, false, out)
 }
 
-#[inline(never)]
+#[inline(always)]
 #[cycle(printer)]
 fn left_encoding(
     arena: &Arena,
@@ -1662,7 +2190,7 @@ fn right_ret(
     }
 }
 
-#[inline(never)]
+#[inline(always)]
 #[cycle(printer)]
 fn right_encoding(
     arena: &Arena,
@@ -1679,13 +2207,14 @@ fn right_encoding(
         encoding.now.cv encoding.now.ref_qual
         (spec.print_parts (parts_in arena.now.held (forest arena.now) encoding.now.rest) env)) }
 {
-    tri!(print_parens(arena, env, bound, encoding.params, out));
+    tri!(print_params(arena, env, bound, encoding.params, out));
     if env.is_llvm() {
         return after_signature(arena, env, bound, encoding, out);
     }
     gnu_after_signature(arena, env, bound, encoding, out)
 }
 
+#[inline(always)]
 #[cycle(printer)]
 fn after_signature(
     arena: &Arena,
@@ -1706,6 +2235,7 @@ fn after_signature(
 }
 
 // Appends the qualifiers of a function, and what follows them.
+#[inline(always)]
 #[cycle(printer)]
 fn print_qualifiers(
     arena: &Arena,
@@ -1722,7 +2252,28 @@ fn print_qualifiers(
 {
     tri!(write_cv(encoding.cv, out));
     tri!(write_ref(encoding.ref_qual, out));
-    print_parts(arena, env, bound, encoding.rest, out)
+    print_rest(arena, env, bound, encoding.rest, out)
+}
+
+// Appends parts, of which there are mostly none.
+#[inline(always)]
+#[cycle(printer)]
+fn print_rest(
+    arena: &Arena,
+    env: Env,
+    bound: u32,
+    parts: Parts,
+    out: &mut Text,
+) -> Result<(), AllocError>
+    requires bound { bound ≤ size arena.now }
+    requires parts { IsPartsBelow arena.now.held bound parts }
+    ensures prints { Prints result out.old out.new ((spec.print_parts (parts_in arena.now.held (forest arena.now)
+        parts) env).text) }
+{
+    if arena.parts_of(parts).is_empty() {
+        return Ok(());
+    }
+    print_parts(arena, env, bound, parts, out)
 }
 
 #[cycle(printer)]

@@ -3,7 +3,7 @@
 
 ghost use Rattle.std.specs.Prelude.{◌≡◌, ℕ, ◌<◌, ◌≤◌, Bool, true, false, Option, Some, None, MatchOption, IfSome};
 ghost use Rattle.std.specs.List.{AllByRecursion};
-ghost use Rattle.cxx_tree.specs.Tree.{pack};
+ghost use Rattle.cxx_tree.specs.Tree.{named, pack, scoped};
 ghost use Rattle.cxx_tree.specs.Stored.{forest, size, tree_at, trees_at, trees_in, plain_tree, parts_in, parts_at, parts_of, IsListBelow, IsPlainBelow, IsPartsBelow, IsPartBelow};
 ghost use Rattle.cxx_printer.specs.Printing as spec;
 ghost use Rattle.cxx_printer.specs.Words.{ending, ending_of_byte, within};
@@ -65,6 +65,48 @@ pub fn is_one_sided(arena: &Arena, i: u32) -> bool
         Node::Pointer(t) => is_one_sided(arena, t),
         Node::Reference(t, _) => is_one_sided(arena, t),
         _ => false,
+    }
+}
+
+/// Returns whether a node has one side.
+#[inline(always)]
+pub fn is_plain(arena: &Arena, i: u32) -> bool
+    requires within { i < size arena.now }
+    ensures value { result ≡ true → OneSided (tree_at (forest arena.now) i) }
+{
+    match *arena.node(i) {
+        Node::Plain(_) => true,
+        _ => false,
+    }
+}
+
+// Returns the text of a name. Of another node it returns nothing.
+#[inline(always)]
+fn name_of(arena: &Arena, i: u32) -> Option<&[u8]>
+    requires within { i < size arena.now }
+    ensures value { IfSome result (λ w. tree_at (forest arena.now) i ≡ named w.now) }
+{
+    match *arena.node(i) {
+        Node::Plain(Plain::Name(text)) => Some(arena.bytes(text)),
+        _ => None,
+    }
+}
+
+/// Returns the texts of a name and of the name that is its scope. Of another node it returns nothing.
+#[inline(always)]
+pub fn two_names(arena: &Arena, i: u32) -> Option<(&[u8], &[u8])>
+    requires within { i < size arena.now }
+    ensures value { IfSome result (λ p. tree_at (forest arena.now) i ≡ scoped false (named p.0.now) (named p.1.now)) }
+{
+    match *arena.node(i) {
+        Node::Plain(Plain::Scoped(false, scope, name)) => match name_of(arena, scope) {
+            Some(first) => match name_of(arena, name) {
+                Some(second) => Some((first, second)),
+                None => None,
+            },
+            None => None,
+        },
+        _ => None,
     }
 }
 

@@ -8,7 +8,7 @@ ghost use Rattle.cxx_printer.specs.Prints.{Prints};
 ghost use Rattle.cxx_printer.specs.Symbol as spec;
 
 use crate::env::{Env, Style};
-use crate::print::{print, print_signature};
+use crate::print::{print, print_encoding, print_node, print_signature};
 use crate::writing::write;
 use cxx_tree::{Arena, Node};
 use growing_text::Text;
@@ -62,6 +62,28 @@ fn print_symbol_in(
     requires suffix { IfSome symbol.suffix (IsText arena.now.held) }
     ensures prints { Prints result out.old out.new (spec.symbol_in env mode (spec.symbol_at arena.now symbol)) }
 {
+    if symbol.is_block {
+        return print_around(arena, env, symbol, mode, out);
+    }
+    match symbol.suffix {
+        None => print_mode(arena, env, symbol.tree, mode, out),
+        Some(_) => print_around(arena, env, symbol, mode, out),
+    }
+}
+
+// Appends what a symbol prints that something stands around.
+#[inline(never)]
+fn print_around(
+    arena: &Arena,
+    env: Env,
+    symbol: Symbol,
+    mode: Mode,
+    out: &mut Text,
+) -> Result<(), AllocError>
+    requires within { symbol.tree < size arena.now }
+    requires suffix { IfSome symbol.suffix (IsText arena.now.held) }
+    ensures prints { Prints result out.old out.new (spec.symbol_in env mode (spec.symbol_at arena.now symbol)) }
+{
     tri!(write_block(symbol.is_block, out));
     tri!(print_mode(arena, env, symbol.tree, mode, out));
     print_suffix(arena, env, symbol.suffix, out)
@@ -77,6 +99,7 @@ fn write_block(is_block: bool, out: &mut Text) -> Result<(), AllocError>
     Ok(())
 }
 
+#[inline(always)]
 fn print_mode(arena: &Arena, env: Env, i: u32, mode: Mode, out: &mut Text) -> Result<(), AllocError>
     requires within { i < size arena.now }
     ensures prints { Prints result out.old out.new (spec.mode_text mode env (tree_at (forest arena.now) i)) }
@@ -84,11 +107,24 @@ fn print_mode(arena: &Arena, env: Env, i: u32, mode: Mode, out: &mut Text) -> Re
     match mode {
         Mode::Name => print_name(arena, env, i, out),
         Mode::Signature => print_without_return_type(arena, env, i, out),
-        Mode::Declaration => print(arena, env, i, out),
+        Mode::Declaration => print_declaration(arena, env, i, out),
+    }
+}
+
+#[inline(always)]
+fn print_declaration(arena: &Arena, env: Env, i: u32, out: &mut Text) -> Result<(), AllocError>
+    requires within { i < size arena.now }
+    ensures prints { Prints result out.old out.new (spec.mode_text modes.Declaration env (tree_at (forest arena.now)
+        i)) }
+{
+    match *arena.node(i) {
+        Node::Encoding(ref encoding) => print_encoding(arena, env, i, encoding, out),
+        _ => print_node(arena, env, i, out),
     }
 }
 
 // Appends the name of a function, or what any other tree prints.
+#[inline(never)]
 fn print_name(arena: &Arena, env: Env, i: u32, out: &mut Text) -> Result<(), AllocError>
     requires within { i < size arena.now }
     ensures prints { Prints result out.old out.new (spec.mode_text modes.Name env (tree_at (forest arena.now) i)) }
@@ -100,6 +136,7 @@ fn print_name(arena: &Arena, env: Env, i: u32, out: &mut Text) -> Result<(), All
 }
 
 // Appends a function without its return type, or what any other tree prints.
+#[inline(never)]
 fn print_without_return_type(
     arena: &Arena,
     env: Env,

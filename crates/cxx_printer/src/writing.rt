@@ -14,28 +14,52 @@ use cxx_tree::{Arena, Cv, MOST_DIGITS, RefQual, Std, number_bytes};
 use growing_text::Text;
 use std::alloc::AllocError;
 
-// The length of a text in bytes up to which it is copied here, without a call.
-const SHORT: usize = 16;
-
 /// Appends a text.
 #[inline(always)]
 #[tactic(auto, using(crate::proofs::Appended::prints_added))]
 pub fn write(out: &mut Text, text: &[u8]) -> Result<(), AllocError>
     ensures prints { Prints result out.old out.new text.now }
 {
-    if text.len() > SHORT {
-        return write_long(out, text);
-    }
-    out.add(text)
+    out.add_short(text)
 }
 
-/// Appends a text of any length.
-#[inline(never)]
+/// Appends a byte.
+#[inline(always)]
 #[tactic(auto, using(crate::proofs::Appended::prints_added))]
-pub fn write_long(out: &mut Text, text: &[u8]) -> Result<(), AllocError>
-    ensures prints { Prints result out.old out.new text.now }
+pub fn write_byte(out: &mut Text, byte: u8) -> Result<(), AllocError>
+    ensures prints { Prints result out.old out.new (byte ∷ []) }
 {
-    out.add(text)
+    out.add_byte(byte)
+}
+
+/// Appends a text behind a word.
+#[inline(always)]
+#[tactic(auto, using(crate::proofs::Appended::prints_added))]
+pub fn write_behind(out: &mut Text, word: &[u8], text: &[u8]) -> Result<(), AllocError>
+    ensures prints { Prints result out.old out.new (word.now ++ text.now) }
+{
+    out.add_behind(word, text)
+}
+
+/// Appends two texts with `::` between them.
+#[inline(always)]
+#[tactic(auto, using(crate::proofs::Appended::prints_tried))]
+pub fn write_joined(scope: &[u8], name: &[u8], out: &mut Text) -> Result<(), AllocError>
+    ensures prints { Prints result out.old out.new (scope.now ++ (codes "::" ++ name.now)) }
+{
+    if out.try_joined(scope, b"::", name) {
+        return Ok(());
+    }
+    write_long_joined(scope, name, out)
+}
+
+// Appends two texts of any length with `::` between them.
+#[inline(never)]
+fn write_long_joined(scope: &[u8], name: &[u8], out: &mut Text) -> Result<(), AllocError>
+    ensures prints { Prints result out.old out.new (scope.now ++ (codes "::" ++ name.now)) }
+{
+    tri!(write(out, scope));
+    write_behind(out, b"::", name)
 }
 
 /// Appends a text of a node.
@@ -45,6 +69,24 @@ pub fn write_text(arena: &Arena, text: &cxx_tree::Text, out: &mut Text) -> Resul
     ensures prints { Prints result out.old out.new (text_at arena.now.held text.now) }
 {
     write(out, arena.bytes(*text))
+}
+
+/// Returns one of two texts.
+#[inline(always)]
+pub fn styled_bytes<'a>(
+    arena: &'a Arena,
+    env: Env,
+    llvm: &cxx_tree::Text,
+    gnu: &cxx_tree::Text,
+) -> &'a [u8]
+    requires llvm { IsText arena.now.held llvm.now }
+    requires gnu { IsText arena.now.held gnu.now }
+    ensures value { result.now ≡ words.styled env (text_at arena.now.held llvm.now) (text_at arena.now.held gnu.now) }
+{
+    if env.is_llvm() {
+        return arena.bytes(*llvm);
+    }
+    arena.bytes(*gnu)
 }
 
 /// Appends one of two texts.
@@ -61,10 +103,7 @@ pub fn write_styled(
     ensures prints { Prints result out.old out.new
         (words.styled env (text_at arena.now.held llvm.now) (text_at arena.now.held gnu.now)) }
 {
-    if env.is_llvm() {
-        return write_text(arena, llvm, out);
-    }
-    write_text(arena, gnu, out)
+    write(out, styled_bytes(arena, env, llvm, gnu))
 }
 
 /// Appends an abbreviation of `std`.
@@ -76,17 +115,53 @@ pub fn write_std(env: Env, std: Std, is_expanded: bool, out: &mut Text) -> Resul
 }
 
 /// Appends qualifiers, each after a blank.
-#[inline(never)]
+#[inline(always)]
 pub fn write_cv(cv: Cv, out: &mut Text) -> Result<(), AllocError>
     ensures prints { Prints result out.old out.new (words.cv_text cv) }
 {
     match (cv.is_const, cv.is_volatile, cv.is_restrict) {
         (false, false, false) => Ok(()),
-        _ => write(out, cv_text(cv)),
+        _ => write_some_cv(cv, out),
+    }
+}
+
+#[inline(never)]
+fn write_some_cv(cv: Cv, out: &mut Text) -> Result<(), AllocError>
+    ensures prints { Prints result out.old out.new (words.cv_text cv) }
+{
+    write(out, cv_text(cv))
+}
+
+/// Appends qualifiers, and the star of a pointer.
+#[inline(always)]
+pub fn write_star(cv: Cv, out: &mut Text) -> Result<(), AllocError>
+    ensures prints { Prints result out.old out.new (words.cv_text cv ++ codes "*") }
+{
+    match (cv.is_const, cv.is_volatile, cv.is_restrict) {
+        (true, false, false) => write(out, b" const*"),
+        _ => {
+            tri!(write_some_cv(cv, out));
+            write_byte(out, b'*')
+        }
+    }
+}
+
+/// Appends qualifiers, and the mark of a reference.
+#[inline(always)]
+pub fn write_cv_mark(cv: Cv, is_lvalue: bool, out: &mut Text) -> Result<(), AllocError>
+    ensures prints { Prints result out.old out.new (words.cv_text cv ++ words.mark is_lvalue) }
+{
+    match (cv.is_const, cv.is_volatile, cv.is_restrict, is_lvalue) {
+        (true, false, false, true) => write(out, b" const&"),
+        _ => {
+            tri!(write_some_cv(cv, out));
+            write_mark(is_lvalue, out)
+        }
     }
 }
 
 /// Appends the reference qualifier of a function.
+#[inline(always)]
 pub fn write_ref(ref_qual: RefQual, out: &mut Text) -> Result<(), AllocError>
     ensures prints { Prints result out.old out.new (words.ref_text ref_qual) }
 {
@@ -98,11 +173,12 @@ pub fn write_ref(ref_qual: RefQual, out: &mut Text) -> Result<(), AllocError>
 }
 
 /// Appends the mark of a reference.
+#[inline(always)]
 pub fn write_mark(is_lvalue: bool, out: &mut Text) -> Result<(), AllocError>
     ensures prints { Prints result out.old out.new (words.mark is_lvalue) }
 {
     if is_lvalue {
-        return write(out, b"&");
+        return write_byte(out, b'&');
     }
     write(out, b"&&")
 }
@@ -136,6 +212,31 @@ pub fn write_separator(is_first: bool, out: &mut Text) -> Result<(), AllocError>
         return Ok(());
     }
     write(out, b", ")
+}
+
+/// Appends what stands before an item that isn't the first, if there is capacity for it. Returns whether it did.
+#[inline(always)]
+pub fn try_separator(is_first: bool, out: &mut Text) -> bool
+    ensures value { out.new ≡ (if result then out.old ++ spec.separator is_first else out.old) }
+{
+    if is_first {
+        return true;
+    }
+    out.try_word(b", ")
+}
+
+/// Appends a text as an item of a list.
+#[inline(always)]
+pub fn write_item(is_first: bool, text: &[u8], out: &mut Text) -> Result<(), AllocError>
+    ensures prints { Prints result out.old out.new (spec.item_behind is_first text.now) }
+{
+    if text.is_empty() {
+        return Ok(());
+    }
+    if is_first {
+        return write(out, text);
+    }
+    write_behind(out, b", ", text)
 }
 
 /// Appends a blank unless a type has a right side.

@@ -2,3 +2,4 @@ pub mod Overlaps
 pub mod Parts
 pub mod Fronts
 pub mod Gaps
+pub mod Rows

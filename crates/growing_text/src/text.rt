@@ -1,11 +1,14 @@
 //! A text that grows.
 ghost use Rattle.std.specs.Prelude.{◌≡◌, ℕ, ◌+◌, ◌-◌, ◌≤◌, List, [], ◌∷◌, ◌++◌, false, length, take, drop, slice_range};
-ghost use Rattle.std.specs.Prelude.{IsTrue, OnOk, OnErr};
+ghost use Rattle.std.specs.Prelude.{IsTrue, OnOk, OnErr, true, if◌then◌else◌};
 ghost use Rattle.growing_text.specs.Gap.{HasGap};
 
-use crate::lanes::copy_text;
+use crate::lanes::{copy_text, put, put_behind, put_joined};
 use std::alloc::{AllocError, Global};
 use std::marker::Model;
+
+// The length of a short text in bytes, at most.
+const SHORT: usize = 32;
 
 // The least capacity that is reserved, in bytes.
 const FIRST_CAPACITY: usize = 64;
@@ -120,6 +123,106 @@ impl Text {
         Ok(())
     }
 
+    /// Appends a byte.
+    #[inline(always)]
+    pub fn add_byte(&mut self, byte: u8) -> Result<(), AllocError>
+        ensures ok { OnOk result (self.new ≡ self.old ++ byte ∷ []) }
+        ensures err { OnErr result (self.new ≡ self.old) }
+    {
+        let end = self.len;
+        if end < self.bytes.len() {
+            self.bytes[end] = byte;
+            self.len = end + 1;
+            return Ok(());
+        }
+        self.add_long(&[byte])
+    }
+
+    /// Appends a text. One of up to 32 bytes is copied here, without a call.
+    #[inline(always)]
+    pub fn add_short(&mut self, text: &[u8]) -> Result<(), AllocError>
+        ensures ok { OnOk result (self.new ≡ self.old ++ text.now) }
+        ensures err { OnErr result (self.new ≡ self.old) }
+    {
+        let end = self.len;
+        let n = text.len();
+        if n > SHORT || !has_spare(&self.bytes, end, SHORT) {
+            return self.add_long(text);
+        }
+        let (_, spare) = self.bytes.split_at_mut(end);
+        put(spare, text);
+        self.len = end + n;
+        Ok(())
+    }
+
+    // Appends a text.
+    #[inline(never)]
+    fn add_long(&mut self, text: &[u8]) -> Result<(), AllocError>
+        ensures ok { OnOk result (self.new ≡ self.old ++ text.now) }
+        ensures err { OnErr result (self.new ≡ self.old) }
+    {
+        self.add(text)
+    }
+
+    /// Appends a word and a text. They are copied here, without a call, if the text has up to 32 bytes.
+    #[inline(always)]
+    pub fn add_behind(&mut self, word: &[u8], text: &[u8]) -> Result<(), AllocError>
+        ensures ok { OnOk result (self.new ≡ self.old ++ (word.now ++ text.now)) }
+        ensures err { OnErr result (self.new ≡ self.old) }
+    {
+        let end = self.len;
+        let n = text.len();
+        if n > SHORT || !has_spare(&self.bytes, end, word.len() + SHORT) {
+            return self.add_both(word, text);
+        }
+        let (_, spare) = self.bytes.split_at_mut(end);
+        put_behind(spare, word, text);
+        self.len = end + (word.len() + n);
+        Ok(())
+    }
+
+    // Appends two texts.
+    #[inline(never)]
+    fn add_both(&mut self, first: &[u8], second: &[u8]) -> Result<(), AllocError>
+        ensures ok { OnOk result (self.new ≡ self.old ++ (first.now ++ second.now)) }
+        ensures err { OnErr result (self.new ≡ self.old) }
+    {
+        self.add_pair(first, second)
+    }
+
+    /// Appends a word if there is capacity for it. Returns whether it did.
+    #[inline(always)]
+    pub fn try_word(&mut self, word: &[u8]) -> bool
+        ensures value { self.new ≡ (if result then self.old ++ word.now else self.old) }
+    {
+        let end = self.len;
+        let n = word.len();
+        if n > SHORT || !has_spare(&self.bytes, end, n) {
+            return false;
+        }
+        let (_, spare) = self.bytes.split_at_mut(end);
+        put(spare, word);
+        self.len = end + n;
+        true
+    }
+
+    /// Appends two texts with a word between them, if the texts have up to 32 bytes and there is capacity for such
+    /// ones. Returns whether it did.
+    #[inline(always)]
+    pub fn try_joined(&mut self, first: &[u8], word: &[u8], second: &[u8]) -> bool
+        ensures value { self.new ≡ (if result then self.old ++ (first.now ++ (word.now ++ second.now)) else self.old) }
+    {
+        let end = self.len;
+        let (m, n) = (first.len(), second.len());
+        if m > SHORT || n > SHORT || !has_spare(&self.bytes, end, SHORT + (word.len() + SHORT)) {
+            return false;
+        }
+        let (_, spare) = self.bytes.split_at_mut(end);
+        put_joined(spare, first, word, second);
+        self.len = end + (m + (word.len() + n));
+        true
+    }
+
     /// Appends a copy of a part of the text.
     #[inline(always)]
     pub fn add_part(&mut self, from: usize, to: usize) -> Result<(), AllocError>
@@ -190,6 +293,15 @@ impl Text {
         self.bytes.copy_within(from..to, at);
         self.len = at + (to - from);
     }
+}
+
+// Returns whether there is capacity for n more bytes after the first `len`.
+#[inline(always)]
+fn has_spare(bytes: &Vec<u8>, len: usize, n: usize) -> bool
+    requires within { len ≤ length bytes.now.items }
+    ensures capacity { result ≡ true → len + n ≤ length bytes.now.items }
+{
+    bytes[len..].len() >= n
 }
 
 // Makes sure that there is capacity for n more bytes after the first `len`.

@@ -1,8 +1,13 @@
-use Rattle.std.proofs.Common.{ℕ, ◌≡◌, ◌+◌, ◌++◌, Bool, true, List, sym, subst, ap, ◌∙◌, drop, arith}
+use Rattle.std.proofs.Common.{length, nat_eq, ℕ, ◌++◌, true, List, sym, subst, ap, ◌∙◌, arith}
 use Rattle.cxx_tree.specs.Stored.{forest, tree_at, trees_at, parts_of}
 use Rattle.cxx_printer.specs.Asked.{item}
-use Rattle.cxx_printer.specs.Printing.{items_of, print, print_parts, list_from, sequence, separated, declared, head, repeated}
-use Rattle.cxx_printer.proofs.Turns.{so_far_step, so_far_end, list_step, list_end, sequence_step, sequence_end, separated_step, separated_end, repeated_step, repeated_end, parts_step, whole-left}
+use Rattle.cxx_printer.specs.Printing.{items_of, print, print_parts, sequence, separated, declared, head, repeated}
+use Rattle.cxx_tree.specs.Stored.{tree_of, plain_tree, text_at, trees_in}
+use Rattle.cxx_printer.specs.Words.{cv_text}
+use Rattle.cxx_printer.proofs.Appended.{prints_then}
+use Rattle.cxx_printer.proofs.Declarators.{whole-qualified, whole-plain-pointer, whole-cv-pointer, whole-plain-reference, whole-cv-reference}
+use Rattle.cxx_printer.proofs.Items.{scoped_item, args_item, pointer_item, reference_item, name_item, leaf_item, items_step}
+use Rattle.cxx_printer.proofs.Turns.{so_far_step, so_far_end, list_end, sequence_step, sequence_end, separated_step, separated_end, repeated_step, repeated_end, parts_step, whole-left}
 use Rattle.cxx_printer.specs.Printing.{collapsed}
 use Rattle.cxx_printer.specs.Prints.{Prints}
 use Rattle.cxx_printer.specs.Words.{mark}
@@ -10,16 +15,123 @@ use Rattle.cxx_printer.proofs.Appended.{prints_nothing}
 use Rattle.cxx_printer.proofs.Packs.{refers-none, left-none, right-none}
 use Rattle.cxx_printer.proofs.print.+printer.Goals as goal
 
-pub print_list-loop-t-preserved : goal.print_list-loop-t-preserved
-print_list-loop-t-preserved t c =
-    let p = (c.in-Ok.ensures {u = tt}).prints in
-    let all = list_from true c.args.env (items_of (trees_at (forest c.args.arena.now) c.args.items.now)) in
-    subst (λ (first : Bool). c.args.out.now ++ all ≡ c.print_item.new.out ++ list_from first c.args.env (items_of (trees_at (forest c.args.arena.now) (drop (c.loop-t.t-index + 1) c.args.items.now)))) (sym p.1)
-    (so_far_step c.args.out.now _ _ all _ _ _ c.loop-t.invariant (list_step _ _ _ _ _ 0 c.loop-t-test.true) p.0)
+pub print_items-loop-t-preserved : goal.print_items-loop-t-preserved
+print_items-loop-t-preserved t c =
+    items_step (forest c.args.arena.now) c.args.items.now c.args.env c.args.out.now c.loop-t.out c.print_item.new.out _ c.len-start.result c.loop-t.t-index 0
+    c.len-start.ensures.value c.loop-t-test.true c.loop-t.invariant (c.in-Ok.ensures {u = tt}).prints
 
-pub print_list-returns : goal.print_list-returns
-print_list-returns t c =
-    record { prints = so_far_end c.args.out.now c.loop-t.out _ _ c.loop-t.invariant (list_end (forest c.args.arena.now) c.args.items.now c.args.env c.loop-t.is_first c.loop-t.t-index (omega (arith, c.loop-t-test.false))) }
+pub print_items-returns : goal.print_items-returns
+print_items-returns t c =
+    record { prints = so_far_end c.args.out.now c.loop-t.out _ _ c.loop-t.invariant.0 (list_end (forest c.args.arena.now) c.args.items.now c.args.env (nat_eq (length c.loop-t.out) (length c.args.out.now)) c.loop-t.t-index (omega (arith, c.loop-t-test.false))) }
+
+pub print_scoped_item-returns : goal.print_scoped_item-returns
+print_scoped_item-returns t c =
+    let ts = forest c.args.arena.now in
+    record {
+      prints = scoped_item c.print_scoped.result c.args.out.now c.try_separator.new.out c.print_scoped.new.out c.try_separator.result c.args.is_first c.args.env (tree_at ts c.args.t)
+          (tree_at ts c.args.scope) (tree_at ts c.args.name) c.if-not-try_separator.false c.try_separator.ensures.value c.requires.tree c.print_scoped.ensures.prints;
+    }
+
+pub print_args_item-returns : goal.print_args_item-returns
+print_args_item-returns t c =
+    let ts = forest c.args.arena.now in
+    record {
+      prints = args_item c.print_with_args.result c.args.out.now c.try_separator.new.out c.print_with_args.new.out c.try_separator.result c.args.is_first c.args.env (tree_at ts c.args.t)
+          (tree_at ts c.args.name) (trees_in c.args.arena.now.held ts c.args.args) c.if-not-try_separator.false c.try_separator.ensures.value c.requires.tree c.print_with_args.ensures.prints;
+    }
+
+pub print_pointer_item-returns : goal.print_pointer_item-returns
+print_pointer_item-returns t c =
+    let ts = forest c.args.arena.now in
+    record {
+      prints = pointer_item c.print_pointer.result c.args.out.now c.try_separator.new.out c.print_pointer.new.out c.try_separator.result c.args.is_first c.args.env (tree_at ts c.args.t)
+          (tree_at ts c.args.u) c.if-not-try_separator.false c.try_separator.ensures.value c.requires.tree c.print_pointer.ensures.prints;
+    }
+
+pub print_reference_item-returns : goal.print_reference_item-returns
+print_reference_item-returns t c =
+    let ts = forest c.args.arena.now in
+    record {
+      prints = reference_item c.print_reference.result c.args.out.now c.try_separator.new.out c.print_reference.new.out c.try_separator.result c.args.is_first c.args.env (tree_at ts c.args.t)
+          (tree_at ts c.args.u) c.args.is_lvalue c.if-not-try_separator.false c.try_separator.ensures.value c.requires.tree c.print_reference.ensures.prints;
+    }
+
+pub print_plain_item-returns-in-Name : goal.print_plain_item-returns-in-Name
+unfolding plain_tree
+print_plain_item-returns-in-Name t c =
+    let h = c.args.arena.now.held in
+    let ts = forest c.args.arena.now in
+    record {
+      prints = name_item c.write_item.result c.args.out.now c.write_item.new.out c.bytes.result.now (text_at h c.in-Name.text) c.args.is_first c.args.env (tree_at ts c.args.t)
+          (c.requires.tree ∙ ap (plain_tree h ts) c.in-Name.is) c.bytes.ensures.value c.write_item.ensures.prints;
+    }
+
+pub print_plain_item-returns-in-Leaf : goal.print_plain_item-returns-in-Leaf
+unfolding plain_tree
+print_plain_item-returns-in-Leaf t c =
+    let h = c.args.arena.now.held in
+    let ts = forest c.args.arena.now in
+    record {
+      prints = leaf_item c.write_leaf_item.result c.args.out.now c.write_leaf_item.new.out c.styled_bytes.result.now (text_at h c.in-Leaf.llvm) (text_at h c.in-Leaf.gnu) c.in-Leaf.field-0
+          c.args.is_first c.args.env (tree_at ts c.args.t) (c.requires.tree ∙ ap (plain_tree h ts) c.in-Leaf.is) c.styled_bytes.ensures.value c.write_leaf_item.ensures.prints;
+    }
+
+pub print_qualified-returns : goal.print_qualified-returns
+print_qualified-returns t c =
+    let ts = forest c.args.arena.now in
+    record {
+      prints = subst (λ (l : List ℕ). Prints c.write_cv.result c.args.out.now c.write_cv.new.out l)
+          (whole-qualified (tree_at ts c.args.i) (tree_at ts c.args.t) c.args.cv c.args.env c.requires.tree (c.is_plain.ensures.value c.if-not-is_plain.false))
+          (prints_then c.write_cv.result c.args.out.now c.print.new.out c.write_cv.new.out _ (cv_text c.args.cv) c.in-Ok.ensures.prints c.write_cv.ensures.prints);
+    }
+
+pub print_pointer-returns-in_default-plain : goal.print_pointer-returns-in_default-plain
+unfolding tree_of
+print_pointer-returns-in_default-plain t c =
+    let h = c.args.arena.now.held in
+    let ts = forest c.args.arena.now in
+    record {
+      prints = subst (λ (l : List ℕ). Prints c.print_plain_pointer.result c.args.out.now c.print_plain_pointer.new.out l)
+          (whole-plain-pointer h ts c.in-Plain.plain (tree_at ts c.args.i) (tree_at ts c.args.t) c.args.env c.requires.tree
+          (c.node.ensures.tree ∙ ap (tree_of h ts) c.in-Plain.is) c.in_default-plain.not-ObjcProtocol)
+          c.print_plain_pointer.ensures.prints;
+    }
+
+pub print_pointer-returns-else-not-is_plain : goal.print_pointer-returns-else-not-is_plain
+unfolding tree_of
+print_pointer-returns-else-not-is_plain t c =
+    let h = c.args.arena.now.held in
+    let ts = forest c.args.arena.now in
+    record {
+      prints = subst (λ (l : List ℕ). Prints c.print_cv_pointer.result c.args.out.now c.print_cv_pointer.new.out l)
+          (whole-cv-pointer (tree_at ts c.args.i) (tree_at ts c.args.t) (tree_at ts c.in-Qualified.u) c.in-Qualified.cv c.args.env c.requires.tree
+          (c.node.ensures.tree ∙ ap (tree_of h ts) c.in-Qualified.is) (c.is_plain.ensures.value c.if-not-is_plain.false))
+          c.print_cv_pointer.ensures.prints;
+    }
+
+pub print_reference-returns-in-Plain : goal.print_reference-returns-in-Plain
+unfolding tree_of
+print_reference-returns-in-Plain t c =
+    let h = c.args.arena.now.held in
+    let ts = forest c.args.arena.now in
+    record {
+      prints = subst (λ (l : List ℕ). Prints c.print_plain_reference.result c.args.out.now c.print_plain_reference.new.out l)
+          (whole-plain-reference h ts c.in-Plain.field-0 (tree_at ts c.args.i) (tree_at ts c.args.t) c.args.is_lvalue c.args.env c.requires.tree
+          (c.node.ensures.tree ∙ ap (tree_of h ts) c.in-Plain.is))
+          c.print_plain_reference.ensures.prints;
+    }
+
+pub print_reference-returns-else-not-is_plain : goal.print_reference-returns-else-not-is_plain
+unfolding tree_of
+print_reference-returns-else-not-is_plain t c =
+    let h = c.args.arena.now.held in
+    let ts = forest c.args.arena.now in
+    record {
+      prints = subst (λ (l : List ℕ). Prints c.print_cv_reference.result c.args.out.now c.print_cv_reference.new.out l)
+          (whole-cv-reference (tree_at ts c.args.i) (tree_at ts c.args.t) (tree_at ts c.in-Qualified.u) c.args.is_lvalue c.in-Qualified.cv c.args.env c.requires.tree
+          (c.node.ensures.tree ∙ ap (tree_of h ts) c.in-Qualified.is) (c.is_plain.ensures.value c.if-not-is_plain.false))
+          c.print_cv_reference.ensures.prints;
+    }
 
 pub print_declared_list-loop-t-preserved : goal.print_declared_list-loop-t-preserved
 print_declared_list-loop-t-preserved t c =

@@ -1,4 +1,4 @@
-use Rattle.std.proofs.Common.{◌≡◌, ◌+◌, ◌-◌, ◌*◌, ◌++◌, max, drop, true}
+use Rattle.std.proofs.Common.{◌≡◌, ◌+◌, ◌-◌, ◌*◌, ◌≤◌, ◌++◌, max, drop, true, length, nat_eq}
 use Rattle.cxx_tree.specs.Stored.{forest, tree_at, trees_at, parts_of}
 use Rattle.cxx_printer.specs.Asked.{item}
 use Rattle.cxx_printer.specs.Printing.{items_of, print_parts, list_from, sequence, separated, declared, head, repeated}
@@ -11,7 +11,7 @@ abbrev pub decreases-print_node : goal.decreases-print_node
 decreases-print_node l = 64 * l.i + 39
 
 abbrev pub decreases-print_sides : goal.decreases-print_sides
-decreases-print_sides l = 64 * l.i + 38
+decreases-print_sides l = 64 * l.i + 34
 
 abbrev pub decreases-print_left : goal.decreases-print_left
 decreases-print_left l = 64 * l.i + 30
@@ -20,7 +20,7 @@ abbrev pub decreases-print_right : goal.decreases-print_right
 decreases-print_right l = 64 * l.i + 30
 
 abbrev pub decreases-print_scope : goal.decreases-print_scope
-decreases-print_scope l = 64 * l.i + 44
+decreases-print_scope l = 64 * l.i + 42
 
 abbrev pub decreases-print_encoding : goal.decreases-print_encoding
 decreases-print_encoding l = 64 * l.bound + 22
@@ -200,7 +200,7 @@ abbrev pub decreases-print_element : goal.decreases-print_element
 decreases-print_element l = 64 * l.t + 45
 
 abbrev pub decreases-print_item : goal.decreases-print_item
-decreases-print_item l = 64 * l.t + 44
+decreases-print_item l = 64 * l.t + 48
 
 abbrev pub decreases-print_item_text : goal.decreases-print_item_text
 decreases-print_item_text l = 64 * l.t + 43
@@ -271,15 +271,94 @@ decreases-right_non_type l = 64 * (max l.name l.t) + 41
 abbrev pub decreases-right_template : goal.decreases-right_template
 decreases-right_template l = 64 * l.bound + 17
 
+abbrev pub decreases-print_other : goal.decreases-print_other
+decreases-print_other l = 64 * l.i + 35
+
+abbrev pub decreases-print_type : goal.decreases-print_type
+decreases-print_type l = 64 * l.i + 38
+
+abbrev pub decreases-print_qualified : goal.decreases-print_qualified
+decreases-print_qualified l = 64 * l.i + 37
+
+abbrev pub decreases-print_pointer : goal.decreases-print_pointer
+decreases-print_pointer l = 64 * l.i + 37
+
+abbrev pub decreases-print_reference : goal.decreases-print_reference
+decreases-print_reference l = 64 * l.i + 37
+
+abbrev pub decreases-print_plain_pointer : goal.decreases-print_plain_pointer
+decreases-print_plain_pointer l = 64 * l.t + 41
+
+abbrev pub decreases-print_cv_pointer : goal.decreases-print_cv_pointer
+decreases-print_cv_pointer l = 64 * l.t + 41
+
+abbrev pub decreases-print_plain_reference : goal.decreases-print_plain_reference
+decreases-print_plain_reference l = 64 * l.t + 41
+
+abbrev pub decreases-print_cv_reference : goal.decreases-print_cv_reference
+decreases-print_cv_reference l = 64 * l.t + 41
+
+abbrev pub decreases-print_gnu_scope : goal.decreases-print_gnu_scope
+decreases-print_gnu_scope l = 64 * l.i + 41
+
+abbrev pub decreases-print_in_scope : goal.decreases-print_in_scope
+decreases-print_in_scope l = 64 * (max l.scope l.name) + 47
+
+abbrev pub decreases-print_scoped_tree : goal.decreases-print_scoped_tree
+decreases-print_scoped_tree l = 64 * (max l.scope l.name) + 45
+
+abbrev pub decreases-print_scoped_text : goal.decreases-print_scoped_text
+decreases-print_scoped_text l = 64 * l.scope + 45
+
+abbrev pub decreases-print_path : goal.decreases-print_path
+decreases-print_path l = 64 * l.scope + 44
+
+abbrev pub decreases-print_behind_scope : goal.decreases-print_behind_scope
+decreases-print_behind_scope l = 64 * l.scope + 43
+
+abbrev pub decreases-print_items : goal.decreases-print_items
+decreases-print_items l = 64 * l.bound + 7
+
+abbrev pub decreases-print_params : goal.decreases-print_params
+decreases-print_params l = 64 * l.bound + 9
+
+abbrev pub decreases-print_args : goal.decreases-print_args
+decreases-print_args l = 64 * l.bound + 9
+
+abbrev pub decreases-print_rest : goal.decreases-print_rest
+decreases-print_rest l = 64 * l.bound + 15
+
+abbrev pub decreases-print_scoped_item : goal.decreases-print_scoped_item
+decreases-print_scoped_item l = 64 * l.t + 46
+
+abbrev pub decreases-print_args_item : goal.decreases-print_args_item
+decreases-print_args_item l = 64 * l.t + 46
+
+abbrev pub decreases-print_pointer_item : goal.decreases-print_pointer_item
+decreases-print_pointer_item l = 64 * l.t + 46
+
+abbrev pub decreases-print_reference_item : goal.decreases-print_reference_item
+decreases-print_reference_item l = 64 * l.t + 46
+
+abbrev pub decreases-print_plain_item : goal.decreases-print_plain_item
+decreases-print_plain_item l = 64 * l.t + 47
+
+abbrev pub decreases-print_type_item : goal.decreases-print_type_item
+decreases-print_type_item l = 64 * l.t + 47
+
+abbrev pub decreases-print_any_item : goal.decreases-print_any_item
+decreases-print_any_item l = 64 * l.t + 44
+
 abbrev pub invariant-print_repeated-loop-k : goal.invariant-print_repeated-loop-k
 invariant-print_repeated-loop-k l =
     l.fn.out ++ repeated l.n 0 l.env (item (tree_at (forest l.arena) l.t))
     ≡ l.out ++ repeated (l.n - l.k) l.k l.env (item (tree_at (forest l.arena) l.t))
 
-abbrev pub invariant-print_list-loop-t : goal.invariant-print_list-loop-t
-invariant-print_list-loop-t l =
-    l.fn.out ++ list_from true l.env (items_of (trees_at (forest l.arena) l.items))
-    ≡ l.out ++ list_from l.is_first l.env (items_of (trees_at (forest l.arena) (drop l.t-index l.items)))
+abbrev pub invariant-print_items-loop-t : goal.invariant-print_items-loop-t
+invariant-print_items-loop-t l =
+    (l.fn.out ++ list_from true l.env (items_of (trees_at (forest l.arena) l.items))
+    ≡ l.out ++ list_from (nat_eq (length l.out) (length l.fn.out)) l.env (items_of (trees_at (forest l.arena) (drop l.t-index l.items))))
+    × (length l.fn.out ≤ length l.out)
 
 abbrev pub invariant-print_parts-loop-part : goal.invariant-print_parts-loop-part
 invariant-print_parts-loop-part l =
