@@ -1,2 +1,3 @@
+pub mod Identifiers
 pub mod Digits
 pub mod Fronts
