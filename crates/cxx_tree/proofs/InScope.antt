@@ -44,7 +44,7 @@ unfolding measure
 name-fits bytes f = grind (arith, common_steps)
 
 -- a name that exceeds a limit does so in a scope
-name-limit : (s n : Tree) → (measure n).fits ≡ false → (measure (scoped false s n)).fits ≡ false
+pub name-limit : (s n : Tree) → (measure n).fits ≡ false → (measure (scoped false s n)).fits ≡ false
 unfolding measure
 name-limit s n f = grind (arith, common_steps)
 
