@@ -318,6 +318,7 @@ impl<'a> Reader<'a> {
     }
 
     /// Reads `<builtin-type>`.
+    #[inline(never)]
     pub fn read_builtin(&mut self) -> Result<u32, Stop>
         ensures reads { Gives result self.new (leaves.parse_builtin (state self.old)) }
         ensures keeps { OnOk result (Keeps self.old self.new) }
