@@ -1,3 +1,4 @@
+pub mod Identifiers
 pub mod Digits
 pub mod Fronts
 pub mod Ascii

@@ -1,5 +1,5 @@
 -- Digits, numbers and identifiers as they are written, each with the bytes after it (Itanium C++ ABI 5.1.2).
-use Rattle.std.specs.Prelude.{ℕ, ◌+◌, ◌||◌, nat_lt, Bool, if◌then◌else◌, List, [], length, take, drop, Option, Some, None, codes}
+use Rattle.std.specs.Prelude.{ℕ, ◌+◌, ◌||◌, nat_le, nat_lt, Bool, if◌then◌else◌, List, [], length, take, drop, Option, Some, None, codes}
 use Rattle.abi_scalars.specs.declared.numerals.Radix.{Radix}
 use Rattle.abi_scalars.specs.declared.numerals.Radix.TheVariants.{Decimal}
 use Rattle.abi_scalars.specs.Bytes.{begins, begins_between, begins_digit}
@@ -8,6 +8,10 @@ use Rattle.abi_scalars.specs.Scalars.{front_digits, source_name}
 -- the first n bytes, and those after them
 abbrev pub parted : ℕ → List ℕ → List ℕ × List ℕ
 parted n bytes = (take n bytes, drop n bytes)
+
+-- the same, if there are as many
+abbrev pub front : ℕ → List ℕ → Option (List ℕ × List ℕ)
+front n bytes = if nat_le n (length bytes) then Some (parted n bytes) else None
 
 -- all digits of this base that are next, which may be none: <digits>, and in base 36 those of a <seq-id>
 unfoldable pub digits : Radix → List ℕ → List ℕ × List ℕ

@@ -10,3 +10,4 @@ pub mod Complete
 pub mod EncodingReadings
 pub mod Bound
 pub mod Unbound
+pub mod Heads

@@ -4,3 +4,4 @@ pub mod View
 pub mod Cost
 pub mod Outcome
 pub mod Unbound
+pub mod Heads

@@ -2,6 +2,7 @@
 ghost use Rattle.std.specs.Prelude.{◌≡◌, [], ◌∷◌};
 ghost use Rattle.abi_scalars.specs.Bytes.{begins};
 ghost use Rattle.cxx_grammar.specs.Cases as spec;
+ghost use Rattle.cxx_reader.specs.Heads as heads;
 
 use crate::words::{builtin_of, integer_of};
 use cxx_grammar::cases::{
@@ -39,6 +40,15 @@ pub fn name_case(bytes: &[u8]) -> NameCase
         [b'S', ..] => NameCase::Substitution,
         _ => NameCase::Unqualified,
     }
+}
+
+/// Returns whether the first component of a `<nested-name>` is next, and not a qualifier: a source name, as most are,
+/// `St` or a substitution.
+#[inline(always)]
+pub fn begins_name(bytes: &[u8]) -> bool
+    ensures value { result ≡ heads.begins_name bytes.now }
+{
+    matches!(bytes, [b'S' | b'1'..=b'9', ..])
 }
 
 /// Returns the case of the first component of a `<nested-name>`.

@@ -1,9 +1,9 @@
 //! Nodes whose texts are bytes of a symbol.
 #![tactic(auto, using(cxx_tree::proofs::Making::making, cxx_tree::proofs::Grown::grows), unfolding(cxx_tree::specs::Stored::tree_of, cxx_tree::specs::Stored::plain_tree, cxx_tree::specs::Stored::IsBelow, cxx_tree::specs::Stored::IsPlainBelow))]
 
-ghost use Rattle.std.specs.Prelude.{◌≡◌, ℕ, ◌+◌, ◌<◌, ◌≤◌, ◌++◌, IfOk, IfSome, OnOk, None, option_map};
+ghost use Rattle.std.specs.Prelude.{◌≡◌, ℕ, ◌+◌, ◌<◌, ◌≤◌, ◌++◌, IfOk, IfSome, OnOk, None, option_map, false};
 ghost use Rattle.std.specs.List.{AllByRecursion};
-ghost use Rattle.cxx_tree.specs.Tree.{named};
+ghost use Rattle.cxx_tree.specs.Tree.{named, scoped};
 ghost use Rattle.cxx_tree.specs.Rows as rows;
 ghost use Rattle.cxx_tree.specs.Grows.{Makes};
 ghost use Rattle.cxx_tree.specs.Stored.{forest, size, tree_at, trees_at};
@@ -21,6 +21,17 @@ pub fn name(arena: &mut Arena, text: &[u8]) -> Result<u32, PushError>
 {
     let text = arena.text(text)?;
     arena.push(Node::Plain(Plain::Name(text)))
+}
+
+/// Makes a name in a scope.
+#[inline(always)]
+pub fn name_in(arena: &mut Arena, scope: u32, text: &[u8]) -> Result<u32, PushError>
+    requires scope { scope < size arena.old }
+    ensures makes { Makes result arena.old arena.new (scoped false (tree_at (forest arena.old) scope) (named text.now)) }
+    ensures few { size arena.new ≤ size arena.old + 2 }
+{
+    let text = arena.text(text)?;
+    arena.push_in_scope(scope, text)
 }
 
 /// Makes the literal of an integer: a number, between the texts around it.

@@ -1,10 +1,13 @@
 //! Names (Itanium C++ ABI 5.1.2).
-#![tactic(auto, using(crate::proofs::Rules::productions), unfolding(cxx_tree::specs::Stored::tree_of, cxx_tree::specs::Stored::plain_tree, cxx_tree::specs::Stored::IsBelow, cxx_tree::specs::Stored::IsPlainBelow, crate::specs::Table::stands, crate::specs::Outcome::named_at, crate::specs::Outcome::list_trees, crate::specs::Parser::name_as, crate::specs::Parser::first_as, crate::specs::Parser::component_as))]
+#![tactic(auto, using(crate::proofs::Rules::productions), unfolding(cxx_tree::specs::Stored::tree_of, cxx_tree::specs::Stored::plain_tree, cxx_tree::specs::Stored::IsBelow, cxx_tree::specs::Stored::IsPlainBelow, crate::specs::Table::stands, crate::specs::Outcome::named_at, crate::specs::Outcome::list_trees, crate::specs::Parser::name_as, crate::specs::Heads::head_as, crate::specs::Parser::component_as))]
 
 ghost use Rattle.std.specs.Prelude.{◌≡◌, ℕ, ◌<◌, ◌≤◌, ◌∷◌, [], codes, length, true, false, Option, Some, OnOk, IfOk, IfSome, option_map};
 ghost use Rattle.cxx_grammar.specs.State as state_spec;
 ghost use Rattle.cxx_grammar.specs.Grammar as grammar;
 ghost use Rattle.cxx_reader.specs.Parser as spec;
+ghost use Rattle.cxx_reader.specs.Heads as heads;
+ghost use Rattle.cxx_grammar.specs.Leaves as leaves;
+ghost use Rattle.cxx_tree.specs.declared.kinds.RefQual.TheVariants as refqual;
 ghost use Rattle.cxx_reader.specs.Table.{IsNode, stands};
 ghost use Rattle.cxx_tree.specs.Rows as rows;
 ghost use Rattle.cxx_tree.specs.Stored.{forest, size, tree_of, IsBelow, IsText, text_at};
@@ -15,9 +18,10 @@ ghost use Rattle.cxx_reader.specs.Cost.{Pays, Owes};
 
 use crate::args::read_args;
 use crate::bases::{base_name, is_param, is_with_args, short_std};
-use crate::cases::{begins, component_case, first_case, name_case};
+use crate::cases::{begins, begins_name, component_case, first_case, name_case};
 use crate::reader::{Info, Named, Reader};
 use crate::stop::Stop;
+use abi_scalars::texts::begins_source;
 use cxx_grammar::cases::{ComponentCase, FirstCase, NameCase};
 use cxx_tree::{Cv, Node, Plain, RefQual, Text};
 
@@ -34,20 +38,28 @@ fn info_of(cv: Cv, ref_qual: RefQual) -> Info
     }
 }
 
+/// What is learned of a name without qualifiers.
+#[inline(always)]
+fn unqualified() -> Info
+    ensures value { result ≡ outcome.info_of state_spec.no_cv refqual.None }
+{
+    info_of(
+        Cv {
+            is_const: false,
+            is_volatile: false,
+            is_restrict: false,
+        },
+        RefQual::None,
+    )
+}
+
 /// A name of which nothing is learned.
 fn plain(node: u32) -> Named
     ensures value { result ≡ outcome.plain_at node }
 {
     Named {
         node,
-        info: info_of(
-            Cv {
-                is_const: false,
-                is_volatile: false,
-                is_restrict: false,
-            },
-            RefQual::None,
-        ),
+        info: unqualified(),
     }
 }
 
@@ -170,6 +182,7 @@ fn read_unqualified(reader: &mut Reader, depth: usize) -> Result<Named, Stop>
 }
 
 /// Reads `<nested-name> ::= N [<CV-qualifiers>] [<ref-qualifier>] <component>+ E`.
+#[tactic(auto, using(crate::proofs::Heads::nested), unfolding(crate::specs::Table::stands, crate::specs::Outcome::named_at))]
 #[cycle(reader)]
 #[inline(always)]
 fn read_nested_name(reader: &mut Reader, depth: usize) -> Result<Named, Stop>
@@ -181,101 +194,90 @@ fn read_nested_name(reader: &mut Reader, depth: usize) -> Result<Named, Stop>
     ensures leaves { OnOk result (Pays 2 2 reader.old reader.new) }
 {
     reader.skip(1);
-    let cv = reader.read_cv();
-    let ref_qual = reader.read_ref_qual();
-    read_first(reader, depth, info_of(cv, ref_qual))
+    let info = reader.read_info();
+    let name = tri!(read_first(reader, depth, info));
+    read_components(reader, depth, name)
 }
 
-// Reads the components, after the qualifiers.
+// Reads the first component, after the qualifiers. If it is `St` or a substitution, the component in this scope is read
+// too.
 #[cycle(reader)]
+#[inline(always)]
 fn read_first(reader: &mut Reader, depth: usize, info: Info) -> Result<Named, Stop>
     requires inherited { info.inherited ≡ None }
-    ensures reads { GivesNamed result reader.new (spec.parse_first (spec.parse_arg depth) (spec.parse_name depth)
+    ensures reads { GivesNamed result reader.new (heads.parse_head (spec.parse_arg depth) (spec.parse_name depth)
         (info_at reader.old.tables info) (state reader.old)) }
     ensures keeps { OnOk result (Keeps reader.old reader.new) }
     ensures takes { OnOk result (length reader.new.rest.now < length reader.old.rest.now) }
     ensures pays { Pays 0 0 reader.old reader.new }
-    ensures leaves { OnOk result (Pays 2 2 reader.old reader.new) }
+    ensures leaves { OnOk result (Pays 1 2 reader.old reader.new) }
 {
     match first_case(reader.rest) {
         FirstCase::Std => read_first_std(reader, depth, info),
         FirstCase::Substitution => read_first_substitution(reader, depth, info),
-        FirstCase::Param => read_first_param(reader, depth, info),
-        FirstCase::Unqualified => read_first_base(reader, depth, info),
+        FirstCase::Param => read_first_param(reader, info),
+        FirstCase::Unqualified => read_first_base(reader, info),
     }
 }
 
 #[cycle(reader)]
+#[inline(always)]
 fn read_first_std(reader: &mut Reader, depth: usize, info: Info) -> Result<Named, Stop>
     requires some { 0 < length reader.old.rest.now }
     requires inherited { info.inherited ≡ None }
-    ensures reads { GivesNamed result reader.new (spec.parse_after (spec.parse_arg depth) (spec.parse_name depth)
+    ensures reads { GivesNamed result reader.new (spec.parse_component (spec.parse_arg depth) (spec.parse_name depth)
         (spec.with_info (info_at reader.old.tables info) grammar.std) (state_spec.skip 2 (state reader.old))) }
     ensures keeps { OnOk result (Keeps reader.old reader.new) }
     ensures takes { OnOk result (length reader.new.rest.now < length reader.old.rest.now) }
     ensures pays { Pays 0 0 reader.old reader.new }
-    ensures leaves { OnOk result (Pays 2 2 reader.old reader.new) }
+    ensures leaves { OnOk result (Pays 1 2 reader.old reader.new) }
 {
     reader.skip(2);
     let node = tri!(reader.make_std());
-    read_after(reader, depth, Named { node, info })
+    read_component(reader, depth, Named { node, info })
 }
 
 #[cycle(reader)]
+#[inline(always)]
 fn read_first_substitution(reader: &mut Reader, depth: usize, info: Info) -> Result<Named, Stop>
     requires inherited { info.inherited ≡ None }
-    ensures reads { GivesNamed result reader.new (spec.first_substitution (spec.parse_arg depth) (spec.parse_name depth)
-        (info_at reader.old.tables info) (state reader.old)) }
+    ensures reads { GivesNamed result reader.new (heads.head_substitution (spec.parse_arg depth)
+        (spec.parse_name depth) (info_at reader.old.tables info) (state reader.old)) }
     ensures keeps { OnOk result (Keeps reader.old reader.new) }
     ensures takes { OnOk result (length reader.new.rest.now < length reader.old.rest.now) }
     ensures pays { Pays 0 0 reader.old reader.new }
-    ensures leaves { OnOk result (Pays 2 2 reader.old reader.new) }
+    ensures leaves { OnOk result (Pays 1 2 reader.old reader.new) }
 {
     let node = tri!(reader.read_substitution());
-    read_after(reader, depth, Named { node, info })
+    read_component(reader, depth, Named { node, info })
 }
 
-#[cycle(reader)]
-fn read_first_param(reader: &mut Reader, depth: usize, info: Info) -> Result<Named, Stop>
+#[inline(always)]
+fn read_first_param(reader: &mut Reader, info: Info) -> Result<Named, Stop>
     requires inherited { info.inherited ≡ None }
-    ensures reads { GivesNamed result reader.new (spec.first_param (spec.parse_arg depth) (spec.parse_name depth)
-        (info_at reader.old.tables info) (state reader.old)) }
+    ensures reads { GivesNamed result reader.new (heads.head_param (info_at reader.old.tables info)
+        (state reader.old)) }
     ensures keeps { OnOk result (Keeps reader.old reader.new) }
     ensures takes { OnOk result (length reader.new.rest.now < length reader.old.rest.now) }
     ensures pays { Pays 0 0 reader.old reader.new }
-    ensures leaves { OnOk result (Pays 2 2 reader.old reader.new) }
+    ensures leaves { OnOk result (Pays 1 2 reader.old reader.new) }
 {
     let node = tri!(reader.read_template_param());
-    read_components(reader, depth, Named { node, info })
+    Ok(Named { node, info })
 }
 
-#[cycle(reader)]
-fn read_first_base(reader: &mut Reader, depth: usize, info: Info) -> Result<Named, Stop>
+#[inline(always)]
+fn read_first_base(reader: &mut Reader, info: Info) -> Result<Named, Stop>
     requires inherited { info.inherited ≡ None }
-    ensures reads { GivesNamed result reader.new (spec.first_base (spec.parse_arg depth) (spec.parse_name depth)
-        (info_at reader.old.tables info) (state reader.old)) }
+    ensures reads { GivesNamed result reader.new (heads.head_base (info_at reader.old.tables info)
+        (state reader.old)) }
     ensures keeps { OnOk result (Keeps reader.old reader.new) }
     ensures takes { OnOk result (length reader.new.rest.now < length reader.old.rest.now) }
     ensures pays { Pays 0 0 reader.old reader.new }
-    ensures leaves { OnOk result (Pays 2 2 reader.old reader.new) }
+    ensures leaves { OnOk result (Pays 1 2 reader.old reader.new) }
 {
     let node = tri!(reader.read_base());
-    read_components(reader, depth, Named { node, info })
-}
-
-// Reads a component after a scope, and what follows it.
-#[cycle(reader)]
-fn read_after(reader: &mut Reader, depth: usize, scope: Named) -> Result<Named, Stop>
-    requires named { IsNamed reader.old.tables scope }
-    ensures reads { GivesNamed result reader.new (spec.parse_after (spec.parse_arg depth) (spec.parse_name depth)
-        (named_at reader.old.tables scope) (state reader.old)) }
-    ensures keeps { OnOk result (Keeps reader.old reader.new) }
-    ensures takes { OnOk result (length reader.new.rest.now < length reader.old.rest.now) }
-    ensures pays { Pays 0 0 reader.old reader.new }
-    ensures leaves { OnOk result (Pays 2 2 reader.old reader.new) }
-{
-    let name = tri!(read_component(reader, depth, scope));
-    read_components(reader, depth, name)
+    Ok(Named { node, info })
 }
 
 // Reads what follows a component: other components, up to the `E`.
@@ -302,6 +304,7 @@ fn read_components(reader: &mut Reader, depth: usize, name: Named) -> Result<Nam
 
 // Saves a component, and reads the next one with its `M`.
 #[cycle(reader)]
+#[inline(always)]
 fn read_next(reader: &mut Reader, depth: usize, scope: Named) -> Result<Named, Stop>
     requires named { IsNamed reader.old.tables scope }
     ensures reads { GivesNamed result reader.new (spec.parse_next (spec.parse_arg depth) (spec.parse_name depth)
@@ -317,9 +320,47 @@ fn read_next(reader: &mut Reader, depth: usize, scope: Named) -> Result<Named, S
     Ok(name)
 }
 
+// Reads a component after others. A source name, as most are, is read at once.
+#[cycle(reader)]
+#[inline(always)]
+fn read_component(reader: &mut Reader, depth: usize, scope: Named) -> Result<Named, Stop>
+    requires named { IsNamed reader.old.tables scope }
+    ensures reads { GivesNamed result reader.new (spec.parse_component (spec.parse_arg depth) (spec.parse_name depth)
+        (named_at reader.old.tables scope) (state reader.old)) }
+    ensures keeps { OnOk result (Keeps reader.old reader.new) }
+    ensures takes { OnOk result (length reader.new.rest.now < length reader.old.rest.now) }
+    ensures pays { Pays 0 0 reader.old reader.new }
+    ensures leaves { OnOk result (Pays 1 2 reader.old reader.new) }
+{
+    if begins_source(reader.rest) {
+        return read_scoped_source(reader, scope);
+    }
+    read_other_component(reader, depth, scope)
+}
+
+// Reads a source name in a scope.
+#[inline(always)]
+fn read_scoped_source(reader: &mut Reader, scope: Named) -> Result<Named, Stop>
+    requires named { IsNamed reader.old.tables scope }
+    ensures reads { GivesNamed result reader.new (heads.named_in (named_at reader.old.tables scope)
+        (state reader.old)) }
+    ensures keeps { OnOk result (Keeps reader.old reader.new) }
+    ensures takes { OnOk result (length reader.new.rest.now < length reader.old.rest.now) }
+    ensures pays { Pays 0 0 reader.old reader.new }
+    ensures leaves { OnOk result (Pays 1 2 reader.old reader.new) }
+{
+    let node = tri!(reader.read_source_name_in(scope.node));
+    let info = Info {
+        ends_with_args: false,
+        ..scope.info
+    };
+    Ok(Named { node, info })
+}
+
 // Reads a component after others.
 #[cycle(reader)]
-fn read_component(reader: &mut Reader, depth: usize, scope: Named) -> Result<Named, Stop>
+#[inline(never)]
+fn read_other_component(reader: &mut Reader, depth: usize, scope: Named) -> Result<Named, Stop>
     requires named { IsNamed reader.old.tables scope }
     ensures reads { GivesNamed result reader.new (spec.parse_component (spec.parse_arg depth) (spec.parse_name depth)
         (named_at reader.old.tables scope) (state reader.old)) }
@@ -443,6 +484,38 @@ fn make_ctor(
 }
 
 impl<'a> Reader<'a> {
+    // Reads `[<CV-qualifiers>] [<ref-qualifier>]`. Returns what is learned of a name by them.
+    #[tactic(auto, using(crate::proofs::Heads::heads))]
+    #[inline(always)]
+    fn read_info(&mut self) -> Info
+        ensures value { info_at self.new.tables result ≡ grammar.info_at (state self.old) }
+        ensures inherited { result.inherited ≡ None }
+        ensures state { state self.new ≡ leaves.past_ref (leaves.past_cv (state self.old)) }
+        ensures tables { self.new.tables ≡ self.old.tables }
+        ensures replaced { self.new.replaced ≡ self.old.replaced }
+        ensures within { length self.new.rest.now ≤ length self.old.rest.now }
+    {
+        if begins_name(self.rest) {
+            return unqualified();
+        }
+        self.read_qualifiers()
+    }
+
+    // Reads `[<CV-qualifiers>] [<ref-qualifier>]`. Returns what is learned of a name by them.
+    #[inline(never)]
+    fn read_qualifiers(&mut self) -> Info
+        ensures value { info_at self.new.tables result ≡ grammar.info_at (state self.old) }
+        ensures inherited { result.inherited ≡ None }
+        ensures state { state self.new ≡ leaves.past_ref (leaves.past_cv (state self.old)) }
+        ensures tables { self.new.tables ≡ self.old.tables }
+        ensures replaced { self.new.replaced ≡ self.old.replaced }
+        ensures within { length self.new.rest.now ≤ length self.old.rest.now }
+    {
+        let cv = self.read_cv();
+        let ref_qual = self.read_ref_qual();
+        info_of(cv, ref_qual)
+    }
+
     // Makes the name `std`.
     fn make_std(&mut self) -> Result<u32, Stop>
         ensures reads { Gives result self.new (Some (grammar.std, state self.old)) }

@@ -1,12 +1,14 @@
 //! The state of the readers, and what is read by itself.
 #![tactic(auto, using(crate::proofs::Kept::readers), unfolding(cxx_grammar::specs::Leaves::base_as, cxx_tree::specs::Stored::tree_of, cxx_tree::specs::Stored::plain_tree, cxx_tree::specs::Stored::IsBelow, cxx_tree::specs::Stored::IsPlainBelow))]
 
-ghost use Rattle.std.specs.Prelude.{◌≡◌, ℕ, ◌-◌, ◌<◌, ◌≤◌, [], ◌∷◌, codes, length, true, IfOk, IfSome, OnOk, option_map};
+ghost use Rattle.std.specs.Prelude.{◌≡◌, ℕ, ◌-◌, ◌<◌, ◌≤◌, [], ◌∷◌, codes, length, true, false, IfOk, IfSome, OnOk, option_map};
 ghost use Rattle.abi_scalars.specs.Bytes.{begins};
 ghost use Rattle.cxx_tree.specs.Stored.{forest, size, tree_of, IsBelow};
+ghost use Rattle.cxx_tree.specs.Tree.{std_name};
 ghost use Rattle.cxx_grammar.specs.State as spec;
 ghost use Rattle.cxx_grammar.specs.Leaves as leaves;
 ghost use Rattle.cxx_reader.specs.Table.{IsNode, stands};
+ghost use Rattle.cxx_reader.specs.Heads as heads;
 ghost use Rattle.cxx_reader.specs.Outcome.{state, Keeps, Gives};
 ghost use Rattle.cxx_reader.specs.Cost.{Pays, Owes};
 
@@ -15,7 +17,7 @@ use crate::stop::Stop;
 use crate::tables::Tables;
 use crate::words::{builtin_of, d_builtin_of, operator_of};
 use abi_scalars::numerals::{Radix, index_of};
-use abi_scalars::texts::{identifier, source_text};
+use abi_scalars::texts::{begins_source, identifier, source_text};
 use cxx_grammar::cases::BaseCase;
 use cxx_tree::{Cv, Node, Plain, RefQual, Std};
 use std::alloc::Global;
@@ -159,6 +161,23 @@ impl<'a> Reader<'a> {
         self.tables.make_name(source_text(name))
     }
 
+    /// Reads a `<source-name>` in a scope.
+    #[inline(always)]
+    pub fn read_source_name_in(&mut self, scope: u32) -> Result<u32, Stop>
+        requires scope { IsNode self.old.tables scope }
+        ensures reads { Gives result self.new (heads.source_in (stands self.old.tables scope) (state self.old)) }
+        ensures keeps { OnOk result (Keeps self.old self.new) }
+        ensures takes { OnOk result (length self.new.rest.now < length self.old.rest.now) }
+        ensures pays { Pays 0 0 self.old self.new }
+        ensures leaves { OnOk result (Pays 2 2 self.old self.new) }
+    {
+        let Some((name, rest)) = identifier(self.rest) else {
+            return Err(Stop::Unreadable);
+        };
+        self.rest = rest;
+        self.tables.make_name_in(scope, source_text(name))
+    }
+
     /// Reads a `<source-name>` after n bytes, and puts a word in front of it.
     fn read_prefixed(&mut self, word: &'static [u8], n: usize) -> Result<u32, Stop>
         ensures reads { Gives result self.new (leaves.parse_prefixed word.now n (state self.old)) }
@@ -192,6 +211,21 @@ impl<'a> Reader<'a> {
     /// Reads a name without a scope.
     #[inline(always)]
     pub fn read_base(&mut self) -> Result<u32, Stop>
+        ensures reads { Gives result self.new (leaves.parse_base (state self.old)) }
+        ensures keeps { OnOk result (Keeps self.old self.new) }
+        ensures takes { OnOk result (length self.new.rest.now < length self.old.rest.now) }
+        ensures pays { Pays 0 0 self.old self.new }
+        ensures leaves { OnOk result (Pays 2 2 self.old self.new) }
+    {
+        if begins_source(self.rest) {
+            return self.read_source_name();
+        }
+        self.read_other_base()
+    }
+
+    // Reads a name without a scope that isn't a source name, or has an `L`.
+    #[inline(never)]
+    fn read_other_base(&mut self) -> Result<u32, Stop>
         ensures reads { Gives result self.new (leaves.parse_base (state self.old)) }
         ensures keeps { OnOk result (Keeps self.old self.new) }
         ensures takes { OnOk result (length self.new.rest.now < length self.old.rest.now) }
@@ -232,12 +266,21 @@ impl<'a> Reader<'a> {
     {
         self.skip(1);
         match std_of(self.rest) {
-            Some(std) => {
-                self.skip(1);
-                self.make(Node::Plain(Plain::StdName(std, false)))
-            }
+            Some(std) => self.read_std(std),
             None => self.read_saved(),
         }
+    }
+
+    // Makes an abbreviation of std, and skips its letter.
+    #[inline(never)]
+    fn read_std(&mut self, std: Std) -> Result<u32, Stop>
+        ensures reads { Gives result self.new (spec.make (std_name std false) (spec.skip 1 (state self.old))) }
+        ensures keeps { OnOk result (Keeps self.old self.new) }
+        ensures takes { OnOk result (length self.new.rest.now ≡ length self.old.rest.now - 1) }
+        ensures owes { Owes 1 0 self.old self.new }
+    {
+        self.skip(1);
+        self.make(Node::Plain(Plain::StdName(std, false)))
     }
 
     /// Reads `[<seq-id>] _`.
@@ -275,6 +318,7 @@ impl<'a> Reader<'a> {
     }
 
     /// Reads `<builtin-type>`.
+    #[inline(never)]
     pub fn read_builtin(&mut self) -> Result<u32, Stop>
         ensures reads { Gives result self.new (leaves.parse_builtin (state self.old)) }
         ensures keeps { OnOk result (Keeps self.old self.new) }

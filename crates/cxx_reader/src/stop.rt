@@ -7,10 +7,10 @@ use cxx_tree::PushError;
 /// Why nothing is read.
 #[derive(Clone, Copy, Drop)]
 pub enum Stop {
-    /// The bytes have no reading within the limits.
-    Unreadable,
     /// An allocation failed.
     Memory,
+    /// The bytes have no reading within the limits.
+    Unreadable,
 }
 
 /// Returns what a call that makes a node gives the readers.

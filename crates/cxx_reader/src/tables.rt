@@ -1,8 +1,8 @@
 //! Nodes, those that are saved, and those of lists that are read.
 #![tactic(auto, using(crate::proofs::Kept::tables), unfolding(crate::specs::Table::stands, crate::specs::Table::saved_trees, cxx_tree::specs::Stored::tree_of, cxx_tree::specs::Stored::plain_tree, cxx_tree::specs::Stored::IsBelow, cxx_tree::specs::Stored::IsPlainBelow, cxx_tree::specs::Counts::Row))]
 
-ghost use Rattle.std.specs.Prelude.{◌≡◌, ℕ, ◌+◌, ◌<◌, ◌≤◌, List, [], ◌∷◌, ◌++◌, length, codes, map, drop, take, nat_eq, IfOk, OnOk, OnErr, IsOkUnless, IfSome, None, MatchOption, option_map, slice_get};
-ghost use Rattle.cxx_tree.specs.Tree.{named, leaf};
+ghost use Rattle.std.specs.Prelude.{◌≡◌, ℕ, ◌+◌, ◌<◌, ◌≤◌, List, [], ◌∷◌, ◌++◌, length, codes, map, drop, take, nat_eq, IfOk, OnOk, OnErr, IsOkUnless, IfSome, None, MatchOption, false, option_map, slice_get};
+ghost use Rattle.cxx_tree.specs.Tree.{named, leaf, scoped};
 ghost use Rattle.cxx_tree.specs.Rows as rows;
 ghost use Rattle.cxx_tree.specs.declared.kinds.Prec.TheVariants.{Primary};
 ghost use Rattle.cxx_tree.specs.Grows.{Grows};
@@ -15,7 +15,7 @@ ghost use Rattle.cxx_reader.specs.declared.stop.Stop.TheVariants.{Memory};
 ghost use Rattle.cxx_reader.specs.Table.{IsNode, MakesIn, Stays, stands, saved_trees, taken};
 ghost use Rattle.cxx_reader.specs.Cost.{AddsAtMost};
 
-use crate::made::{function, integer, name, typed_number};
+use crate::made::{function, integer, name, name_in, typed_number};
 use crate::stop::{Stop, stopped};
 use cxx_nodes::{ctor_dtor, prefixed};
 use cxx_tree::bind::{Binding, Rest, bind};
@@ -137,6 +137,16 @@ impl Tables {
         ensures adds { AddsAtMost 1 0 0 self.old self.new }
     {
         stopped(name(&mut self.arena, text))
+    }
+
+    /// Makes a name in a scope.
+    #[inline(always)]
+    pub fn make_name_in(&mut self, scope: u32, text: &[u8]) -> Result<u32, Stop>
+        requires scope { IsNode self.old scope }
+        ensures makes { MakesIn result self.old self.new (scoped false (stands self.old scope) (named text.now)) }
+        ensures adds { AddsAtMost 2 0 0 self.old self.new }
+    {
+        stopped(name_in(&mut self.arena, scope, text))
     }
 
     /// Makes a name with a word in front of it.

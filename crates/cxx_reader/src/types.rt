@@ -1,4 +1,6 @@
 //! Types (Itanium C++ ABI 5.1.5).
+//!
+//! The readers of the cases of a type aren't inlined, so that `read_type` saves no registers but passes on its arguments.
 #![tactic(auto, using(crate::proofs::Rules::productions), unfolding(cxx_tree::specs::Stored::tree_of, cxx_tree::specs::Stored::plain_tree, cxx_tree::specs::Stored::IsBelow, cxx_tree::specs::Stored::IsPlainBelow, crate::specs::Table::stands, crate::specs::Outcome::list_trees, crate::specs::Outcome::named_at, crate::specs::Parser::type_as))]
 
 ghost use Rattle.std.specs.Prelude.{◌≡◌, ℕ, ◌<◌, ◌≤◌, length, OnOk};
@@ -45,6 +47,7 @@ pub fn read_type(reader: &mut Reader, depth: usize) -> Result<u32, Stop>
 
 // Reads a `<qualified-type>`, and saves it.
 #[cycle(reader)]
+#[inline(never)]
 fn read_saved_type(reader: &mut Reader, depth: usize) -> Result<u32, Stop>
     requires some { length (leaves.past_cv (state reader.old)).rest < length reader.old.rest.now }
     ensures reads { Gives result reader.new (spec.parse_saved_type (spec.parse_qualified depth) (state reader.old)) }
@@ -92,6 +95,7 @@ fn read_qualified(reader: &mut Reader, depth: usize) -> Result<u32, Stop>
 
 // Reads `Dp <type>`.
 #[cycle(reader)]
+#[inline(never)]
 fn read_expansion(reader: &mut Reader, depth: usize) -> Result<u32, Stop>
     requires some { 0 < length reader.old.rest.now }
     ensures reads { Gives result reader.new (spec.parse_around (spec.parse_type depth) expansion 2
@@ -108,6 +112,7 @@ fn read_expansion(reader: &mut Reader, depth: usize) -> Result<u32, Stop>
 
 // Reads `P <type>`.
 #[cycle(reader)]
+#[inline(never)]
 fn read_pointer(reader: &mut Reader, depth: usize) -> Result<u32, Stop>
     requires some { 0 < length reader.old.rest.now }
     ensures reads { Gives result reader.new (spec.parse_around (spec.parse_type depth) pointer 1
@@ -124,6 +129,7 @@ fn read_pointer(reader: &mut Reader, depth: usize) -> Result<u32, Stop>
 
 // Reads `R <type>` or `O <type>`.
 #[cycle(reader)]
+#[inline(never)]
 fn read_reference(reader: &mut Reader, depth: usize, is_lvalue: bool) -> Result<u32, Stop>
     requires some { 0 < length reader.old.rest.now }
     ensures reads { Gives result reader.new (spec.parse_around (spec.parse_type depth) (spec.reference_to is_lvalue) 1
@@ -140,6 +146,7 @@ fn read_reference(reader: &mut Reader, depth: usize, is_lvalue: bool) -> Result<
 
 // Reads `<template-param> [<template-args>]`.
 #[cycle(reader)]
+#[inline(never)]
 fn read_param_type(reader: &mut Reader, depth: usize) -> Result<u32, Stop>
     ensures reads { Gives result reader.new (spec.parse_param_type (spec.parse_arg depth) (state reader.old)) }
     ensures keeps { OnOk result (Keeps reader.old reader.new) }
@@ -154,6 +161,7 @@ fn read_param_type(reader: &mut Reader, depth: usize) -> Result<u32, Stop>
 
 // Reads `<substitution> [<template-args>]`.
 #[cycle(reader)]
+#[inline(never)]
 fn read_substituted_type(reader: &mut Reader, depth: usize) -> Result<u32, Stop>
     ensures reads { Gives result reader.new (spec.parse_substituted_type (spec.parse_arg depth) (state reader.old)) }
     ensures keeps { OnOk result (Keeps reader.old reader.new) }
@@ -183,6 +191,7 @@ fn read_type_args(reader: &mut Reader, depth: usize, t: u32) -> Result<u32, Stop
 
 // Reads `<class-enum-type> ::= <name>`, and saves it.
 #[cycle(reader)]
+#[inline(never)]
 fn read_class(reader: &mut Reader, depth: usize) -> Result<u32, Stop>
     ensures reads { Gives result reader.new (spec.parse_class (spec.parse_name depth) (state reader.old)) }
     ensures keeps { OnOk result (Keeps reader.old reader.new) }

@@ -1,14 +1,14 @@
 //! The counts of nodes.
 #![tactic(auto, using(crate::proofs::Measured::measured), unfolding(crate::specs::Stored::tree_of, crate::specs::Stored::plain_tree, crate::specs::Stored::declaration_tree, crate::specs::Stored::IsBelow, crate::specs::Stored::IsPlainBelow, crate::specs::Stored::IsDeclarationBelow, crate::specs::Measure::measure, crate::specs::Counts::part_and))]
 
-ghost use Rattle.std.specs.Prelude.{◌≡◌, ℕ, ◌+◌, ◌<◌, ◌≤◌, length, false, max, Bool};
+ghost use Rattle.std.specs.Prelude.{◌≡◌, ℕ, ◌+◌, ◌<◌, ◌≤◌, length, false, max, Bool, IfSome};
 ghost use Rattle.std.specs.List.{AllByRecursion};
 ghost use Rattle.cxx_tree.specs.Measure as spec;
-ghost use Rattle.cxx_tree.specs.Counts.{Row, Tallied, part_and};
+ghost use Rattle.cxx_tree.specs.Counts.{Row, Tallied, AreExact, part_and};
 ghost use Rattle.cxx_tree.specs.Stored.{forest, size, tree_of, plain_tree, declaration_tree, tree_at, option_at, trees_in, parts_in, text_at, IsBelow, IsPlainBelow, IsDeclarationBelow, IsListBelow, IsPartsBelow, IsPartBelow, IsOptionBelow, IsText};
 
 use crate::arena::Arena;
-use crate::counts::{Measure, around, at_most, join, nothing, packed, param, repeated};
+use crate::counts::{MAX_WORK, Measure, around, at_most, join, nothing, packed, param, repeated};
 use crate::kinds::Manner;
 use crate::node::{Declaration, List, Node, Part, Parts, Plain, Text};
 
@@ -103,14 +103,17 @@ fn and_parts(arena: &Arena, before: Measure, parts: Parts) -> Measure
     join(before, of_parts(arena, false, parts))
 }
 
-// The number of bytes of a text.
+/// Returns the number of bytes of a text.
 #[inline(always)]
-fn text_len(arena: &Arena, text: Text) -> usize
+pub fn text_len(arena: &Arena, text: Text) -> usize
     requires within { IsText arena.now.held text }
     ensures value { result ≡ length (text_at arena.now.held text) }
     ensures small { result < 9223372036854775808 }
 {
-    arena.bytes(text).len()
+    match text {
+        Text::Fixed(bytes) => bytes.len(),
+        Text::Stored(range) => (range.to - range.from) as usize,
+    }
 }
 
 // The counts of two nodes, one after the other. Each is within the limits, so that no sum of their works is above
@@ -141,6 +144,42 @@ fn pair(arena: &Arena, i: u32, j: u32) -> Measure
     }
 }
 
+/// Returns the counts of a name of so many bytes, or `None` if it isn't within the limits.
+#[tactic(auto, unfolding(crate::specs::Counts::Row, crate::specs::Counts::AreExact, crate::specs::Counts::Tallied))]
+#[inline(always)]
+pub fn of_name(len: usize) -> Option<Measure>
+    ensures counts { Tallied result (spec.around (1 + len) spec.nothing) }
+    ensures small { IfSome result (λ _. len < 1048576) }
+{
+    if len >= MAX_WORK as usize {
+        return None;
+    }
+    Some(Measure {
+        height: 1,
+        each: len as u32 + 1,
+        ..nothing()
+    })
+}
+
+/// Returns the counts of a name of so many bytes in a scope, or `None` if it isn't within the limits.
+#[tactic(auto, unfolding(crate::specs::Counts::Row, crate::specs::Counts::AreExact))]
+#[inline(always)]
+pub fn in_scope(scope: Measure, len: usize) -> Option<Measure>
+    requires small { len < 1048576 }
+    requires few { scope.each ≤ 1048576 }
+    ensures counts { (m : spec.Measure) → Row scope m → AreExact m
+        → Tallied result (spec.around 1 (spec.join m (spec.around (1 + len) spec.nothing))) }
+{
+    around(
+        1,
+        Measure {
+            height: scope.height.max(1),
+            each: scope.each + len as u32 + 1,
+            ..scope
+        },
+    )
+}
+
 // The counts of a node whose text has one side, or `None` if it isn't within the limits.
 #[inline(always)]
 fn of_plain(arena: &Arena, plain: Plain) -> Option<Measure>
@@ -148,7 +187,7 @@ fn of_plain(arena: &Arena, plain: Plain) -> Option<Measure>
     ensures counts { Tallied result (spec.measure (plain_tree arena.now.held (forest arena.now) plain)) }
 {
     match plain {
-        Plain::Name(text) => around(1 + text_len(arena, text), nothing()),
+        Plain::Name(text) => of_name(text_len(arena, text)),
         Plain::Leaf(_, a, b) => {
             let long = text_len(arena, a).max(text_len(arena, b));
             around(1 + long, nothing())

@@ -1,4 +1,4 @@
-use Rattle.std.proofs.Common.{ℕ, ◌≡◌, ◌+◌, ◌<◌, ◌≤◌, List, [], ◌∷◌, ◌++◌, ◌∙◌, length, map, drop, take, sym, ap, subst, arith, rules, refl, Option, Some, None, true, false, length-append, length-drop}
+use Rattle.std.proofs.Common.{ℕ, ◌≡◌, ◌<◌, List, [], ◌∷◌, ◌++◌, ◌∙◌, length, map, drop, take, sym, ap, subst, arith, rules, refl, Some, length-append, length-drop}
 use Rattle.std.specs.List.{AllByRecursion}
 use Rattle.cxx_tree.specs.Tree.{Tree}
 use Rattle.cxx_tree.specs.Grows.{Grows}
@@ -8,12 +8,13 @@ use Rattle.cxx_grammar.specs.Cases.{is_args_end}
 use Rattle.cxx_grammar.specs.State.{State, skip}
 use Rattle.cxx_reader.specs.declared.reader.Reader.{Reader}
 use Rattle.cxx_reader.specs.Parser.{parse_arg, parse_name, parse_list}
-use Rattle.cxx_reader.specs.Table.{Table, IsNode, stands, saved_trees}
-use Rattle.cxx_reader.specs.Outcome.{state, IsNamed, named_at}
+use Rattle.cxx_reader.specs.Table.{Table, IsNode, stands}
+use Rattle.cxx_reader.specs.Outcome.{state, IsNamed, named_at, GivesNamed}
 use Rattle.cxx_reader.proofs.Kept.{Keeps-trans, Keeps-tables, Keeps-after}
 use Rattle.cxx_reader.proofs.Costs.{Pays-tables, Pays-trans, Pays-add}
 use Rattle.cxx_reader.proofs.Turns.{ListSoFar, items_more, components_more, components_end}
 use Rattle.cxx_reader.proofs.Lists.{list_start, none-below, take-length, take-push, one-more, one-more-below, args_stop, components_stop, close_gives}
+use Rattle.cxx_reader.proofs.Heads.{source_component}
 use Rattle.cxx_reader.proofs.+reader.Goals as goal
 
 pub args::read_args-loop-reader-init : goal.args::read_args-loop-reader-init
@@ -106,6 +107,12 @@ names::read_components-returns-clause-reads t c =
           ∙ ap (λ (x : Table). Some (named_at x last, skip 1 (state c.loop-reader.reader))) back
           ∙ ap (λ (s : State). Some (named_at c.skip.new.self.tables last, s)) (sym c.skip.ensures.state),
     )
+
+pub names::read_component-returns-then-begins_source-clause-reads : goal.names::read_component-returns-then-begins_source-clause-reads
+names::read_component-returns-then-begins_source-clause-reads t c =
+    let s = state c.args.reader.now in
+    let is = source_component (parse_arg c.args.depth) (parse_name c.args.depth) (named_at c.args.reader.now.tables c.args.scope) s (sym c.begins_source.ensures.value ∙ c.if-begins_source.true) in
+    subst (GivesNamed c.read_scoped_source.result c.read_scoped_source.new.reader) (sym is) c.read_scoped_source.ensures.reads
 
 pub names::read_in_std-returns-clause-keeps : goal.names::read_in_std-returns-clause-keeps
 names::read_in_std-returns-clause-keeps t c =

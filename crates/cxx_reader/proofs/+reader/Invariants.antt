@@ -1,4 +1,4 @@
-use Rattle.std.proofs.Common.{ℕ, ◌+◌, ◌*◌, ◌≡◌, ◌≤◌, length, map, drop, take}
+use Rattle.std.proofs.Common.{◌+◌, ◌*◌, ◌≡◌, ◌≤◌, length, map, drop, take}
 use Rattle.std.specs.List.{AllByRecursion}
 use Rattle.cxx_tree.specs.Grows.{Grows}
 use Rattle.cxx_grammar.specs.Cases.{is_args_end}
@@ -47,31 +47,25 @@ abbrev pub decreases-names::read_nested_name : goal.decreases-names::read_nested
 decreases-names::read_nested_name l = 11 * l.depth + 10
 
 abbrev pub decreases-names::read_first : goal.decreases-names::read_first
-decreases-names::read_first l = 11 * l.depth + 9
+decreases-names::read_first l = 11 * l.depth + 7
 
 abbrev pub decreases-names::read_first_std : goal.decreases-names::read_first_std
-decreases-names::read_first_std l = 11 * l.depth + 8
+decreases-names::read_first_std l = 11 * l.depth + 6
 
 abbrev pub decreases-names::read_first_substitution : goal.decreases-names::read_first_substitution
-decreases-names::read_first_substitution l = 11 * l.depth + 8
-
-abbrev pub decreases-names::read_first_param : goal.decreases-names::read_first_param
-decreases-names::read_first_param l = 11 * l.depth + 7
-
-abbrev pub decreases-names::read_first_base : goal.decreases-names::read_first_base
-decreases-names::read_first_base l = 11 * l.depth + 7
-
-abbrev pub decreases-names::read_after : goal.decreases-names::read_after
-decreases-names::read_after l = 11 * l.depth + 7
+decreases-names::read_first_substitution l = 11 * l.depth + 6
 
 abbrev pub decreases-names::read_components : goal.decreases-names::read_components
-decreases-names::read_components l = 11 * l.depth + 6
+decreases-names::read_components l = 11 * l.depth + 7
 
 abbrev pub decreases-names::read_next : goal.decreases-names::read_next
-decreases-names::read_next l = 11 * l.depth + 5
+decreases-names::read_next l = 11 * l.depth + 6
 
 abbrev pub decreases-names::read_component : goal.decreases-names::read_component
-decreases-names::read_component l = 11 * l.depth + 4
+decreases-names::read_component l = 11 * l.depth + 5
+
+abbrev pub decreases-names::read_other_component : goal.decreases-names::read_other_component
+decreases-names::read_other_component l = 11 * l.depth + 4
 
 abbrev pub decreases-names::read_more_args : goal.decreases-names::read_more_args
 decreases-names::read_more_args l = 11 * l.depth + 3

@@ -1,15 +1,8 @@
-use Rattle.std.proofs.Common.{◌≡◌, List, [], ◌∷◌, ◌++◌, ◌∙◌, sym, subst, ap, refl, arith, ◌+◌, length, length-append}
-use Rattle.std.proofs.lemmas.List.{map-append, length-map}
-use Rattle.cxx_tree.specs.declared.arena.Entry as entry
-use Rattle.cxx_tree.specs.declared.node.Node.{Node}
-use Rattle.cxx_tree.specs.Tree.{Tree}
-use Rattle.cxx_tree.specs.Measure.{measure}
-use Rattle.cxx_tree.specs.Counts.{AreCounted, Row, AreExact}
-use Rattle.cxx_tree.specs.Stored.{Store, Held, forest, size, tree_of, IsBelow}
-use Rattle.cxx_tree.specs.View.{store_of, nodes_of, AreStored}
-use Rattle.cxx_tree.proofs.Forest.{pushed-forest, stored-push}
-use Rattle.cxx_tree.proofs.Measured.{counted-push, tallied-some, tallied-none, row-fit}
-use Rattle.cxx_tree.proofs.Grown.{Makes-refused, Makes-limit, Makes-node, Grows-same, Grows-push, new-tree}
+use Rattle.std.proofs.Common.{refl, arith}
+use Rattle.std.proofs.lemmas.Grind.{common_steps}
+use Rattle.cxx_tree.specs.Stored.{forest, tree_of}
+use Rattle.cxx_tree.proofs.Measured.{tallied-some, tallied-none, row-fit}
+use Rattle.cxx_tree.proofs.Grown.{Makes-limit, Grows-same}
 use Rattle.cxx_tree.proofs.arena.Arena.push.Goals as goal
 
 pub returns-in-None-clause-limit : goal.returns-in-None-clause-limit
@@ -20,68 +13,11 @@ returns-in-None-clause-makes c =
     let a = c.args.self.now in
     Makes-limit a a (tree_of a.held (forest a) c.args.node) (tallied-none _ _ c.of_node.ensures.counts c.in-None.is) (Grows-same a a refl)
 
-pub returns-then-index-gt-MAX_INDEX-clause-makes : goal.returns-then-index-gt-MAX_INDEX-clause-makes
-returns-then-index-gt-MAX_INDEX-clause-makes c =
-    let a = c.args.self.now in Makes-refused a a (tree_of a.held (forest a) c.args.node) (Grows-same a a refl)
+pub push_counted-requires-clause-counts : goal.push_counted-requires-clause-counts
+push_counted-requires-clause-counts c = (tallied-some _ _ _ c.of_node.ensures.counts c.in-Some.is).0
 
-pub returns-in-Err-clause-makes : goal.returns-in-Err-clause-makes
-returns-in-Err-clause-makes c =
-    let a = c.args.self.now in
-    let h : Held = (store_of c.self.inside).held in
-    let b : Store = record { nodes = nodes_of c.push.new.self.items; held = h } in
-    let same : b ≡ a = ap (λ (es : List entry.Entry). record { nodes = nodes_of es; held = h }) (c.in-Err.ensures {u = tt}).items ∙ c.self.view_is in
-    Makes-refused a b (tree_of a.held (forest a) c.args.node) (Grows-same a b same)
-
-pub invariant_of-self-2 : goal.invariant_of-self-2
-invariant_of-self-2 c =
-    let s = store_of c.self.inside in
-    let h : Held = s.held in
-    let node : Node = c.args.node in
-    let t : Tree = tree_of h (forest s) node in
-    let below = subst (λ (r : Store). IsBelow r.held (size r) node) (sym c.self.view_is) c.requires.below in
-    let kept : Row c.in-Some.counts (measure t) × AreExact (measure t) =
-    subst (λ (r : Store). Row c.in-Some.counts (measure (tree_of r.held (forest r) node)) × AreExact (measure (tree_of r.held (forest r) node))) (sym c.self.view_is)
-    (tallied-some _ _ _ c.of_node.ensures.counts c.in-Some.is) in
-    let e : entry.Entry = record { node = node; counts = c.in-Some.counts } in
-    let items = (c.in-Ok.ensures {u = tt}).items in
-    let nodes : nodes_of c.push.new.self.items ≡ s.nodes ++ node ∷ [] =
-    ap nodes_of items ∙ map-append (λ (d : entry.Entry). d.node) c.self.inside.entries.items (e ∷ []) in
-    let grown : forest (record { nodes = nodes_of c.push.new.self.items; held = h }) ≡ forest s ++ t ∷ [] =
-    ap (λ (ns : List Node). forest (record { nodes = ns; held = h })) nodes ∙ pushed-forest h s.nodes node in (
-      subst (λ (ns : List Node). AreStored h 0 ns) (sym nodes) (stored-push h s.nodes node (size s) refl c.self.invariant.0 below),
-      subst (λ (ts : List Tree). AreCounted c.push.new.self.items ts) (sym grown)
-          (subst (λ (es : List entry.Entry). AreCounted es (forest s ++ t ∷ [])) (sym items)
-          (counted-push c.self.inside.entries.items (forest s) e t c.self.invariant.1 kept.0 kept.1)),
-    )
-
-pub returns-clause-forest : goal.returns-clause-forest
-returns-clause-forest c =
-    let s = store_of c.self.inside in
-    let h : Held = s.held in
-    let e : entry.Entry = record { node = c.args.node; counts = c.in-Some.counts } in
-    let items = (c.in-Ok.ensures {u = tt}).items in
-    let nodes : nodes_of c.push.new.self.items ≡ s.nodes ++ c.args.node ∷ [] =
-    ap nodes_of items ∙ map-append (λ (d : entry.Entry). d.node) c.self.inside.entries.items (e ∷ []) in
-    subst (λ (r : Store). forest (record { nodes = nodes_of c.push.new.self.items; held = h }) ≡ forest r ++ tree_of r.held (forest r) c.args.node ∷ []) c.self.view_is
-    (ap (λ (ns : List Node). forest (record { nodes = ns; held = h })) nodes ∙ pushed-forest h s.nodes c.args.node)
+pub push_counted-requires-clause-exact : goal.push_counted-requires-clause-exact
+push_counted-requires-clause-exact c = (tallied-some _ _ _ c.of_node.ensures.counts c.in-Some.is).1
 
 pub returns-clause-fits : goal.returns-clause-fits
-returns-clause-fits c = row-fit _ _ (tallied-some _ _ _ c.of_node.ensures.counts c.in-Some.is).0
-
-pub returns-clause-makes : goal.returns-clause-makes
-returns-clause-makes c =
-    let a = c.args.self.now in
-    let s = store_of c.self.inside in
-    let h : Held = s.held in
-    let b : Store = record { nodes = nodes_of c.push.new.self.items; held = h } in
-    let t : Tree = tree_of a.held (forest a) c.args.node in
-    let e : entry.Entry = record { node = c.args.node; counts = c.in-Some.counts } in
-    let items = (c.in-Ok.ensures {u = tt}).items in
-    let nodes : nodes_of c.push.new.self.items ≡ s.nodes ++ c.args.node ∷ [] =
-    ap nodes_of items ∙ map-append (λ (d : entry.Entry). d.node) c.self.inside.entries.items (e ∷ []) in
-    let long : size b ≡ size a + 1 = ap length nodes ∙ length-append s.nodes (c.args.node ∷ []) ∙ ap (λ (r : Store). size r + 1) c.self.view_is in
-    let index : c.len-index.result ≡ size a = omega (arith, c.len-index.ensures, ap size c.self.view_is, length-map c.self.inside.entries.items (λ (d : entry.Entry). d.node), c.self.inside.entries.ok) in
-    let made = returns-clause-forest c in
-    Makes-node a b t c.len-index.result (omega (arith, long, index)) (new-tree a b t c.len-index.result index made)
-    (Grows-push a b t long made (ap (λ (r : Store). r.held) c.self.view_is))
-    (returns-clause-fits c)
+returns-clause-fits c = let fit = row-fit _ _ (tallied-some _ _ _ c.of_node.ensures.counts c.in-Some.is).0 in grind (arith, common_steps)

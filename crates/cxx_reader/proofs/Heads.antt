@@ -1,0 +1,89 @@
+-- Nested names by their first components and the others, and source names in a scope.
+use Rattle.std.proofs.Common.{ℕ, ◌≡◌, List, [], ◌∷◌, refl, arith, Option, Some, None, true, false, Bool}
+use Rattle.std.proofs.lemmas.Grind.{common_steps}
+use Rattle.std.specs.Prelude.{if◌then◌else◌, codes}
+use Rattle.abi_scalars.specs.Bytes.{begins}
+use Rattle.abi_scalars.specs.Texts.{identifier, begins_source}
+use Rattle.abi_scalars.specs.Scalars.{source_text}
+use Rattle.cxx_tree.specs.Tree.{Tree, named, scoped}
+use Rattle.cxx_tree.specs.Measure.{measure}
+use Rattle.cxx_tree.proofs.InScope.{name-limit}
+use Rattle.cxx_grammar.specs.declared.cases.FirstCase.{FirstCase}
+use Rattle.cxx_grammar.specs.declared.cases.FirstCase.TheVariants as first
+use Rattle.cxx_grammar.specs.declared.cases.ComponentCase.TheVariants as component
+use Rattle.cxx_grammar.specs.State.{State, Info, Named, Parses, ◌>>=◌, with_rest, make, no_info}
+use Rattle.cxx_grammar.specs.Cases.{case_of_component}
+use Rattle.cxx_grammar.specs.Leaves.{parse_source, parse_base, base_as, parse_substitution, parse_template_param, past_cv, past_ref}
+use Rattle.cxx_grammar.specs.Grammar.{info_at, make_scoped}
+use Rattle.cxx_reader.specs.Parser.{parse_component, component_as, parse_rest, first_as, with_info}
+use Rattle.cxx_reader.proofs.Rules.{productions}
+use Rattle.cxx_reader.specs.Heads.{named_in, head_as, begins_name}
+
+no_letter : (bytes : List ℕ) → begins_source bytes ≡ true → begins (codes "L") bytes ≡ false
+no_letter [] e = absurd (let f = e in cc)
+no_letter (b ∷ bytes) e = grind (arith, common_steps)
+
+no_args : (bytes : List ℕ) → begins_source bytes ≡ true → begins (codes "I") bytes ≡ false
+no_args [] e = absurd (let f = e in cc)
+no_args (b ∷ bytes) e = grind (arith, common_steps)
+
+unqualified : (bytes : List ℕ) → begins_source bytes ≡ true → case_of_component bytes ≡ component.Unqualified
+unqualified [] e = refl
+unqualified (b ∷ bytes) e = grind (arith, common_steps)
+
+-- a source name is next
+pub source_base : (s : State) → begins_source s.rest ≡ true → parse_base s ≡ parse_source s
+unfolding base_as
+source_base s e = rw (no_letter s.rest e, e) refl
+
+-- a name that exceeds a limit does so in a scope
+source_then : (q : Named) (s : State) (o : Option (List ℕ × List ℕ))
+    → ((o >>= λ n. make (named (source_text n.0)) (with_rest n.1 s)) >>= λ b. make_scoped q b.0 b.1)
+    ≡ ((o >>= λ n. make (scoped false q.tree (named (source_text n.0))) (with_rest n.1 s)) >>= λ t. Some (with_info (record q.info { ends_with_args = false }) t.0, t.1))
+source_then q s None = refl
+source_then q s (Some n) = go (measure (named (source_text n.0))).fits refl
+  where
+    u : State
+    u = with_rest n.1 s
+
+    go : (t : Bool) → (measure (named (source_text n.0))).fits ≡ t
+        → ((if t then Some (let w : Tree × State = (named (source_text n.0), u) in w) else None) >>= λ b. make_scoped q b.0 b.1)
+        ≡ (make (scoped false q.tree (named (source_text n.0))) u >>= λ t. Some (with_info (record q.info { ends_with_args = false }) t.0, t.1))
+    go true f = refl
+    go false f = rw (name-limit q.tree (named (source_text n.0)) f) refl
+
+pub source_component : (arg : Parses Tree) (name : Parses Named) (q : Named) (s : State) → begins_source s.rest ≡ true → parse_component arg name q s ≡ named_in q s
+unfolding component_as base_as
+source_component arg name q s e = rw (no_args s.rest e, no_letter s.rest e, unqualified s.rest e, e) (source_then q s (identifier s.rest))
+
+after_tree : {A : Type 0} (f : Tree → State → Option (A × State)) (o : Option (Tree × State)) (g : A → State → Option (Named × State))
+    → (o >>= λ t. f t.0 t.1 >>= λ c. g c.0 c.1) ≡ ((o >>= λ t. f t.0 t.1) >>= λ c. g c.0 c.1)
+after_tree f None g = refl
+after_tree f (Some t) g = refl
+
+-- the first component, and what follows it
+pub head_as_rest : (k : FirstCase) (arg : Parses Tree) (name : Parses Named) (i : Info) (s : State) → first_as k arg name i s ≡ (head_as k arg name i s >>= λ c. parse_rest arg name c.0 c.1)
+unfolding first_as head_as
+head_as_rest first.Std arg name i s = refl
+head_as_rest first.Substitution arg name i s = after_tree (λ t u. parse_component arg name (with_info i t) u) (parse_substitution s) (parse_rest arg name)
+head_as_rest first.Param arg name i s = after_tree (λ t u. Some (with_info i t, u)) (parse_template_param s) (parse_rest arg name)
+head_as_rest first.Unqualified arg name i s = after_tree (λ t u. Some (with_info i t, u)) (parse_base s) (parse_rest arg name)
+
+-- no qualifier is next
+pub unqualified_info : (s : State) → begins_name s.rest ≡ true → info_at s ≡ no_info
+unqualified_info s e = go s.rest e
+  where
+    go : (bytes : List ℕ) → begins_name bytes ≡ true → info_at (with_rest bytes s) ≡ no_info
+    go [] f = refl
+    go (b ∷ bytes) f = grind (arith, common_steps)
+
+pub unqualified_state : (s : State) → begins_name s.rest ≡ true → past_ref (past_cv s) ≡ s
+unqualified_state s e = go s.rest e
+  where
+    go : (bytes : List ℕ) → begins_name bytes ≡ true → past_ref (past_cv (with_rest bytes s)) ≡ with_rest bytes s
+    go [] f = refl
+    go (b ∷ bytes) f = grind (arith, common_steps)
+
+pub ruleset heads = (unqualified_info, unqualified_state)
+
+pub ruleset nested = (productions, head_as_rest)
