@@ -198,7 +198,7 @@ fn of_plain(arena: &Arena, plain: Plain) -> Option<Measure>
             of_parts(arena, phrase.is_reversed, parts),
         ),
         Plain::Scoped(_, scope, name) => around(1, pair(arena, scope, name)),
-        Plain::WithArgs(name, args) => around(1, join(arena.measure(name), of_list(arena, args))),
+        Plain::WithArgs(name, args) => with_list(arena, name, args),
         Plain::AbiTag(name, tag) => around(1 + text_len(arena, tag), arena.measure(name)),
         Plain::InModule(name, owner) => around(1, pair(arena, name, owner)),
         Plain::Data(name) => around(1, arena.measure(name)),
@@ -226,9 +226,41 @@ fn of_declaration(arena: &Arena, declaration: Declaration) -> Option<Measure>
     }
 }
 
-/// Returns the counts of a node, whose children stand in the arena, or `None` if it isn't within the limits.
+/// Returns the counts of a node, whose children stand in the arena, or `None` if it isn't within the limits. The
+/// frequent nodes are counted here, without a call.
 #[inline(always)]
 pub fn of_node(arena: &Arena, node: Node) -> Option<Measure>
+    requires below { IsBelow arena.now.held (size arena.now) node }
+    ensures counts { Tallied result (spec.measure (tree_of arena.now.held (forest arena.now) node)) }
+{
+    match node {
+        Node::Plain(Plain::Name(text)) => of_name(text_len(arena, text)),
+        Node::Plain(Plain::StdName(_, _)) => around(1, nothing()),
+        Node::Plain(Plain::Scoped(_, scope, name)) => around(1, pair(arena, scope, name)),
+        Node::Plain(Plain::WithArgs(name, args)) => with_list(arena, name, args),
+        Node::Plain(Plain::Param(_, _)) => param(),
+        Node::Qualified(t, _) | Node::Pointer(t) | Node::Reference(t, _) => around(
+            1,
+            arena.measure(t),
+        ),
+        _ => of_any(arena, node),
+    }
+}
+
+// The counts of a name with arguments, or `None` if it isn't within the limits.
+#[inline(always)]
+fn with_list(arena: &Arena, name: u32, args: List) -> Option<Measure>
+    requires name { name < size arena.now }
+    requires args { IsListBelow arena.now.held (size arena.now) args }
+    ensures counts { Tallied result (spec.around 1 (spec.join (spec.measure (tree_at (forest arena.now) name))
+        (spec.measure_each (trees_in arena.now.held (forest arena.now) args)))) }
+{
+    around(1, join(arena.measure(name), of_list(arena, args)))
+}
+
+// The counts of a node, or `None` if it isn't within the limits.
+#[inline(always)]
+fn of_any(arena: &Arena, node: Node) -> Option<Measure>
     requires below { IsBelow arena.now.held (size arena.now) node }
     ensures counts { Tallied result (spec.measure (tree_of arena.now.held (forest arena.now) node)) }
 {

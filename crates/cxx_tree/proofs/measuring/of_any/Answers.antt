@@ -3,7 +3,7 @@ use Rattle.cxx_tree.specs.Measure.{measure}
 use Rattle.cxx_tree.specs.Counts.{Tallied}
 use Rattle.cxx_tree.specs.declared.node.Node.{Node}
 use Rattle.cxx_tree.specs.Stored.{forest, tree_of}
-use Rattle.cxx_tree.proofs.measuring.of_node.Goals as goal
+use Rattle.cxx_tree.proofs.measuring.of_any.Goals as goal
 
 pub returns-in-Function : goal.returns-in-Function
 unfolding measure tree_of
