@@ -13,7 +13,7 @@ use Rattle.cxx_printer.specs.declared.words.Form.{Form}
 use Rattle.cxx_printer.specs.Heads.{protocol_of}
 use Rattle.cxx_printer.specs.Printing.{Text, print, whole, right_behind, blank_unless, with_cv, pointed, refers, reference_to, collapsed}
 use Rattle.cxx_printer.specs.Words.{cv_text, mark, opened, closed}
-use Rattle.cxx_printer.proofs.Packs.{behind-left, plain-one_sided, qualified-one_sided}
+use Rattle.cxx_printer.proofs.Packs.{closed_nothing, plain-one_sided, qualified-one_sided}
 
 one-side : (x : Text) (c : Bool) → IsLeft x → x.left ++ right_behind c x ≡ x.left
 one-side x c h =
@@ -23,7 +23,7 @@ one-side x c h =
 declared-left : (x : Text) (k : List ℕ) → IsLeft x → (x.left ++ (opened x.form ++ k)) ++ (closed x.form ++ right_behind false x) ≡ x.left ++ k
 unfolding opened
 declared-left x k h =
-    ap (λ (r : List ℕ). (x.left ++ (opened x.form ++ k)) ++ r) (behind-left x h) ∙ append-nil (x.left ++ (opened x.form ++ k))
+    ap (λ (r : List ℕ). (x.left ++ (opened x.form ++ k)) ++ r) (closed_nothing x h) ∙ append-nil (x.left ++ (opened x.form ++ k))
     ∙ ap (λ (f : Form). x.left ++ (opened f ++ k)) h.2
 
 -- a qualified tree

@@ -27,9 +27,9 @@ pub item_text-bare : (t : Tree) (env : Env) → prec_of t ≡ Primary → item_t
 item_text-bare t env e = bare (is_llvm env) (is_simple t) (prec_of t) (whole (print t env)) (in_parens env (item t)) e
 
 -- an item that prints something
-item_behind-some : (first : Bool) (x : List ℕ) → 1 ≤ length x → item_behind first x ≡ separator first ++ x
-item_behind-some first [] h = absurd (omega arith)
-item_behind-some first (b ∷ bs) h = refl
+some-item : (first : Bool) (x : List ℕ) → 1 ≤ length x → item_behind first x ≡ separator first ++ x
+some-item first [] h = absurd (omega arith)
+some-item first (b ∷ bs) h = refl
 
 -- a text after what stands before an item
 pub item_printed : (r : Result (Unit {0}) AllocError) (old mid new x : List ℕ) (done first : Bool) (env : Env) (t : Tree) → done ≡ true → mid ≡ (if done then old ++ separator first else old)
@@ -37,12 +37,12 @@ pub item_printed : (r : Result (Unit {0}) AllocError) (old mid new x : List ℕ)
 item_printed r old mid new x done first env t d m e p h prints =
     let start : mid ≡ old ++ separator first = m ∙ ap (λ (b : Bool). if b then old ++ separator first else old) d in
     let text : separator first ++ x ≡ item_behind first (item_text env (item t)) =
-    sym (item_behind-some first x h) ∙ sym (ap (item_behind first) (item_text-bare t env p ∙ e)) in
+    sym (some-item first x h) ∙ sym (ap (item_behind first) (item_text-bare t env p ∙ e)) in
     subst (λ (l : List ℕ). Prints r old new l) text (prints_then r old mid new (separator first) x start prints)
 
 -- a name in a scope
-some-behind : (s w : List ℕ) → 1 ≤ length (s ++ (codes "::" ++ w))
-some-behind s w = omega (arith, length-append s (codes "::" ++ w))
+some-colons : (s w : List ℕ) → 1 ≤ length (s ++ (codes "::" ++ w))
+some-colons s w = omega (arith, length-append s (codes "::" ++ w))
 
 pub scoped_item : (r : Result (Unit {0}) AllocError) (old mid new : List ℕ) (done first : Bool) (env : Env) (t a b : Tree) → done ≡ true → mid ≡ (if done then old ++ separator first else old)
     → t ≡ scoped false a b → Prints r mid new (scope_text env (print a env) ++ (codes "::" ++ whole (print b env))) → Prints r old new (item_behind first (item_text env (item t)))
@@ -50,7 +50,7 @@ unfolding print prec_of
 scoped_item r old mid new done first env t a b d m e prints =
     let x = scope_text env (print a env) ++ (codes "::" ++ whole (print b env)) in
     item_printed r old mid new x done first env t d m (ap (λ (v : Tree). whole (print v env)) e ∙ append-nil x) (ap prec_of e)
-    (some-behind (scope_text env (print a env)) (whole (print b env))) prints
+    (some-colons (scope_text env (print a env)) (whole (print b env))) prints
 
 -- a name with template arguments
 some-angles : (s w x : List ℕ) → 1 ≤ length (s ++ (w ++ (codes "<" ++ x)))

@@ -213,9 +213,9 @@ in_parts h n (p ∷ ps) zero d b l = b.0
 in_parts h n (p ∷ ps) (suc k) d b l = in_parts h n ps k d b.1 (omega arith)
 
 -- trees with one side
-pub behind-left : (t : Text) → IsLeft t → closed t.form ++ right_behind false t ≡ []
+pub closed_nothing : (t : Text) → IsLeft t → closed t.form ++ right_behind false t ≡ []
 unfolding closed
-behind-left t e =
+closed_nothing t e =
     ap (λ (f : Form). closed f ++ right_behind false t) e.2
     ∙ ap (λ (b : Bool). (if b then blank_unless false else []) ++ t.right) e.1 ∙ e.0
 
@@ -247,7 +247,7 @@ qualified-one_sided u cv t e h =
     (((h env).0.0, (h env).0.1, (h env).0.2), ((h env).0.0, (h env).0.1, (h env).0.2))
 
 pointed-left : (o : Option (List ℕ)) (p : Printed) → IsLeft p.text → IsLeft (pointed o p).text × IsLeft (pointed o p).base
-pointed-left None p h = ((behind-left p.text h, refl, refl), (behind-left p.text h, refl, refl))
+pointed-left None p h = ((closed_nothing p.text h, refl, refl), (closed_nothing p.text h, refl, refl))
 pointed-left (Some w) p h = ((refl, refl, refl), (refl, refl, refl))
 
 pub pointer-one_sided : (u : Tree) (t : Tree) → t ≡ pointer u → OneSided u → OneSided t
@@ -259,7 +259,7 @@ pub reference-one_sided : (u : Tree) (l : Bool) (t : Tree) → t ≡ reference u
 unfolding OneSided print
 reference-one_sided u l t e h =
     λ env. subst (λ (v : Tree). IsLeft (print v env).text × IsLeft (print v env).base) (sym e)
-    ((behind-left (print u env).base (h env).1, refl, refl), (h env).1)
+    ((closed_nothing (print u env).base (h env).1, refl, refl), (h env).1)
 
 -- a reference to nothing
 pub refers-none : (o : Option ℕ) (i : ℕ) (b : Text) (f : ℕ → Printed) → o ≡ None → Refers o i b f → b ≡ simple []

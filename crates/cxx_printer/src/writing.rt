@@ -32,7 +32,7 @@ pub fn write_byte(out: &mut Text, byte: u8) -> Result<(), AllocError>
     out.add_byte(byte)
 }
 
-/// Appends a text behind a word.
+/// Appends a word, and a text after it.
 #[inline(always)]
 #[tactic(auto, using(crate::proofs::Appended::prints_added))]
 pub fn write_behind(out: &mut Text, word: &[u8], text: &[u8]) -> Result<(), AllocError>
