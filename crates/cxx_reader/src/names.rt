@@ -327,7 +327,8 @@ fn read_next(reader: &mut Reader, depth: usize, scope: Named) -> Result<Named, S
     Ok(name)
 }
 
-// Reads a component after others. A source name, as most are, is read at once.
+// Reads a component after others. A source name, as most are, is read without the other cases, which saves some 60
+// instructions.
 #[cycle(reader)]
 #[inline(always)]
 fn read_component(reader: &mut Reader, depth: usize, scope: Named) -> Result<Named, Stop>
@@ -364,7 +365,7 @@ fn read_scoped_source(reader: &mut Reader, scope: Named) -> Result<Named, Stop>
     Ok(Named { node, info })
 }
 
-// Reads a component after others.
+// Reads a component after others, of any case.
 #[cycle(reader)]
 #[inline(never)]
 fn read_other_component(reader: &mut Reader, depth: usize, scope: Named) -> Result<Named, Stop>
@@ -491,7 +492,8 @@ fn make_ctor(
 }
 
 impl<'a> Reader<'a> {
-    // Saves a component, and reads a source name in it with its `M`.
+    // Saves a component, and reads a source name in it with its `M`. What else is learned of the name stays where it
+    // is.
     #[inline(always)]
     fn read_next_source(&mut self, scope: u32) -> Result<u32, Stop>
         requires scope { IsNode self.old.tables scope }
