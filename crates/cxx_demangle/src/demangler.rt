@@ -18,7 +18,7 @@ use growing_text::Text;
 use std::alloc::{AllocError, Global};
 use std::fmt::{self, Debug, Formatter, Write};
 use std::marker::Model;
-use std::mem::replace;
+use std::mem::{replace, swap};
 use std::str::from_utf8_unchecked;
 
 /// The most counted productions that may nest in a symbol. The counted productions are encodings, names, types,
@@ -73,7 +73,7 @@ fn read(tables: &mut Tables, alloc: Global, bytes: &[u8]) -> Result<Option<u32>,
     };
     let read = read_encoding(&mut reader, MAX_DEPTH);
     let is_whole = reader.rest.is_empty();
-    *tables = reader.tables;
+    swap(tables, &mut reader.tables);
     match read {
         Ok(tree) if is_whole => Ok(Some(tree)),
         Ok(_) => Ok(None),

@@ -1,5 +1,5 @@
 -- Nested names by their first components and the others, and source names in a scope.
-use Rattle.std.proofs.Common.{ℕ, ◌≡◌, List, [], ◌∷◌, refl, arith, Option, Some, None, true, false, Bool}
+use Rattle.std.proofs.Common.{ℕ, ◌≡◌, List, [], ◌∷◌, refl, ap, ◌∙◌, arith, Err, Option, Some, None, true, false, Bool}
 use Rattle.std.proofs.lemmas.Grind.{common_steps}
 use Rattle.std.specs.Prelude.{if◌then◌else◌, codes}
 use Rattle.abi_scalars.specs.Bytes.{begins}
@@ -11,13 +11,20 @@ use Rattle.cxx_tree.proofs.InScope.{name-limit}
 use Rattle.cxx_grammar.specs.declared.cases.FirstCase.{FirstCase}
 use Rattle.cxx_grammar.specs.declared.cases.FirstCase.TheVariants as first
 use Rattle.cxx_grammar.specs.declared.cases.ComponentCase.TheVariants as component
-use Rattle.cxx_grammar.specs.State.{State, Info, Named, Parses, ◌>>=◌, with_rest, make, no_info}
+use Rattle.cxx_grammar.specs.State.{State, Info, Named, Parses, ◌>>=◌, past, save, with_rest, make, no_info}
 use Rattle.cxx_grammar.specs.Cases.{case_of_component}
 use Rattle.cxx_grammar.specs.Leaves.{parse_source, parse_base, base_as, parse_substitution, parse_template_param, past_cv, past_ref}
 use Rattle.cxx_grammar.specs.Grammar.{info_at, make_scoped}
-use Rattle.cxx_reader.specs.Parser.{parse_component, component_as, parse_rest, first_as, with_info}
+use Rattle.cxx_reader.specs.Parser.{parse_component, parse_next, component_as, parse_rest, first_as, with_info}
+use Rattle.cxx_tree.specs.Grows.{Grows}
+use Rattle.std.specs.Prelude.{IfSome, option_map}
+use Rattle.cxx_reader.specs.declared.reader.Reader.{Reader}
+use Rattle.cxx_reader.specs.declared.stop.Stop.{Stop}
+use Rattle.cxx_reader.specs.declared.stop.Stop.TheVariants.{Unreadable, Memory}
+use Rattle.cxx_reader.specs.Table.{Table, IsNode, stands}
+use Rattle.cxx_reader.specs.Outcome.{Gives, GivesNamed}
 use Rattle.cxx_reader.proofs.Rules.{productions}
-use Rattle.cxx_reader.specs.Heads.{named_in, head_as, begins_name}
+use Rattle.cxx_reader.specs.Heads.{next_source, source_in, named_in, head_as, begins_name}
 
 no_letter : (bytes : List ℕ) → begins_source bytes ≡ true → begins (codes "L") bytes ≡ false
 no_letter [] e = absurd (let f = e in cc)
@@ -55,6 +62,41 @@ source_then q s (Some n) = go (measure (named (source_text n.0))).fits refl
 pub source_component : (arg : Parses Tree) (name : Parses Named) (q : Named) (s : State) → begins_source s.rest ≡ true → parse_component arg name q s ≡ named_in q s
 unfolding component_as base_as
 source_component arg name q s e = rw (no_args s.rest e, no_letter s.rest e, unqualified s.rest e, e) (source_then q s (identifier s.rest))
+
+abbrev learned : Info → Tree × State → Option (Named × State)
+learned i t = Some (with_info i t.0, t.1)
+
+abbrev past_mark : Tree × State → Option (Tree × State)
+past_mark t = Some (t.0, past "M" t.1)
+
+abbrev named_past_mark : Named × State → Option (Named × State)
+named_past_mark c = Some (c.0, past "M" c.1)
+
+next_then : (i : Info) (o : Option (Tree × State)) → ((o >>= learned i) >>= named_past_mark) ≡ ((o >>= past_mark) >>= learned i)
+next_then i None = refl
+next_then i (Some t) = refl
+
+pub source_next : (arg : Parses Tree) (name : Parses Named) (q : Named) (s : State) → begins_source s.rest ≡ true
+    → parse_next arg name q s ≡ (next_source q.tree s >>= learned (record q.info { ends_with_args = false }))
+source_next arg name q s e = rw (source_component arg name q (save q.tree s) e) (next_then (record q.info { ends_with_args = false }) (source_in q.tree (save q.tree s)))
+
+-- a source name isn't read
+pub source_stop : (e : Stop) (after : Reader) (arg : Parses Tree) (name : Parses Named) (q : Named) (s : State) → begins_source s.rest ≡ true
+    → Gives (Err e) after (next_source q.tree s) → GivesNamed (Err e) after (parse_next arg name q s)
+source_stop Unreadable after arg name q s b f = source_next arg name q s b ∙ rw f refl
+source_stop Memory after arg name q s b f = tt
+
+-- a source name is read
+pub source_ok : (arg : Parses Tree) (name : Parses Named) (q : Named) (s after : State) (t : Tree) → begins_source s.rest ≡ true
+    → next_source q.tree s ≡ Some (t, after) → parse_next arg name q s ≡ Some (with_info (record q.info { ends_with_args = false }) t, after)
+source_ok arg name q s after t b read = source_next arg name q s b ∙ rw read refl
+
+-- the name after `CI` stays
+pub inherited_stays : (a b : Table) (o : Option ℕ) → Grows a.store b.store → IfSome o (IsNode a)
+    → IfSome o (IsNode b) × (option_map (stands b) o ≡ option_map (stands a) o)
+unfolding stands
+inherited_stays a b None g h = (tt, refl)
+inherited_stays a b (Some k) g h = (omega (arith, g.longer, h), ap (λ (t : Tree). Some t) (g.same k h))
 
 after_tree : {A : Type 0} (f : Tree → State → Option (A × State)) (o : Option (Tree × State)) (g : A → State → Option (Named × State))
     → (o >>= λ t. f t.0 t.1 >>= λ c. g c.0 c.1) ≡ ((o >>= λ t. f t.0 t.1) >>= λ c. g c.0 c.1)

@@ -6,7 +6,7 @@ use Rattle.abi_scalars.specs.Texts.{identifier, begins_source}
 use Rattle.cxx_tree.specs.Tree.{Tree, named, scoped}
 use Rattle.cxx_grammar.specs.declared.cases.FirstCase.{FirstCase}
 use Rattle.cxx_grammar.specs.declared.cases.FirstCase.TheVariants as first
-use Rattle.cxx_grammar.specs.State.{Info, Named, Parses, ◌>>=◌, skip, with_rest, make}
+use Rattle.cxx_grammar.specs.State.{Info, Named, Parses, ◌>>=◌, skip, past, save, with_rest, make}
 use Rattle.cxx_grammar.specs.Cases.{case_of_first}
 use Rattle.cxx_grammar.specs.Leaves.{parse_base, parse_substitution, parse_template_param}
 use Rattle.cxx_grammar.specs.Grammar.{std}
@@ -21,6 +21,10 @@ source_in scope s =
 abbrev pub named_in : Named → Parses Named
 named_in q s =
     source_in q.tree s >>= λ t. Some (record { tree = t.0; info = record q.info { ends_with_args = false } }, t.1)
+
+-- a component is saved, and a source name in it is read, with its `M`
+abbrev pub next_source : Tree → Parses Tree
+next_source scope s = source_in scope (save scope s) >>= λ t. Some (t.0, past "M" t.1)
 
 abbrev pub head_substitution : Parses Tree → Parses Named → Info → Parses Named
 head_substitution arg name i s = parse_substitution s >>= λ t. parse_component arg name (with_info i t.0) t.1

@@ -27,7 +27,8 @@ pub fn name(arena: &mut Arena, text: &[u8]) -> Result<u32, PushError>
 #[inline(always)]
 pub fn name_in(arena: &mut Arena, scope: u32, text: &[u8]) -> Result<u32, PushError>
     requires scope { scope < size arena.old }
-    ensures makes { Makes result arena.old arena.new (scoped false (tree_at (forest arena.old) scope) (named text.now)) }
+    ensures makes { Makes result arena.old arena.new
+        (scoped false (tree_at (forest arena.old) scope) (named text.now)) }
     ensures few { size arena.new ≤ size arena.old + 2 }
 {
     let text = arena.text(text)?;

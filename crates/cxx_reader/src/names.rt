@@ -182,7 +182,9 @@ fn read_unqualified(reader: &mut Reader, depth: usize) -> Result<Named, Stop>
 }
 
 /// Reads `<nested-name> ::= N [<CV-qualifiers>] [<ref-qualifier>] <component>+ E`.
-#[tactic(auto, using(crate::proofs::Heads::nested), unfolding(crate::specs::Table::stands, crate::specs::Outcome::named_at))]
+#[tactic(auto, using(crate::proofs::Heads::nested), unfolding(
+// What the name is, and what is learned of it.
+crate::specs::Table::stands, crate::specs::Outcome::named_at))]
 #[cycle(reader)]
 #[inline(always)]
 fn read_nested_name(reader: &mut Reader, depth: usize) -> Result<Named, Stop>
@@ -296,7 +298,12 @@ fn read_components(reader: &mut Reader, depth: usize, name: Named) -> Result<Nam
     reader.skip_letter(b'M');
     let mut last = name;
     while !begins(reader.rest, b'E') {
-        last = tri!(read_next(reader, depth, last));
+        if begins_source(reader.rest) {
+            last.node = tri!(reader.read_next_source(last.node));
+            last.info.ends_with_args = false;
+        } else {
+            last = tri!(read_next(reader, depth, last));
+        }
     }
     reader.skip(1);
     Ok(last)
@@ -315,12 +322,13 @@ fn read_next(reader: &mut Reader, depth: usize, scope: Named) -> Result<Named, S
     ensures leaves { OnOk result (Pays 1 1 reader.old reader.new) }
 {
     tri!(reader.tables.save(scope.node));
-    let name = tri!(read_component(reader, depth, scope));
+    let name = tri!(read_other_component(reader, depth, scope));
     reader.skip_letter(b'M');
     Ok(name)
 }
 
-// Reads a component after others. A source name, as most are, is read at once.
+// Reads a component after others. A source name, as most are, is read without the other cases, which saves some 60
+// instructions.
 #[cycle(reader)]
 #[inline(always)]
 fn read_component(reader: &mut Reader, depth: usize, scope: Named) -> Result<Named, Stop>
@@ -357,7 +365,7 @@ fn read_scoped_source(reader: &mut Reader, scope: Named) -> Result<Named, Stop>
     Ok(Named { node, info })
 }
 
-// Reads a component after others.
+// Reads a component after others, of any case.
 #[cycle(reader)]
 #[inline(never)]
 fn read_other_component(reader: &mut Reader, depth: usize, scope: Named) -> Result<Named, Stop>
@@ -484,6 +492,23 @@ fn make_ctor(
 }
 
 impl<'a> Reader<'a> {
+    // Saves a component, and reads a source name in it with its `M`. What else is learned of the name stays where it
+    // is.
+    #[inline(always)]
+    fn read_next_source(&mut self, scope: u32) -> Result<u32, Stop>
+        requires scope { IsNode self.old.tables scope }
+        ensures reads { Gives result self.new (heads.next_source (stands self.old.tables scope) (state self.old)) }
+        ensures keeps { OnOk result (Keeps self.old self.new) }
+        ensures takes { OnOk result (length self.new.rest.now < length self.old.rest.now) }
+        ensures owes { Owes 0 1 self.old self.new }
+        ensures leaves { OnOk result (Pays 1 1 self.old self.new) }
+    {
+        tri!(self.tables.save(scope));
+        let node = tri!(self.read_source_name_in(scope));
+        self.skip_letter(b'M');
+        Ok(node)
+    }
+
     // Reads `[<CV-qualifiers>] [<ref-qualifier>]`. Returns what is learned of a name by them.
     #[tactic(auto, using(crate::proofs::Heads::heads))]
     #[inline(always)]

@@ -161,7 +161,7 @@ impl<'a> Reader<'a> {
         self.tables.make_name(source_text(name))
     }
 
-    /// Reads a `<source-name>` in a scope.
+    /// Reads a `<source-name>` in a scope. The name and the same in the scope are pushed together.
     #[inline(always)]
     pub fn read_source_name_in(&mut self, scope: u32) -> Result<u32, Stop>
         requires scope { IsNode self.old.tables scope }

@@ -1,6 +1,6 @@
 //! Types (Itanium C++ ABI 5.1.5).
 //!
-//! The readers of the cases of a type aren't inlined, so that `read_type` saves no registers but passes on its arguments.
+//! The readers of the cases of a type aren't inlined, so that `read_type` only passes on its arguments.
 #![tactic(auto, using(crate::proofs::Rules::productions), unfolding(cxx_tree::specs::Stored::tree_of, cxx_tree::specs::Stored::plain_tree, cxx_tree::specs::Stored::IsBelow, cxx_tree::specs::Stored::IsPlainBelow, crate::specs::Table::stands, crate::specs::Outcome::list_trees, crate::specs::Outcome::named_at, crate::specs::Parser::type_as))]
 
 ghost use Rattle.std.specs.Prelude.{◌≡◌, ℕ, ◌<◌, ◌≤◌, length, OnOk};

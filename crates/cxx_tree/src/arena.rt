@@ -208,7 +208,11 @@ impl Arena {
     }
 
     /// Appends a name, and the same in a scope that stands here. Returns the index of the name in the scope.
-    #[tactic(auto, using(crate::proofs::InScope::in_scope), unfolding(crate::specs::Stored::tree_of, crate::specs::Stored::plain_tree, crate::specs::Stored::IsBelow, crate::specs::Stored::IsPlainBelow))]
+    #[tactic(auto, using(crate::proofs::InScope::in_scope), unfolding(
+    // The tree of a node.
+    crate::specs::Stored::tree_of, crate::specs::Stored::plain_tree,
+    // The nodes and the texts that it refers to.
+    crate::specs::Stored::IsBelow, crate::specs::Stored::IsPlainBelow))]
     #[inline(always)]
     pub fn push_in_scope(&mut self, scope: u32, text: Text) -> Result<u32, PushError>
         requires scope { scope < size self.old }
@@ -223,7 +227,11 @@ impl Arena {
     }
 
     // Appends a name of so many bytes in a scope, and returns its index.
-    #[tactic(auto, using(crate::proofs::InScope::in_scope), unfolding(crate::specs::Stored::tree_of, crate::specs::Stored::plain_tree, crate::specs::Stored::IsBelow, crate::specs::Stored::IsPlainBelow))]
+    #[tactic(auto, using(crate::proofs::InScope::in_scope), unfolding(
+    // The tree of a node.
+    crate::specs::Stored::tree_of, crate::specs::Stored::plain_tree,
+    // The nodes and the texts that it refers to.
+    crate::specs::Stored::IsBelow, crate::specs::Stored::IsPlainBelow))]
     #[inline(always)]
     fn push_around_name(&mut self, scope: u32, name: u32, len: usize) -> Result<u32, PushError>
         requires scope { scope < size self.old }

@@ -14,7 +14,7 @@ use Rattle.cxx_reader.proofs.Kept.{Keeps-trans, Keeps-tables, Keeps-after}
 use Rattle.cxx_reader.proofs.Costs.{Pays-tables, Pays-trans, Pays-add}
 use Rattle.cxx_reader.proofs.Turns.{ListSoFar, items_more, components_more, components_end}
 use Rattle.cxx_reader.proofs.Lists.{list_start, none-below, take-length, take-push, one-more, one-more-below, args_stop, components_stop, close_gives}
-use Rattle.cxx_reader.proofs.Heads.{source_component}
+use Rattle.cxx_reader.proofs.Heads.{source_component, source_stop, source_ok, inherited_stays}
 use Rattle.cxx_reader.proofs.+reader.Goals as goal
 
 pub args::read_args-loop-reader-init : goal.args::read_args-loop-reader-init
@@ -82,14 +82,42 @@ args::read_args-returns-clause-reads t c =
     (ap (λ (l : List Tree). record { rest = r.rest.now; saved = l; replaced = r.replaced }) c.close.ensures.saved ∙ c.skip-2.ensures.state)
     c.close.ensures.memory
 
+pub names::read_components-returns-in-Err-read_next-clause-reads : goal.names::read_components-returns-in-Err-read_next-clause-reads
+names::read_components-returns-in-Err-read_next-clause-reads t c =
+    components_stop c.in-Err-read_next.error c.read_next.new.reader (parse_arg c.args.depth) (parse_name c.args.depth) c.loop-reader.invariant.reads (search rules) (c.in-Err-read_next.ensures {u = tt}).reads
+
 pub names::read_components-returns-in-Err-clause-reads : goal.names::read_components-returns-in-Err-clause-reads
+unfolding named_at stands
 names::read_components-returns-in-Err-clause-reads t c =
-    components_stop c.in-Err.error c.read_next.new.reader (parse_arg c.args.depth) (parse_name c.args.depth) c.loop-reader.invariant.reads (search rules) (c.in-Err.ensures {u = tt}).reads
+    let arg = parse_arg c.args.depth in
+    let name = parse_name c.args.depth in
+    let s = state c.loop-reader.reader in
+    let last = named_at c.loop-reader.reader.tables c.loop-reader.last in
+    components_stop c.in-Err.error c.read_next_source.new.self arg name c.loop-reader.invariant.reads (search rules)
+    (source_stop c.in-Err.error c.read_next_source.new.self arg name last s (sym c.begins_source.ensures.value ∙ c.if-begins_source.true) (c.in-Err.ensures {u = tt}).reads)
+
+pub names::read_components-loop-reader-preserved-then-begins_source : goal.names::read_components-loop-reader-preserved-then-begins_source
+unfolding named_at stands
+names::read_components-loop-reader-preserved-then-begins_source t c =
+    let so_far = c.loop-reader.invariant in
+    let old = c.loop-reader.reader in
+    let last = c.loop-reader.last in
+    let read = c.in-Ok.ensures {u = tt} in
+    let new = c.read_next_source.new.self in
+    let begins = sym c.begins_source.ensures.value ∙ c.if-begins_source.true in
+    let stays = inherited_stays old.tables new.tables last.info.inherited read.keeps.grows so_far.named.1 in
+    let parsed = source_ok (parse_arg c.args.depth) (parse_name c.args.depth) (named_at old.tables last) (state old) (state new) (stands new.tables c.in-Ok.value) begins read.reads.1 in
+    record {
+      reads = components_more so_far.reads (search rules) (rw stays.1 parsed) read.takes;
+      named = (read.reads.0, stays.0);
+      keeps = Keeps-trans c.args.reader.now old new so_far.keeps read.keeps;
+      pays = Pays-trans c.args.reader.now old new so_far.pays read.leaves;
+    }
 
 pub names::read_components-loop-reader-preserved : goal.names::read_components-loop-reader-preserved
 names::read_components-loop-reader-preserved t c =
     let so_far = c.loop-reader.invariant in
-    let read = c.in-Ok.ensures {u = tt} in
+    let read = c.in-Ok-read_next.ensures {u = tt} in
     record {
       reads = components_more so_far.reads (search rules) read.reads.1 read.takes;
       named = read.reads.0;

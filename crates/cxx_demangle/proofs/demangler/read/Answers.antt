@@ -1,6 +1,7 @@
-use Rattle.std.proofs.Common.{ℕ, ◌≡◌, ◌≢◌, List, Option, Some, None, Err, rules, sym, length}
-use Rattle.cxx_reader.specs.Table.{saved_trees}
+use Rattle.std.proofs.Common.{ℕ, ◌≡◌, ◌≢◌, List, Option, Some, None, Ok, Err, rules, sym, subst, length}
+use Rattle.cxx_reader.specs.Table.{Table, saved_trees}
 use Rattle.cxx_reader.specs.Outcome.{state}
+use Rattle.cxx_demangle.specs.Demangler.{GivesWhole}
 use Rattle.cxx_demangle.proofs.Whole.{whole_read, none_read, some_left, started, no_bytes, some_bytes, refused}
 use Rattle.cxx_reader.specs.declared.stop.Stop.TheVariants.{Unreadable}
 use Rattle.cxx_demangle.proofs.demangler.read.Goals as goal
@@ -11,6 +12,7 @@ returns-in-Ok-clause-gives c =
     let end = c.read_encoding-read.new.reader in
     let parsed = started c.args.bytes.now (saved_trees c.clear.new.self) c.clear.ensures.empty read.1 in
     let empty : length end.rest.now ≡ 0 = search rules in
+    subst (λ (a : Table). GivesWhole (Ok (Some c.in-Ok.tree)) a c.args.bytes.now) (sym c.swap.ensures.x_after)
     (read.0, whole_read c.args.bytes.now _ (state end) parsed (no_bytes end.rest.now empty))
 
 pub returns-in-Ok-2-clause-gives : goal.returns-in-Ok-2-clause-gives
