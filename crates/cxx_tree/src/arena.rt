@@ -302,13 +302,12 @@ impl Arena {
 
 // The range of `more` items after `len` others.
 fn range_behind(len: usize, more: usize) -> Result<Range, AllocError>
+    requires len { len < 9223372036854775808 }
+    requires more { more < 9223372036854775808 }
     ensures from { IfOk result (λ r. r.from ≡ len) }
     ensures to { IfOk result (λ r. r.to ≡ len + more) }
 {
-    if len > MAX_INDEX {
-        return Err(AllocError);
-    }
-    if more > MAX_INDEX - len {
+    if len + more > MAX_INDEX {
         return Err(AllocError);
     }
     Ok(Range {
