@@ -13,7 +13,7 @@ nodes_of es = map (λ e. e.node) es
 abbrev pub store_of : Inside → Store
 store_of a = record {
   nodes = nodes_of a.entries.items;
-  held = record { lists = a.lists.items; parts = a.parts.items; texts = a.texts.items };
+  held = record { lists = a.lists.items; parts = a.parts.items; texts = a.texts };
 }
 
 -- the children of each node stand before it

@@ -50,7 +50,7 @@ pub struct Arena {
     entries: Vec<Entry>,
     lists: Vec<u32>,
     parts: Vec<Part>,
-    texts: Vec<u8>,
+    texts: growing_text::Text,
 }
 
 impl Model for Arena {
@@ -76,7 +76,7 @@ impl Arena {
             entries: Vec::new(alloc),
             lists: Vec::new(alloc),
             parts: Vec::new(alloc),
-            texts: Vec::new(alloc),
+            texts: growing_text::Text::new(alloc),
         }
     }
 
@@ -118,7 +118,7 @@ impl Arena {
     {
         match text {
             Text::Fixed(bytes) => bytes,
-            Text::Stored(r) => &self.texts[r.from as usize..r.to as usize],
+            Text::Stored(r) => self.texts.part(r.from as usize, r.to as usize),
         }
     }
 
@@ -249,6 +249,7 @@ impl Arena {
     }
 
     /// Copies a text.
+    #[inline(always)]
     pub fn text(&mut self, bytes: &[u8]) -> Result<Text, AllocError>
         ensures text { IfOk result (λ t. text_at self.new.held t ≡ bytes.now) }
         ensures within { IfOk result (λ t. IsText self.new.held t) }
@@ -261,7 +262,7 @@ impl Arena {
         ensures err { OnErr result (self.new ≡ self.old) }
     {
         let range = range_behind(self.texts.len(), bytes.len())?;
-        self.texts.extend_from_slice(bytes)?;
+        self.texts.add_short(bytes)?;
         Ok(Text::Stored(range))
     }
 
@@ -302,12 +303,10 @@ impl Arena {
 
 // The range of `more` items after `len` others.
 fn range_behind(len: usize, more: usize) -> Result<Range, AllocError>
-    requires len { len < 9223372036854775808 }
-    requires more { more < 9223372036854775808 }
     ensures from { IfOk result (λ r. r.from ≡ len) }
     ensures to { IfOk result (λ r. r.to ≡ len + more) }
 {
-    if len + more > MAX_INDEX {
+    if len > MAX_INDEX || more > MAX_INDEX - len {
         return Err(AllocError);
     }
     Ok(Range {
