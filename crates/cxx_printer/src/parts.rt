@@ -2,16 +2,17 @@
 //! return type. Any other symbol has none, and then nothing is appended.
 #![tactic(auto, using(crate::proofs::Appended::prints), unfolding(cxx_tree::specs::Stored::tree_of, cxx_tree::specs::Stored::plain_tree, cxx_tree::specs::Stored::declaration_tree, cxx_tree::specs::Stored::IsBelow, cxx_tree::specs::Stored::IsPlainBelow, crate::specs::Parts::named_of, crate::specs::Parts::split, crate::specs::Parts::colons, crate::specs::Parts::joined, crate::specs::Printing::print, crate::specs::Parts::return_type_text, crate::specs::Parts::parameters_text))]
 
-ghost use Rattle.std.specs.Prelude.{◌≡◌, ◌<◌, ◌≤◌, ◌∷◌, Some, None, MatchOption, IfSome};
+ghost use Rattle.std.specs.Prelude.{◌≡◌, ◌<◌, ◌≤◌, [], ◌∷◌, Some, None, MatchOption, IfSome};
 ghost use Rattle.cxx_tree.specs.Stored.{forest, size, tree_at, option_at, plain_tree, IsOptionBelow, IsPlainBelow};
 ghost use Rattle.cxx_printer.specs.Prints.{Prints};
 ghost use Rattle.cxx_printer.specs.Words.{top};
 ghost use Rattle.cxx_printer.specs.Printing.{whole, items_of, of_return};
+ghost use Rattle.cxx_printer.specs.Printing as printing;
 ghost use Rattle.cxx_printer.specs.Parts as spec;
 
 use crate::env::{Env, Style};
-use crate::print::{print, print_parens, print_scope};
-use crate::writing::write;
+use crate::print::{print, print_node, print_parens, print_scope};
+use crate::writing::{write, write_text};
 use cxx_tree::{Arena, Node, Plain};
 use growing_text::Text;
 use std::alloc::AllocError;
@@ -29,7 +30,7 @@ pub fn print_base_name(
 {
     match named_of(arena, i) {
         None => Ok(()),
-        Some(name) => print(arena, Env::top(style), base_of(arena, name), out),
+        Some(name) => print_base(arena, Env::top(style), name, out),
     }
 }
 
@@ -107,21 +108,22 @@ fn named_of(arena: &Arena, i: u32) -> Option<u32>
     }
 }
 
-// The base of a name.
-fn base_of(arena: &Arena, i: u32) -> u32
+// Appends the base of a name.
+fn print_base(arena: &Arena, env: Env, i: u32, out: &mut Text) -> Result<(), AllocError>
     requires within { i < size arena.now }
-    ensures value { tree_at (forest arena.now) result ≡ (spec.split (tree_at (forest arena.now) i)).1 }
-    ensures within { result < size arena.now }
+    ensures prints { Prints result out.old out.new
+        (whole (printing.print (spec.split (tree_at (forest arena.now) i)).1 env)) }
 {
     match *arena.node(i) {
         Node::Plain(ref plain) => match *plain {
-            Plain::AbiTag(name, _) => base_of(arena, name),
-            Plain::InModule(name, _) => base_of(arena, name),
-            Plain::WithArgs(name, _) => base_of(arena, name),
-            Plain::Scoped(_, _, name) => base_of(arena, name),
-            _ => i,
+            Plain::AbiTag(name, _) => print_base(arena, env, name, out),
+            Plain::InModule(name, _) => print_base(arena, env, name, out),
+            Plain::WithArgs(name, _) => print_base(arena, env, name, out),
+            Plain::Scoped(_, _, name) => print_base(arena, env, name, out),
+            Plain::ScopedName(_, ref name) => write_text(arena, name, out),
+            _ => print_node(arena, env, i, out),
         },
-        _ => i,
+        _ => print_node(arena, env, i, out),
     }
 }
 
@@ -163,8 +165,25 @@ fn scopes_of_plain(
         Plain::InModule(name, _) => print_scopes(arena, env, is_first, name, out),
         Plain::WithArgs(name, _) => print_scopes(arena, env, is_first, name, out),
         Plain::Scoped(_, scope, name) => print_from_scope(arena, env, is_first, scope, name, out),
+        Plain::ScopedName(scope, _) => print_last_scope(arena, env, is_first, scope, out),
         _ => Ok(()),
     }
+}
+
+// Appends a scope.
+fn print_last_scope(
+    arena: &Arena,
+    env: Env,
+    is_first: bool,
+    scope: u32,
+    out: &mut Text,
+) -> Result<(), AllocError>
+    requires scope { scope < size arena.now }
+    ensures prints { Prints result out.old out.new
+        (spec.joined is_first env (tree_at (forest arena.now) scope ∷ [])) }
+{
+    tri!(write_colons(is_first, out));
+    print_scope(arena, env, scope, out)
 }
 
 // Appends a scope, and those that are passed in the name.

@@ -12,7 +12,7 @@ ghost use Rattle.cxx_tree.specs.declared.kinds.Listing.TheVariants as listing;
 ghost use Rattle.cxx_tree.specs.declared.kinds.Manner.TheVariants as manner;
 ghost use Rattle.cxx_tree.specs.declared.kinds.Prec.TheVariants as prec;
 ghost use Rattle.cxx_tree.specs.declared.node.Node.TheVariants as node;
-ghost use Rattle.cxx_tree.specs.Tree.{Tree, pack, pointer, qualified, reference, scoped, with_args};
+ghost use Rattle.cxx_tree.specs.Tree.{Tree, named, pack, pointer, qualified, reference, scoped, with_args};
 ghost use Rattle.cxx_tree.specs.Measure.{measure};
 ghost use Rattle.cxx_tree.specs.Stored.{forest, size, tree_of, IsBelow, tree_at, trees_at, trees_in, option_at, plain_tree, declaration_tree, parts_in, text_at, IsText, IsListBelow, IsOptionBelow, IsPlainBelow, IsDeclarationBelow, IsPartsBelow, IsPartBelow};
 ghost use Rattle.cxx_printer.specs.declared.shapes.Ending.TheVariants as ending;
@@ -52,7 +52,7 @@ pub fn print(arena: &Arena, env: Env, i: u32, out: &mut Text) -> Result<(), Allo
     ensures prints { Prints result out.old out.new (spec.whole (spec.print (tree_at (forest arena.now) i) env)) }
 {
     match *arena.node(i) {
-        Node::Plain(Plain::Scoped(false, scope, name)) => print_scoped(
+        Node::Plain(Plain::ScopedName(scope, ref name)) => print_scoped_name(
             arena, env, scope, name, out,
         ),
         _ => print_node(arena, env, i, out),
@@ -67,7 +67,7 @@ pub fn print_node(arena: &Arena, env: Env, i: u32, out: &mut Text) -> Result<(),
     ensures prints { Prints result out.old out.new (spec.whole (spec.print (tree_at (forest arena.now) i) env)) }
 {
     match *arena.node(i) {
-        Node::Plain(Plain::Scoped(false, scope, name)) => print_scoped(
+        Node::Plain(Plain::ScopedName(scope, ref name)) => print_scoped_name(
             arena, env, scope, name, out,
         ),
         Node::Plain(Plain::WithArgs(name, args)) => print_with_args(arena, env, i, name, args, out),
@@ -368,6 +368,7 @@ fn right_plain(
             (),
         ),
         Plain::Scoped(is_friend, _, _) => if is_friend { Ok(()) } else { Ok(()) },
+        Plain::ScopedName(_, _) => Ok(()),
         Plain::WithArgs(_, _) | Plain::AbiTag(_, _) | Plain::InModule(_, _) | Plain::Data(_) => Ok(
             (),
         ),
@@ -400,6 +401,7 @@ fn print_plain(
         Plain::Scoped(is_friend, scope, name) => print_in_scope(
             arena, env, is_friend, scope, name, out,
         ),
+        Plain::ScopedName(scope, ref name) => print_scoped_name(arena, env, scope, name, out),
         Plain::WithArgs(name, args) => print_with_args(arena, env, bound, name, args, out),
         Plain::AbiTag(name, ref tag) => print_abi_tag(arena, env, name, tag, out),
         Plain::InModule(name, owner) => print_in_module(arena, env, name, owner, out),
@@ -432,36 +434,28 @@ fn print_in_scope(
     print_scoped(arena, env, scope, name, out)
 }
 
-// Appends what a name in a scope prints. Names are copied here, without a call.
+// Appends a scope, and a name that is a text. Names are copied here, without a call.
 #[inline(never)]
 #[cycle(printer)]
-fn print_scoped(
+fn print_scoped_name(
     arena: &Arena,
     env: Env,
     scope: u32,
-    name: u32,
+    name: &cxx_tree::Text,
     out: &mut Text,
 ) -> Result<(), AllocError>
     requires scope { scope < size arena.now }
-    requires name { name < size arena.now }
+    requires name { IsText arena.now.held name.now }
     ensures prints { Prints result out.old out.new (spec.scope_text env (spec.print (tree_at (forest arena.now) scope)
-        env) ++ (codes "::" ++ spec.whole (spec.print (tree_at (forest arena.now) name) env))) }
+        env) ++ (codes "::" ++ spec.whole (spec.print (named (text_at arena.now.held name.now)) env))) }
 {
-    match *arena.node(name) {
-        Node::Plain(Plain::Name(text)) => print_scoped_text(
-            arena,
-            env,
-            scope,
-            arena.bytes(text),
-            out,
-        ),
-        _ => print_scoped_tree(arena, env, scope, name, out),
-    }
+    print_scoped_text(arena, env, scope, arena.bytes(*name), out)
 }
 
+// Appends what a name in a scope prints.
 #[inline(never)]
 #[cycle(printer)]
-fn print_scoped_tree(
+fn print_scoped(
     arena: &Arena,
     env: Env,
     scope: u32,
@@ -826,7 +820,7 @@ fn print_item(
 {
     let is_first = out.len() == start;
     match *arena.node(t) {
-        Node::Plain(Plain::Scoped(false, scope, name)) => print_scoped_item(
+        Node::Plain(Plain::ScopedName(scope, ref name)) => print_scoped_item(
             arena, env, is_first, t, scope, name, out,
         ),
         Node::Plain(Plain::WithArgs(name, args)) => print_args_item(
@@ -901,21 +895,21 @@ fn print_scoped_item(
     is_first: bool,
     t: u32,
     scope: u32,
-    name: u32,
+    name: &cxx_tree::Text,
     out: &mut Text,
 ) -> Result<(), AllocError>
     requires within { t < size arena.now }
     requires scope { scope < t }
-    requires name { name < t }
-    requires tree { tree_at (forest arena.now) t ≡ scoped false (tree_at (forest arena.now) scope) (tree_at (forest
-        arena.now) name) }
+    requires name { IsText arena.now.held name.now }
+    requires tree { tree_at (forest arena.now) t ≡ scoped false (tree_at (forest arena.now) scope)
+        (named (text_at arena.now.held name.now)) }
     ensures prints { Prints result out.old out.new (spec.item_behind is_first (spec.item_text env (item (tree_at
         (forest arena.now) t)))) }
 {
     if !try_separator(is_first, out) {
         return print_any_item(arena, env, is_first, t, out);
     }
-    print_scoped(arena, env, scope, name, out)
+    print_scoped_name(arena, env, scope, name, out)
 }
 
 #[inline(always)]

@@ -99,11 +99,8 @@ pub fn two_names(arena: &Arena, i: u32) -> Option<(&[u8], &[u8])>
     ensures value { IfSome result (λ p. tree_at (forest arena.now) i ≡ scoped false (named p.0.now) (named p.1.now)) }
 {
     match *arena.node(i) {
-        Node::Plain(Plain::Scoped(false, scope, name)) => match name_of(arena, scope) {
-            Some(first) => match name_of(arena, name) {
-                Some(second) => Some((first, second)),
-                None => None,
-            },
+        Node::Plain(Plain::ScopedName(scope, name)) => match name_of(arena, scope) {
+            Some(first) => Some((first, arena.bytes(name))),
             None => None,
         },
         _ => None,
@@ -300,6 +297,7 @@ fn ending_of_plain(arena: &Arena, env: Env, bound: u32, plain: &Plain) -> Ending
         Plain::StdName(std, is_expanded) => ending_of_text(std_text(env.style, std, is_expanded)),
         Plain::Phrase(phrase, parts) => ending_of_phrase(arena, env, bound, phrase, parts),
         Plain::Scoped(is_friend, _, name) => ending_of_scoped(arena, env, is_friend, name),
+        Plain::ScopedName(_, name) => ending_of_text(arena.bytes(name)),
         Plain::WithArgs(_, _) => Ending::Greater,
         Plain::AbiTag(_, _) => Ending::Other,
         Plain::InModule(_, owner) => ending_of(arena, env, owner),

@@ -1,5 +1,5 @@
 -- Nested names by their first components and the others, and source names in a scope.
-use Rattle.std.proofs.Common.{ℕ, ◌≡◌, List, [], ◌∷◌, refl, ap, ◌∙◌, arith, Err, Option, Some, None, true, false, Bool}
+use Rattle.std.proofs.Common.{ℕ, ◌≡◌, List, [], ◌∷◌, refl, sym, subst, ap, ◌∙◌, arith, Result, Err, Option, Some, None, true, false, Bool}
 use Rattle.std.proofs.lemmas.Grind.{common_steps}
 use Rattle.std.specs.Prelude.{if◌then◌else◌, codes}
 use Rattle.abi_scalars.specs.Bytes.{begins}
@@ -14,8 +14,8 @@ use Rattle.cxx_grammar.specs.declared.cases.ComponentCase.TheVariants as compone
 use Rattle.cxx_grammar.specs.State.{State, Info, Named, Parses, ◌>>=◌, past, save, with_rest, make, no_info}
 use Rattle.cxx_grammar.specs.Cases.{case_of_component}
 use Rattle.cxx_grammar.specs.Leaves.{parse_source, parse_base, base_as, parse_substitution, parse_template_param, past_cv, past_ref}
-use Rattle.cxx_grammar.specs.Grammar.{info_at, make_scoped}
-use Rattle.cxx_reader.specs.Parser.{parse_component, parse_next, component_as, parse_rest, first_as, with_info}
+use Rattle.cxx_grammar.specs.Grammar.{info_at, make_scoped, std}
+use Rattle.cxx_reader.specs.Parser.{base_in_std, parse_component, parse_next, component_as, parse_rest, first_as, with_info}
 use Rattle.cxx_tree.specs.Grows.{Grows}
 use Rattle.std.specs.Prelude.{IfSome, option_map}
 use Rattle.cxx_reader.specs.declared.reader.Reader.{Reader}
@@ -44,6 +44,32 @@ unfolding base_as
 source_base s e = rw (no_letter s.rest e, e) refl
 
 -- a name that exceeds a limit does so in a scope
+source_scoped : (scope : Tree) (s : State) (o : Option (List ℕ × List ℕ))
+    → ((o >>= λ n. make (named (source_text n.0)) (with_rest n.1 s)) >>= λ b. make (scoped false scope b.0) b.1)
+    ≡ (o >>= λ n. make (scoped false scope (named (source_text n.0))) (with_rest n.1 s))
+source_scoped scope s None = refl
+source_scoped scope s (Some n) = go (measure (named (source_text n.0))).fits refl
+  where
+    u : State
+    u = with_rest n.1 s
+
+    go : (t : Bool) → (measure (named (source_text n.0))).fits ≡ t
+        → ((if t then Some (let w : Tree × State = (named (source_text n.0), u) in w) else None) >>= λ b. make (scoped false scope b.0) b.1)
+        ≡ make (scoped false scope (named (source_text n.0))) u
+    go true f = refl
+    go false f = rw (name-limit scope (named (source_text n.0)) f) refl
+
+-- a source name is next, and is put in std
+pub source_in_std : (s : State) → begins_source s.rest ≡ true → base_in_std s ≡ source_in std s
+source_in_std s e = rw (source_base s e) (source_scoped std s (identifier s.rest))
+
+-- the name `std` is made, and a source name in it is read
+pub std_then : (r : Result ℕ Stop) (after : Reader) (t : Tree) (s mid : State) → begins_source s.rest ≡ true → ◌≡◌ {A = Option (Tree × State)} (Some (std, s)) (Some (t, mid))
+    → Gives r after (source_in t mid) → Gives r after (base_in_std s)
+std_then r after t s mid b made g =
+    let same : ◌≡◌ {A = Tree × State} (std, s) (t, mid) = let f = made in cc in
+    subst (Gives r after) (sym (source_in_std s b)) (subst (λ (p : Tree × State). Gives r after (source_in p.0 p.1)) (sym same) g)
+
 source_then : (q : Named) (s : State) (o : Option (List ℕ × List ℕ))
     → ((o >>= λ n. make (named (source_text n.0)) (with_rest n.1 s)) >>= λ b. make_scoped q b.0 b.1)
     ≡ ((o >>= λ n. make (scoped false q.tree (named (source_text n.0))) (with_rest n.1 s)) >>= λ t. Some (with_info (record q.info { ends_with_args = false }) t.0, t.1))

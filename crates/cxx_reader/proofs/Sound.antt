@@ -24,7 +24,7 @@ use Rattle.cxx_grammar.specs.Leaves.{parse_base, parse_unmarked_base, parse_subs
 use Rattle.cxx_grammar.specs.Binds.{bind_encoding}
 use Rattle.cxx_grammar.specs.Grammar.{make_with_args, make_ctor, make_scoped, make_function, info_at, has_return, std}
 use Rattle.cxx_grammar.specs.Grammar as grammar
-use Rattle.cxx_reader.specs.Parser.{parse_items, parse_list, parse_args, parse_with_args, parse_unscoped, parse_inherited, parse_scoped, component_as, parse_more_args, parse_component, parse_next, parse_components, parse_rest, parse_after, with_info, first_as, first_substitution, first_param, first_base, parse_first, parse_nested, parse_in_std, with_args_only, parse_substituted, parse_unqualified, name_as, parse_typed, literal_as, parse_pack, parse_literal, arg_as, parse_type_args, parse_around, reference_to, parse_param_type, parse_substituted_type, parse_class, parse_saved_type, type_as, qualified_as, parse_name, parse_arg, parse_type, parse_qualified, parse_return, parse_some_params, parse_params, parse_function, parse_signature, encoding_as, parse_encoding}
+use Rattle.cxx_reader.specs.Parser.{parse_items, parse_list, parse_args, parse_with_args, parse_unscoped, parse_inherited, parse_scoped, component_as, parse_more_args, parse_component, parse_next, parse_components, parse_rest, parse_after, with_info, first_as, first_substitution, first_param, first_base, parse_first, parse_nested, base_in_std, parse_in_std, with_args_only, parse_substituted, parse_unqualified, name_as, parse_typed, literal_as, parse_pack, parse_literal, arg_as, parse_type_args, parse_around, reference_to, parse_param_type, parse_substituted_type, parse_class, parse_saved_type, type_as, qualified_as, parse_name, parse_arg, parse_type, parse_qualified, parse_return, parse_some_params, parse_params, parse_function, parse_signature, encoding_as, parse_encoding}
 
 pub bind_ok : {A B : Type 0} (o : Option A) (f : A → Option B) (y : B) → (o >>= f) ≡ Some y → (x : A) × (o ≡ Some x) × (f x ≡ Some y)
 bind_ok None f y e = absurd (let g = e in cc)
@@ -145,9 +145,9 @@ unfolding name_as
 name_as_sound name_case.Nested d ih s n after e =
     grammar.NameAs.nested d s n after (first_sound (case_of_first (past_ref (past_cv (skip 1 s))).rest) d ih (info_at (skip 1 s)) (past_ref (past_cv (skip 1 s))) n after e)
 name_as_sound name_case.Std d ih s n after e =
-    let one = bind_ok (parse_base (skip 2 s)) _ _ e in
-    let two = bind_ok (make (scoped false std one.0.0) one.0.1) _ _ one.2 in
-    grammar.NameAs.in_std d s one.0.0 one.0.1 two.0.0 two.0.1 n after one.1 two.1 (unscoped_sound d ih _ _ _ _ two.2)
+    let two = bind_ok (base_in_std (skip 2 s)) _ _ e in
+    let one = bind_ok (parse_base (skip 2 s)) _ _ two.1 in
+    grammar.NameAs.in_std d s one.0.0 one.0.1 two.0.0 two.0.1 n after one.1 one.2 (unscoped_sound d ih _ _ _ _ two.2)
 name_as_sound name_case.Substitution d ih s n after e =
     let one = bind_ok (parse_substitution s) _ _ e in
     chosen (begins (codes "I") one.0.1.rest) (parse_with_args (parse_arg d) (plain one.0.0) one.0.1) None (n, after)

@@ -108,9 +108,16 @@ parse_first arg name i s = first_as (case_of_first s.rest) arg name i s
 abbrev pub parse_nested : Parses Tree → Parses Named → Parses Named
 parse_nested arg name s = parse_first arg name (info_at (skip 1 s)) (past_ref (past_cv (skip 1 s)))
 
+-- a name without a scope, in std
+abbrev pub base_in_std : Parses Tree
+base_in_std s = parse_base s >>= λ base. make (scoped false std base.0) base.1
+
+-- St <unqualified-name>
+abbrev pub parse_std_name : Parses Tree
+parse_std_name s = base_in_std (skip 2 s)
+
 abbrev pub parse_in_std : Parses Tree → Parses Named
-parse_in_std arg s =
-    parse_base (skip 2 s) >>= λ base. make (scoped false std base.0) base.1 >>= λ t. parse_unscoped arg t.0 t.1
+parse_in_std arg s = parse_std_name s >>= λ t. parse_unscoped arg t.0 t.1
 
 abbrev pub with_args_only : Parses Tree → Tree → Parses Named
 with_args_only arg t s = if begins (codes "I") s.rest then parse_with_args arg (plain t) s else None

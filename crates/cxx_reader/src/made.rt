@@ -29,10 +29,10 @@ pub fn name_in(arena: &mut Arena, scope: u32, text: &[u8]) -> Result<u32, PushEr
     requires scope { scope < size arena.old }
     ensures makes { Makes result arena.old arena.new
         (scoped false (tree_at (forest arena.old) scope) (named text.now)) }
-    ensures few { size arena.new ≤ size arena.old + 2 }
+    ensures few { size arena.new ≤ size arena.old + 1 }
 {
     let text = arena.text(text)?;
-    arena.push_in_scope(scope, text)
+    arena.push(Node::Plain(Plain::ScopedName(scope, text)))
 }
 
 /// Makes the literal of an integer: a number, between the texts around it.

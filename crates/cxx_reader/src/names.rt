@@ -145,10 +145,7 @@ fn read_in_std(reader: &mut Reader, depth: usize) -> Result<Named, Stop>
     ensures pays { Pays 0 0 reader.old reader.new }
     ensures leaves { OnOk result (Pays 2 2 reader.old reader.new) }
 {
-    reader.skip(2);
-    let base = tri!(reader.read_base());
-    let scope = tri!(reader.make_std());
-    let node = tri!(reader.make(Node::Plain(Plain::Scoped(false, scope, base))));
+    let node = tri!(reader.read_std_name());
     read_unscoped(reader, depth, node)
 }
 
@@ -539,6 +536,25 @@ impl<'a> Reader<'a> {
         let cv = self.read_cv();
         let ref_qual = self.read_ref_qual();
         info_of(cv, ref_qual)
+    }
+
+    // Reads `St <unqualified-name>`.
+    fn read_std_name(&mut self) -> Result<u32, Stop>
+        requires some { 0 < length self.old.rest.now }
+        ensures reads { Gives result self.new (spec.parse_std_name (state self.old)) }
+        ensures keeps { OnOk result (Keeps self.old self.new) }
+        ensures takes { OnOk result (length self.new.rest.now < length self.old.rest.now) }
+        ensures pays { Pays 0 0 self.old self.new }
+        ensures leaves { OnOk result (Pays 2 2 self.old self.new) }
+    {
+        self.skip(2);
+        if begins_source(self.rest) {
+            let scope = tri!(self.make_std());
+            return self.read_source_name_in(scope);
+        }
+        let base = tri!(self.read_base());
+        let scope = tri!(self.make_std());
+        self.make(Node::Plain(Plain::Scoped(false, scope, base)))
     }
 
     // Makes the name `std`.

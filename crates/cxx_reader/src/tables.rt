@@ -144,7 +144,7 @@ impl Tables {
     pub fn make_name_in(&mut self, scope: u32, text: &[u8]) -> Result<u32, Stop>
         requires scope { IsNode self.old scope }
         ensures makes { MakesIn result self.old self.new (scoped false (stands self.old scope) (named text.now)) }
-        ensures adds { AddsAtMost 2 0 0 self.old self.new }
+        ensures adds { AddsAtMost 1 0 0 self.old self.new }
     {
         stopped(name_in(&mut self.arena, scope, text))
     }

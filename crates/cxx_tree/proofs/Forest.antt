@@ -1,5 +1,5 @@
 -- The trees of nodes, as nodes and what they refer to grow.
-use Rattle.std.proofs.Common.{ℕ, ◌≡◌, ◌+◌, ◌<◌, ◌≤◌, List, [], ◌∷◌, ◌++◌, length, refl, sym, ap, ◌∙◌, arith, subst, zero, suc, length-append, Option, Some, None, slice_range}
+use Rattle.std.proofs.Common.{ℕ, ◌≡◌, ◌+◌, ◌<◌, ◌≤◌, List, [], ◌∷◌, ◌++◌, length, refl, sym, ap, ◌∙◌, arith, subst, zero, suc, length-append, Option, Some, None, slice_range, false}
 use Rattle.std.proofs.Math.ListN.{get_or, get_or-append}
 use Rattle.std.proofs.Math.Seq.{get_or-append_seam}
 use Rattle.std.proofs.lemmas.Grind.{common_steps}
@@ -18,7 +18,7 @@ use Rattle.cxx_tree.specs.declared.node.Declaration.{Declaration}
 use Rattle.cxx_tree.specs.declared.node.Declaration.TheVariants as declaration
 use Rattle.cxx_tree.specs.declared.node.Node.{Node}
 use Rattle.cxx_tree.specs.declared.node.Node.TheVariants as node
-use Rattle.cxx_tree.specs.Tree.{Tree, named, phrase, with_args, abi_tag, data_name, objc_protocol, listed, expansion, pack_param, qualified, pointer, reference, array, pack, no_trees, more_trees, text, tree}
+use Rattle.cxx_tree.specs.Tree.{Tree, named, scoped, phrase, with_args, abi_tag, data_name, objc_protocol, listed, expansion, pack_param, qualified, pointer, reference, array, pack, no_trees, more_trees, text, tree}
 use Rattle.cxx_tree.specs.Stored.{Held, Store, text_at, list_at, parts_at, tree_at, trees_at, trees_in, option_at, parts_of, parts_in, plain_tree, declaration_tree, tree_of, IsRange, IsText, IsListBelow, IsPartBelow, IsPartsBelow, IsOptionBelow, IsPlainBelow, IsDeclarationBelow, IsBelow, trees_from, forest, size, Begins, Extends}
 use Rattle.cxx_tree.specs.View.{AreStored, IsStore}
 
@@ -66,6 +66,7 @@ plain_tree-same h n ts us agree (plain.StdName std expanded) b = refl
 plain_tree-same h n ts us agree (plain.Phrase attributes ps) b =
     ap (phrase attributes) (parts_of-same h n ts us agree (parts_at h ps) b.1)
 plain_tree-same h n ts us agree (plain.Scoped friend scope name) b = let one = agree scope b.0 in let two = agree name b.1 in cc
+plain_tree-same h n ts us agree (plain.ScopedName scope name) b = ap (λ (t : Tree). scoped false t (named (text_at h name))) (agree scope b.0)
 plain_tree-same h n ts us agree (plain.WithArgs name args) b =
     let one = agree name b.0 in let rest = trees_at-same n ts us agree (list_at h args) b.1.1 in cc
 plain_tree-same h n ts us agree (plain.AbiTag name tag) b = ap (λ (t : Tree). abi_tag t (text_at h tag)) (agree name b.0)
@@ -186,6 +187,7 @@ plain_tree-more h g e n ts (plain.Leaf simple x y) b = let one = text_at-more h 
 plain_tree-more h g e n ts (plain.StdName std expanded) b = refl
 plain_tree-more h g e n ts (plain.Phrase attributes ps) b = ap (phrase attributes) (parts_in-more h g e n ts ps b)
 plain_tree-more h g e n ts (plain.Scoped friend scope name) b = refl
+plain_tree-more h g e n ts (plain.ScopedName scope name) b = ap (λ (bytes : List ℕ). scoped false (tree_at ts scope) (named bytes)) (text_at-more h g e name b.1)
 plain_tree-more h g e n ts (plain.WithArgs name args) b = ap (with_args (tree_at ts name)) (trees_in-more h g e n ts args b.1)
 plain_tree-more h g e n ts (plain.AbiTag name tag) b = ap (abi_tag (tree_at ts name)) (text_at-more h g e tag b.1)
 plain_tree-more h g e n ts (plain.InModule name owner) b = refl
@@ -264,6 +266,7 @@ IsPlainBelow-more h g e n m le (plain.Leaf simple x y) b = (IsText-more h g e x 
 IsPlainBelow-more h g e n m le (plain.StdName std expanded) b = b
 IsPlainBelow-more h g e n m le (plain.Phrase attributes ps) b = IsPartsBelow-more h g e n m le ps b
 IsPlainBelow-more h g e n m le (plain.Scoped friend scope name) b = (omega (arith, le, b.0), omega (arith, le, b.1))
+IsPlainBelow-more h g e n m le (plain.ScopedName scope name) b = (omega (arith, le, b.0), IsText-more h g e name b.1)
 IsPlainBelow-more h g e n m le (plain.WithArgs name args) b = (omega (arith, le, b.0), IsListBelow-more h g e n m le args b.1)
 IsPlainBelow-more h g e n m le (plain.AbiTag name tag) b = (omega (arith, le, b.0), IsText-more h g e tag b.1)
 IsPlainBelow-more h g e n m le (plain.InModule name owner) b = (omega (arith, le, b.0), omega (arith, le, b.1))

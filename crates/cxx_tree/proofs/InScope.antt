@@ -31,26 +31,14 @@ pub exact-few : (c : stored.Measure) (m : Measure) → Row c m → AreExact m �
 unfolding Row AreExact
 exact-few c m r x = omega (arith, r.0.2, x.0)
 
-pub in-scope-row : (s n : Tree) (len : ℕ) (o : Option stored.Measure) → measure n ≡ around (1 + len) nothing → Tallied o (around 1 (join (measure s) (around (1 + len) nothing))) → Tallied o (measure (scoped false s n))
-unfolding measure
-in-scope-row s n len o e t = rw e t
-
-pub named-measure : (t : Tree) (bytes : List ℕ) → t ≡ named bytes → measure t ≡ around (1 + length bytes) nothing
-unfolding measure
-named-measure t bytes e = rw e refl
-
-pub name-fits : (bytes : List ℕ) → (measure (named bytes)).fits ≡ true → length bytes < 1048576
-unfolding measure
-name-fits bytes f = grind (arith, common_steps)
-
 -- a name that exceeds a limit does so in a scope
 pub name-limit : (s n : Tree) → (measure n).fits ≡ false → (measure (scoped false s n)).fits ≡ false
 unfolding measure
 name-limit s n f = grind (arith, common_steps)
 
-pub Makes-inside : (r : Result ℕ PushError) (e : PushError) (a b : Store) (s n : Tree) → r ≡ Err e → Makes r a b n → Makes (Err e) a b (scoped false s n)
-unfolding Makes
-Makes-inside r Limit a b s n e m = let made = rw e at m in (name-limit s n made.0, made.1)
-Makes-inside r Memory a b s n e m = rw e at m
+-- a name of too many bytes, in a scope
+pub long-limit : (s : Tree) (bytes : List ℕ) → 1048576 ≤ length bytes → (measure (scoped false s (named bytes))).fits ≡ false
+unfolding measure
+long-limit s bytes l = grind (arith, common_steps)
 
-pub ruleset in_scope = (named-measure, name-fits, exact-few)
+pub ruleset in_scope = (exact-few, long-limit)

@@ -1,5 +1,5 @@
 -- What an arena holds, and the trees that its nodes stand for.
-use Rattle.std.specs.Prelude.{ℕ, ◌<◌, ◌≤◌, ◌≡◌, List, [], ◌∷◌, ◌++◌, map, length, slice_range, Option, Some, None, get_or, IfSome}
+use Rattle.std.specs.Prelude.{ℕ, ◌<◌, ◌≤◌, ◌≡◌, List, [], ◌∷◌, ◌++◌, false, map, length, slice_range, Option, Some, None, get_or, IfSome}
 use Rattle.std.specs.List.{AllByRecursion}
 use Rattle.cxx_tree.specs.declared.node.Range.{Range}
 use Rattle.cxx_tree.specs.declared.node.Text.{Text}
@@ -68,6 +68,7 @@ plain_tree h ts (plain.Leaf simple a b) = leaf simple (text_at h a) (text_at h b
 plain_tree h ts (plain.StdName std expanded) = std_name std expanded
 plain_tree h ts (plain.Phrase attributes ps) = phrase attributes (parts_in h ts ps)
 plain_tree h ts (plain.Scoped friend scope name) = scoped friend (tree_at ts scope) (tree_at ts name)
+plain_tree h ts (plain.ScopedName scope name) = scoped false (tree_at ts scope) (named (text_at h name))
 plain_tree h ts (plain.WithArgs name args) = with_args (tree_at ts name) (trees_in h ts args)
 plain_tree h ts (plain.AbiTag name tag) = abi_tag (tree_at ts name) (text_at h tag)
 plain_tree h ts (plain.InModule name owner) = in_module (tree_at ts name) (tree_at ts owner)
@@ -127,6 +128,7 @@ IsPlainBelow h n (plain.Name bytes) = IsText h bytes
 IsPlainBelow h n (plain.Leaf simple a b) = IsText h a × IsText h b
 IsPlainBelow h n (plain.Phrase attributes ps) = IsPartsBelow h n ps
 IsPlainBelow h n (plain.Scoped friend scope name) = (scope < n) × (name < n)
+IsPlainBelow h n (plain.ScopedName scope name) = (scope < n) × IsText h name
 IsPlainBelow h n (plain.WithArgs name args) = (name < n) × IsListBelow h n args
 IsPlainBelow h n (plain.AbiTag name tag) = (name < n) × IsText h tag
 IsPlainBelow h n (plain.InModule name owner) = (name < n) × (owner < n)

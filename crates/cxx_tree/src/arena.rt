@@ -5,13 +5,12 @@ ghost use Rattle.std.specs.Prelude.{◌≡◌, ℕ, ◌+◌, ◌<◌, ◌≤◌,
 ghost use Rattle.cxx_tree.specs.Measure as spec;
 ghost use Rattle.cxx_tree.specs.Counts.{Row, AreExact};
 ghost use Rattle.cxx_tree.specs.Grows.{Grows, Makes};
-ghost use Rattle.cxx_tree.specs.Tree.{named, scoped};
 ghost use Rattle.cxx_tree.specs.declared.arena.PushError.TheVariants as PushError;
 ghost use Rattle.std.specs.List.{AllByRecursion};
 ghost use Rattle.cxx_tree.specs.Stored.{forest, size, tree_of, tree_at, IsBelow, IsText, IsRange, text_at, list_at, parts_at};
 
 use crate::counts::Measure;
-use crate::measuring::{in_scope, of_node, text_len};
+use crate::measuring::of_node;
 use crate::node::{List, Node, Part, Parts, Plain, Range, Text};
 use std::alloc::{AllocError, Global};
 use std::marker::Model;
@@ -205,47 +204,6 @@ impl Arena {
             Err(_) => return Err(PushError::Memory),
         }
         Ok(index as u32)
-    }
-
-    /// Appends a name, and the same in a scope that stands here. Returns the index of the name in the scope.
-    #[tactic(auto, using(crate::proofs::InScope::in_scope), unfolding(
-    // The tree of a node.
-    crate::specs::Stored::tree_of, crate::specs::Stored::plain_tree,
-    // The nodes and the texts that it refers to.
-    crate::specs::Stored::IsBelow, crate::specs::Stored::IsPlainBelow))]
-    #[inline(always)]
-    pub fn push_in_scope(&mut self, scope: u32, text: Text) -> Result<u32, PushError>
-        requires scope { scope < size self.old }
-        requires text { IsText self.old.held text }
-        ensures makes { Makes result self.old self.new
-            (scoped false (tree_at (forest self.old) scope) (named (text_at self.old.held text))) }
-        ensures few { size self.new ≤ size self.old + 2 }
-    {
-        let len = text_len(self, text);
-        let name = tri!(self.push(Node::Plain(Plain::Name(text))));
-        self.push_around_name(scope, name, len)
-    }
-
-    // Appends a name of so many bytes in a scope, and returns its index.
-    #[tactic(auto, using(crate::proofs::InScope::in_scope), unfolding(
-    // The tree of a node.
-    crate::specs::Stored::tree_of, crate::specs::Stored::plain_tree,
-    // The nodes and the texts that it refers to.
-    crate::specs::Stored::IsBelow, crate::specs::Stored::IsPlainBelow))]
-    #[inline(always)]
-    fn push_around_name(&mut self, scope: u32, name: u32, len: usize) -> Result<u32, PushError>
-        requires scope { scope < size self.old }
-        requires name { name < size self.old }
-        requires measure { spec.measure (tree_at (forest self.old) name) ≡ spec.around (1 + len) spec.nothing }
-        requires small { len < 1048576 }
-        ensures makes { Makes result self.old self.new
-            (scoped false (tree_at (forest self.old) scope) (tree_at (forest self.old) name)) }
-        ensures few { size self.new ≤ size self.old + 1 }
-    {
-        let Some(counts) = in_scope(self.measure(scope), len) else {
-            return Err(PushError::Limit);
-        };
-        self.push_counted(Node::Plain(Plain::Scoped(false, scope, name)), counts)
     }
 
     /// Copies a text.

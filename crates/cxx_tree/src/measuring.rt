@@ -4,6 +4,7 @@
 ghost use Rattle.std.specs.Prelude.{◌≡◌, ℕ, ◌+◌, ◌<◌, ◌≤◌, length, false, max, Bool, IfSome};
 ghost use Rattle.std.specs.List.{AllByRecursion};
 ghost use Rattle.cxx_tree.specs.Measure as spec;
+ghost use Rattle.cxx_tree.specs.Tree.{named, scoped};
 ghost use Rattle.cxx_tree.specs.Counts.{Row, Tallied, AreExact, part_and};
 ghost use Rattle.cxx_tree.specs.Stored.{forest, size, tree_of, plain_tree, declaration_tree, tree_at, option_at, trees_in, parts_in, text_at, IsBelow, IsPlainBelow, IsDeclarationBelow, IsListBelow, IsPartsBelow, IsPartBelow, IsOptionBelow, IsText};
 
@@ -103,9 +104,9 @@ fn and_parts(arena: &Arena, before: Measure, parts: Parts) -> Measure
     join(before, of_parts(arena, false, parts))
 }
 
-/// Returns the number of bytes of a text.
+// The number of bytes of a text.
 #[inline(always)]
-pub fn text_len(arena: &Arena, text: Text) -> usize
+fn text_len(arena: &Arena, text: Text) -> usize
     requires within { IsText arena.now.held text }
     ensures value { result ≡ length (text_at arena.now.held text) }
     ensures small { result < 9223372036854775808 }
@@ -161,23 +162,36 @@ pub fn of_name(len: usize) -> Option<Measure>
     })
 }
 
-/// Returns the counts of a name of so many bytes in a scope, or `None` if it isn't within the limits.
+// The counts of a text as a name in a scope, or `None` if it isn't within the limits.
+#[tactic(auto, using(crate::proofs::InScope::in_scope), unfolding(crate::specs::Measure::measure))]
+#[inline(always)]
+fn in_scope(arena: &Arena, scope: u32, name: Text) -> Option<Measure>
+    requires scope { scope < size arena.now }
+    requires name { IsText arena.now.held name }
+    ensures counts { Tallied result (spec.measure (scoped false (tree_at (forest arena.now) scope)
+        (named (text_at arena.now.held name)))) }
+{
+    let len = text_len(arena, name);
+    if len >= MAX_WORK as usize {
+        return None;
+    }
+    around(1, with_name(arena.measure(scope), len))
+}
+
+// The counts of a scope, and of a name of so many bytes after it.
 #[tactic(auto, unfolding(crate::specs::Counts::Row, crate::specs::Counts::AreExact))]
 #[inline(always)]
-pub fn in_scope(scope: Measure, len: usize) -> Option<Measure>
+fn with_name(scope: Measure, len: usize) -> Measure
     requires small { len < 1048576 }
     requires few { scope.each ≤ 1048576 }
     ensures counts { (m : spec.Measure) → Row scope m → AreExact m
-        → Tallied result (spec.around 1 (spec.join m (spec.around (1 + len) spec.nothing))) }
+        → Row result (spec.join m (spec.around (1 + len) spec.nothing)) }
 {
-    around(
-        1,
-        Measure {
-            height: scope.height.max(1),
-            each: scope.each + len as u32 + 1,
-            ..scope
-        },
-    )
+    Measure {
+        height: scope.height.max(1),
+        each: scope.each + len as u32 + 1,
+        ..scope
+    }
 }
 
 // The counts of a node whose text has one side, or `None` if it isn't within the limits.
@@ -198,6 +212,7 @@ fn of_plain(arena: &Arena, plain: Plain) -> Option<Measure>
             of_parts(arena, phrase.is_reversed, parts),
         ),
         Plain::Scoped(_, scope, name) => around(1, pair(arena, scope, name)),
+        Plain::ScopedName(scope, name) => in_scope(arena, scope, name),
         Plain::WithArgs(name, args) => with_list(arena, name, args),
         Plain::AbiTag(name, tag) => around(1 + text_len(arena, tag), arena.measure(name)),
         Plain::InModule(name, owner) => around(1, pair(arena, name, owner)),
@@ -237,6 +252,7 @@ pub fn of_node(arena: &Arena, node: Node) -> Option<Measure>
         Node::Plain(Plain::Name(text)) => of_name(text_len(arena, text)),
         Node::Plain(Plain::StdName(_, _)) => around(1, nothing()),
         Node::Plain(Plain::Scoped(_, scope, name)) => around(1, pair(arena, scope, name)),
+        Node::Plain(Plain::ScopedName(scope, name)) => in_scope(arena, scope, name),
         Node::Plain(Plain::WithArgs(name, args)) => with_list(arena, name, args),
         Node::Plain(Plain::Param(_, _)) => param(),
         Node::Qualified(t, _) | Node::Pointer(t) | Node::Reference(t, _) => around(

@@ -141,11 +141,3 @@ names::read_component-returns-then-begins_source-clause-reads t c =
     let s = state c.args.reader.now in
     let is = source_component (parse_arg c.args.depth) (parse_name c.args.depth) (named_at c.args.reader.now.tables c.args.scope) s (sym c.begins_source.ensures.value ∙ c.if-begins_source.true) in
     subst (GivesNamed c.read_scoped_source.result c.read_scoped_source.new.reader) (sym is) c.read_scoped_source.ensures.reads
-
-pub names::read_in_std-returns-clause-keeps : goal.names::read_in_std-returns-clause-keeps
-names::read_in_std-returns-clause-keeps t c =
-    let one = Keeps-tables c.args.reader.now c.skip.new.self c.skip.ensures.tables (omega (arith, ap (λ (s : State). length s.rest) c.skip.ensures.state, length-drop 2 c.args.reader.now.rest.now)) in
-    let two = Keeps-trans _ _ _ one (c.in-Ok.ensures {u = tt}).keeps in
-    let three = Keeps-trans _ _ _ two (c.in-Ok-make_std.ensures {u = tt}).keeps in
-    let four = Keeps-trans _ _ _ three (c.in-Ok-make.ensures {u = tt}).keeps in
-    Keeps-after c.read_unscoped.result _ _ _ four c.read_unscoped.ensures.keeps

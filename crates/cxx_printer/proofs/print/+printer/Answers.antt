@@ -2,6 +2,7 @@ use Rattle.std.proofs.Common.{length, nat_eq, ℕ, ◌++◌, true, List, sym, su
 use Rattle.cxx_tree.specs.Stored.{forest, tree_at, trees_at, parts_of}
 use Rattle.cxx_printer.specs.Asked.{item}
 use Rattle.cxx_printer.specs.Printing.{items_of, print, print_parts, sequence, separated, declared, head, repeated}
+use Rattle.cxx_tree.specs.Tree.{named}
 use Rattle.cxx_tree.specs.Stored.{tree_of, plain_tree, text_at, trees_in}
 use Rattle.cxx_printer.specs.Words.{cv_text}
 use Rattle.cxx_printer.proofs.Appended.{prints_then}
@@ -28,8 +29,8 @@ pub print_scoped_item-returns : goal.print_scoped_item-returns
 print_scoped_item-returns t c =
     let ts = forest c.args.arena.now in
     record {
-      prints = scoped_item c.print_scoped.result c.args.out.now c.try_separator.new.out c.print_scoped.new.out c.try_separator.result c.args.is_first c.args.env (tree_at ts c.args.t)
-          (tree_at ts c.args.scope) (tree_at ts c.args.name) c.if-not-try_separator.false c.try_separator.ensures.value c.requires.tree c.print_scoped.ensures.prints;
+      prints = scoped_item c.print_scoped_name.result c.args.out.now c.try_separator.new.out c.print_scoped_name.new.out c.try_separator.result c.args.is_first c.args.env (tree_at ts c.args.t)
+          (tree_at ts c.args.scope) (named (text_at c.args.arena.now.held c.args.name.now)) c.if-not-try_separator.false c.try_separator.ensures.value c.requires.tree c.print_scoped_name.ensures.prints;
     }
 
 pub print_args_item-returns : goal.print_args_item-returns

@@ -304,8 +304,8 @@ decreases-print_gnu_scope l = 64 * l.i + 41
 abbrev pub decreases-print_in_scope : goal.decreases-print_in_scope
 decreases-print_in_scope l = 64 * (max l.scope l.name) + 47
 
-abbrev pub decreases-print_scoped_tree : goal.decreases-print_scoped_tree
-decreases-print_scoped_tree l = 64 * (max l.scope l.name) + 45
+abbrev pub decreases-print_scoped_name : goal.decreases-print_scoped_name
+decreases-print_scoped_name l = 64 * l.scope + 46
 
 abbrev pub decreases-print_scoped_text : goal.decreases-print_scoped_text
 decreases-print_scoped_text l = 64 * l.scope + 45

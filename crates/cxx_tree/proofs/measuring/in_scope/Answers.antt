@@ -1,7 +1,11 @@
-use Rattle.std.proofs.Common.{refl, ◌+◌}
-use Rattle.cxx_tree.specs.Measure.{join, around, nothing}
-use Rattle.cxx_tree.proofs.InScope.{scope-row}
+use Rattle.std.proofs.Common.{◌≤◌, arith}
+use Rattle.cxx_tree.specs.Counts.{Tallied}
+use Rattle.cxx_tree.specs.Stored.{forest, tree_at, text_at}
+use Rattle.cxx_tree.proofs.InScope.{long-limit}
 use Rattle.cxx_tree.proofs.measuring.in_scope.Goals as goal
 
-pub returns : goal.returns
-returns c = record { counts = λ m r x. c.around.ensures.counts (join m (around (1 + c.args.len) nothing)) (scope-row c.args.scope _ m c.args.len c.requires.small r x c.max.ensures refl refl refl refl) }
+pub returns-then-len : goal.returns-then-len
+unfolding Tallied
+returns-then-len c =
+    let a = c.args.arena.now in
+    record { counts = long-limit (tree_at (forest a) c.args.scope) (text_at a.held c.args.name) (omega (arith, c.if-len.true, c.text_len-len.ensures.value)) }

@@ -12,11 +12,11 @@ pub invariant_of-self-2 : goal.invariant_of-self-2
 invariant_of-self-2 c =
     let s = store_of c.self.inside in
     let h : Held = s.held in
-    let g : Held = record { lists = h.lists; parts = h.parts; texts = c.extend_from_slice.new.self.items } in
+    let g : Held = record { lists = h.lists; parts = h.parts; texts = c.add_short.new.self } in
     let e : Extends h g = (
       Begins-same ℕ h.lists h.lists refl,
       Begins-same Part h.parts h.parts refl,
-      Begins-end ℕ h.texts c.args.bytes.now c.extend_from_slice.new.self.items (c.in_ok-extend_from_slice.ensures {u = tt}).items,
+      Begins-end ℕ h.texts c.args.bytes.now c.add_short.new.self (c.in_ok-add_short.ensures {u = tt}).ok,
     ) in
     (grown s g e c.self.invariant.0, subst (AreCounted c.self.inside.entries.items) (sym (grown-forest s g e c.self.invariant.0)) c.self.invariant.1)
 
@@ -24,11 +24,11 @@ pub returns-clause-forest : goal.returns-clause-forest
 returns-clause-forest c =
     let s = store_of c.self.inside in
     let h : Held = s.held in
-    let g : Held = record { lists = h.lists; parts = h.parts; texts = c.extend_from_slice.new.self.items } in
+    let g : Held = record { lists = h.lists; parts = h.parts; texts = c.add_short.new.self } in
     let e : Extends h g = (
       Begins-same ℕ h.lists h.lists refl,
       Begins-same Part h.parts h.parts refl,
-      Begins-end ℕ h.texts c.args.bytes.now c.extend_from_slice.new.self.items (c.in_ok-extend_from_slice.ensures {u = tt}).items,
+      Begins-end ℕ h.texts c.args.bytes.now c.add_short.new.self (c.in_ok-add_short.ensures {u = tt}).ok,
     ) in
     grown-forest s g e c.self.invariant.0 ∙ ap forest c.self.view_is
 
@@ -36,11 +36,11 @@ pub returns-clause-grows : goal.returns-clause-grows
 returns-clause-grows c =
     let s = store_of c.self.inside in
     let h : Held = s.held in
-    let g : Held = record { lists = h.lists; parts = h.parts; texts = c.extend_from_slice.new.self.items } in
+    let g : Held = record { lists = h.lists; parts = h.parts; texts = c.add_short.new.self } in
     let e : Extends h g = (
       Begins-same ℕ h.lists h.lists refl,
       Begins-same Part h.parts h.parts refl,
-      Begins-end ℕ h.texts c.args.bytes.now c.extend_from_slice.new.self.items (c.in_ok-extend_from_slice.ensures {u = tt}).items,
+      Begins-end ℕ h.texts c.args.bytes.now c.add_short.new.self (c.in_ok-add_short.ensures {u = tt}).ok,
     ) in
     let b : Store = record { nodes = s.nodes; held = g } in
     subst (λ (r : Store). Grows r b) c.self.view_is (Grows-held s b refl (grown-forest s g e c.self.invariant.0) e)
