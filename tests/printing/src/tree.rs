@@ -177,7 +177,11 @@ impl Maker<'_> {
                 rows::default_arg(self.arena, e, count, ordinal)?
             }
             ("Nested", [scope, n]) => {
-                let node = Plain::Scoped(false, self.tree(scope)?, self.tree(n)?);
+                let scope = self.tree(scope)?;
+                let node = match (n.name(), n.fields()) {
+                    ("Name", [text]) => Plain::ScopedName(scope, self.text(text)?),
+                    _ => Plain::Scoped(false, scope, self.tree(n)?),
+                };
                 self.plain(node)?
             }
             ("Friend", [scope, n]) => {
