@@ -1,18 +1,18 @@
 -- The arguments of an encoding, one after the other.
-use Rattle.std.proofs.Common.{ℕ, ◌≡◌, ◌+◌, ◌<◌, ◌≤◌, List, [], ◌∷◌, ◌++◌, length, map, drop, take, refl, sym, ap, ◌∙◌, arith, subst, zero, suc, Option, Some, None, true, false, Bool, Result, Ok, Err}
-use Rattle.cxx_tree.specs.Tree.{Tree, no_trees, more_trees}
+use Rattle.std.proofs.Common.{ℕ, ◌≡◌, ◌+◌, ◌≤◌, List, [], ◌∷◌, ◌++◌, length, map, drop, refl, sym, ap, ◌∙◌, arith, zero, suc, Option, Some, None, Bool, Err}
+use Rattle.cxx_tree.specs.Tree.{Tree}
 use Rattle.cxx_tree.specs.Grows.{Grows}
 use Rattle.cxx_tree.specs.Measure.{measure, measure_each}
 use Rattle.cxx_tree.specs.declared.node.List as handle
 use Rattle.cxx_tree.specs.Stored.{size, list_at, trees_from_list, IsListBelow}
 use Rattle.cxx_tree.proofs.Forest.{list_at-more}
-use Rattle.cxx_grammar.specs.State.{State, ◌>>=◌}
+use Rattle.cxx_grammar.specs.State.{State}
 use Rattle.cxx_grammar.specs.Binds.{bind_arg, bind_args}
 use Rattle.cxx_reader.specs.declared.reader.Reader.{Reader}
 use Rattle.cxx_reader.specs.declared.stop.Stop.{Stop}
 use Rattle.cxx_reader.specs.declared.stop.Stop.TheVariants.{Unreadable, Memory}
-use Rattle.cxx_reader.specs.Table.{Table, IsNode, stands}
-use Rattle.cxx_reader.specs.Outcome.{state, Gives, GivesFrom, list_trees}
+use Rattle.cxx_reader.specs.Table.{Table, stands}
+use Rattle.cxx_reader.specs.Outcome.{Gives, GivesFrom, list_trees}
 use Rattle.cxx_reader.proofs.Kept.{map-stands}
 
 -- what the arguments give, after some of them

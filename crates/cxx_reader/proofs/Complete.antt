@@ -1,7 +1,6 @@
 -- What is in the grammar is read by the parser.
-use Rattle.std.proofs.Common.{ℕ, ◌≡◌, ◌+◌, ◌-◌, ◌<◌, ◌≤◌, List, [], ◌∷◌, ◌∙◌, refl, sym, ap, subst, zero, suc, arith, true, false, Bool, Option, Some, None, length, drop}
-use Rattle.std.specs.Prelude.{if◌then◌else◌, codes}
-use Rattle.abi_scalars.specs.Bytes.{letter, begins}
+use Rattle.std.proofs.Common.{ℕ, ◌≡◌, ◌+◌, ◌-◌, ◌<◌, List, ◌∙◌, refl, ap, arith, Some, length}
+use Rattle.abi_scalars.specs.Bytes.{letter}
 use Rattle.cxx_tree.specs.Tree.{Tree}
 use Rattle.cxx_grammar.specs.declared.cases.NameCase.{NameCase}
 use Rattle.cxx_grammar.specs.declared.cases.FirstCase.{FirstCase}
@@ -9,12 +8,12 @@ use Rattle.cxx_grammar.specs.declared.cases.ComponentCase.{ComponentCase}
 use Rattle.cxx_grammar.specs.declared.cases.TypeCase.{TypeCase}
 use Rattle.cxx_grammar.specs.declared.cases.ArgCase.{ArgCase}
 use Rattle.cxx_grammar.specs.declared.cases.LiteralCase.{LiteralCase}
-use Rattle.cxx_grammar.specs.State.{State, Info, Named, plain, Parses, ◌>>=◌, skip, past, save}
-use Rattle.cxx_grammar.specs.Cases.{is_args_end, is_encoding_end}
+use Rattle.cxx_grammar.specs.State.{State, Info, Named, Parses, skip, past}
+use Rattle.cxx_grammar.specs.Cases.{is_args_end}
 use Rattle.cxx_grammar.specs.Grammar as grammar
-use Rattle.cxx_reader.specs.Parser.{parse_items, parse_list, parse_args, parse_with_args, parse_unscoped, component_as, parse_component, parse_next, parse_components, parse_rest, first_as, name_as, literal_as, arg_as, parse_type_args, type_as, parse_name, parse_arg, parse_type, parse_qualified}
+use Rattle.cxx_reader.specs.Parser.{parse_items, parse_args, parse_with_args, parse_unscoped, component_as, parse_component, parse_components, first_as, name_as, literal_as, arg_as, parse_type_args, type_as, parse_name, parse_arg, parse_type, parse_qualified}
 use Rattle.cxx_reader.proofs.Turns.{items_opens, components_opens}
-use Rattle.cxx_reader.proofs.Takes.{arg_takes, component_takes, skipped, past_within}
+use Rattle.cxx_reader.proofs.Takes.{arg_takes, component_takes, past_within}
 
 -- all arguments
 all_args : (arg : Parses Tree) (s : State) (ts : List Tree) (end after : State) → parse_items is_args_end arg (length (skip 1 s).rest + 1) (skip 1 s) ≡ Some (ts, end) → skip 1 end ≡ after → parse_args arg s ≡ Some (ts, after)

@@ -1,9 +1,7 @@
 -- Tables that grow.
-use Rattle.std.proofs.Common.{ℕ, ◌≡◌, ◌+◌, ◌<◌, ◌≤◌, List, [], ◌∷◌, ◌++◌, length, map, drop, take, zero, suc, refl, sym, ap, ◌∙◌, arith, subst, true, false, Result, Ok, Err, Option, Some, None}
+use Rattle.std.proofs.Common.{ℕ, ◌≡◌, ◌<◌, ◌≤◌, List, [], ◌∷◌, ◌++◌, length, map, drop, take, zero, suc, refl, sym, ap, ◌∙◌, arith, subst, Result, Ok, Err}
 use Rattle.std.specs.List.{AllByRecursion}
-use Rattle.std.proofs.lemmas.List.{map-append}
 use Rattle.cxx_tree.specs.Tree.{Tree}
-use Rattle.cxx_tree.specs.Measure.{measure}
 use Rattle.cxx_tree.specs.Grows.{Grows, Makes}
 use Rattle.cxx_tree.specs.Stored.{Store, forest, size, tree_at}
 use Rattle.cxx_tree.specs.declared.arena.PushError.{PushError}
@@ -14,7 +12,7 @@ use Rattle.cxx_reader.specs.declared.reader.Reader.{Reader}
 use Rattle.cxx_reader.specs.declared.stop.Stop.{Stop}
 use Rattle.cxx_reader.specs.declared.stop.Stop.TheVariants.{Unreadable, Memory}
 use Rattle.cxx_reader.specs.Table.{Table, IsTable, IsNode, Stays, MakesIn, stands, saved_trees, stopped, taken}
-use Rattle.cxx_reader.specs.Outcome.{state, Gives, Keeps}
+use Rattle.cxx_reader.specs.Outcome.{Gives, Keeps}
 use Rattle.cxx_tree.proofs.Grown.{Grows-same, Grows-trans}
 use Rattle.std.specs.Prelude.{OnOk}
 

@@ -1,5 +1,5 @@
 -- The nodes of a list that is read stand after those of the lists around it.
-use Rattle.std.proofs.Common.{ℕ, ◌≡◌, ◌+◌, ◌<◌, ◌≤◌, List, [], ◌∷◌, ◌++◌, length, map, drop, take, refl, sym, ap, ◌∙◌, arith, subst, zero, suc, Option, Some, None, true, false, Bool, Result, Ok, Err}
+use Rattle.std.proofs.Common.{ℕ, ◌≡◌, ◌+◌, ◌≤◌, List, [], ◌∷◌, ◌++◌, length, map, drop, take, refl, sym, ap, ◌∙◌, arith, subst, zero, suc, Option, Some, true, false, Bool, Result, Ok, Err}
 use Rattle.std.specs.List.{AllByRecursion}
 use Rattle.std.proofs.lemmas.List.{map-append}
 use Rattle.cxx_tree.specs.Tree.{Tree}
@@ -7,13 +7,13 @@ use Rattle.cxx_tree.specs.Grows.{Grows}
 use Rattle.cxx_tree.specs.declared.node.List as handle
 use Rattle.std.specs.Prelude.{IfOk, IsOkUnless}
 use Rattle.cxx_tree.specs.Stored.{size, list_at, IsListBelow}
-use Rattle.cxx_grammar.specs.State.{State, Named, Parses, ◌>>=◌, skip}
+use Rattle.cxx_grammar.specs.State.{State, Named, Parses, skip}
 use Rattle.cxx_grammar.specs.Cases.{is_args_end, is_encoding_end}
 use Rattle.cxx_reader.specs.declared.reader.Reader.{Reader}
 use Rattle.cxx_reader.specs.declared.stop.Stop.{Stop}
 use Rattle.cxx_reader.specs.declared.stop.Stop.TheVariants.{Unreadable, Memory}
 use Rattle.cxx_reader.specs.Table.{Table, IsNode, stands}
-use Rattle.cxx_reader.specs.Parser.{parse_list, parse_args, parse_next, parse_rest, parse_some_params}
+use Rattle.cxx_reader.specs.Parser.{parse_list, parse_args, parse_next, parse_some_params}
 use Rattle.cxx_reader.specs.Outcome.{state, Gives, GivesList, GivesNamed, GivesFrom, list_trees}
 use Rattle.cxx_reader.proofs.Kept.{map-stands, below-more, below-push}
 use Rattle.cxx_reader.proofs.Turns.{ListSoFar, items_start, items_end, items_fail, ComponentsSoFar, components_fail}

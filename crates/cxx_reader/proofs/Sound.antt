@@ -1,9 +1,8 @@
 -- What the parser reads is in the grammar.
-use Rattle.std.proofs.Common.{ℕ, ◌≡◌, ◌+◌, List, [], ◌∷◌, ◌++◌, refl, sym, ap, subst, zero, suc, true, false, Bool, Option, Some, None, length, drop}
-use Rattle.std.specs.Prelude.{if◌then◌else◌, codes, ◌&&◌, not}
+use Rattle.std.proofs.Common.{ℕ, ◌≡◌, ◌+◌, List, [], ◌∷◌, refl, sym, subst, zero, suc, true, false, Bool, Option, Some, None, length, drop}
+use Rattle.std.specs.Prelude.{if◌then◌else◌, codes}
 use Rattle.abi_scalars.specs.Bytes.{begins}
-use Rattle.cxx_tree.specs.Tree.{Tree, scoped, with_args, data_name, listed, expansion, qualified, pointer, reference}
-use Rattle.cxx_tree.specs.Rows.{typed_literal}
+use Rattle.cxx_tree.specs.Tree.{Tree, with_args}
 use Rattle.cxx_tree.specs.Stored.{trees_from_list}
 use Rattle.cxx_grammar.specs.declared.cases.NameCase.{NameCase}
 use Rattle.cxx_grammar.specs.declared.cases.NameCase.TheVariants as name_case
@@ -17,14 +16,13 @@ use Rattle.cxx_grammar.specs.declared.cases.ArgCase.{ArgCase}
 use Rattle.cxx_grammar.specs.declared.cases.ArgCase.TheVariants as arg
 use Rattle.cxx_grammar.specs.declared.cases.LiteralCase.{LiteralCase}
 use Rattle.cxx_grammar.specs.declared.cases.LiteralCase.TheVariants as literal
-use Rattle.cxx_grammar.specs.State.{State, Info, Named, plain, Parses, ◌>>=◌, skip, past, save, make, make_saved}
-use Rattle.cxx_grammar.specs.Cases.{is_encoding_end, is_args_end, case_of_name, case_of_first, case_of_component, case_of_type, case_of_arg, case_of_literal}
+use Rattle.cxx_grammar.specs.State.{State, Info, Named, plain, Parses, ◌>>=◌, skip, past, save, make_saved}
+use Rattle.cxx_grammar.specs.Cases.{is_args_end, case_of_name, case_of_first, case_of_component, case_of_type, case_of_arg, case_of_literal}
 use Rattle.cxx_grammar.specs.Bases.{is_with_args}
-use Rattle.cxx_grammar.specs.Leaves.{parse_base, parse_unmarked_base, parse_substitution, parse_template_param, parse_builtin, parse_number_end, parse_bool, parse_null, parse_integer, cv_at, past_cv, past_ref}
-use Rattle.cxx_grammar.specs.Binds.{bind_encoding}
+use Rattle.cxx_grammar.specs.Leaves.{parse_base, parse_unmarked_base, parse_substitution, parse_template_param, parse_number_end, past_cv, past_ref}
 use Rattle.cxx_grammar.specs.Grammar.{make_with_args, make_ctor, make_scoped, make_function, info_at, has_return, std}
 use Rattle.cxx_grammar.specs.Grammar as grammar
-use Rattle.cxx_reader.specs.Parser.{parse_items, parse_list, parse_args, parse_with_args, parse_unscoped, parse_inherited, parse_scoped, component_as, parse_more_args, parse_component, parse_next, parse_components, parse_rest, parse_after, with_info, first_as, first_substitution, first_param, first_base, parse_first, parse_nested, base_in_std, parse_in_std, with_args_only, parse_substituted, parse_unqualified, name_as, parse_typed, literal_as, parse_pack, parse_literal, arg_as, parse_type_args, parse_around, reference_to, parse_param_type, parse_substituted_type, parse_class, parse_saved_type, type_as, qualified_as, parse_name, parse_arg, parse_type, parse_qualified, parse_return, parse_some_params, parse_params, parse_function, parse_signature, encoding_as, parse_encoding}
+use Rattle.cxx_reader.specs.Parser.{parse_items, parse_list, parse_args, parse_with_args, parse_unscoped, component_as, parse_more_args, parse_component, parse_next, parse_components, parse_rest, with_info, first_as, base_in_std, name_as, literal_as, arg_as, parse_type_args, type_as, parse_name, parse_arg, parse_type, parse_qualified}
 
 pub bind_ok : {A B : Type 0} (o : Option A) (f : A → Option B) (y : B) → (o >>= f) ≡ Some y → (x : A) × (o ≡ Some x) × (f x ≡ Some y)
 bind_ok None f y e = absurd (let g = e in cc)

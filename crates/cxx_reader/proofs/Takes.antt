@@ -1,7 +1,7 @@
 -- What is read takes a byte at least.
-use Rattle.std.proofs.Common.{ℕ, ◌≡◌, ◌+◌, ◌<◌, ◌≤◌, List, [], ◌∷◌, refl, sym, ap, ◌∙◌, arith, true, false, Bool, Option, Some, None, length, drop, length-drop}
-use Rattle.std.specs.Prelude.{if◌then◌else◌, codes, ◌&&◌}
-use Rattle.abi_scalars.specs.Bytes.{letter, begins, begins_between, begins_one_of}
+use Rattle.std.proofs.Common.{ℕ, ◌≡◌, ◌<◌, ◌≤◌, List, [], ◌∷◌, refl, sym, ap, arith, true, false, Bool, Option, Some, None, length, drop, length-drop}
+use Rattle.std.specs.Prelude.{if◌then◌else◌, codes}
+use Rattle.abi_scalars.specs.Bytes.{letter, begins}
 use Rattle.abi_scalars.specs.Scalars.{index_of}
 use Rattle.abi_scalars.specs.Texts.{identifier, number_text}
 use Rattle.abi_scalars.specs.declared.numerals.Radix.TheVariants.{Base36, Decimal}
@@ -18,9 +18,9 @@ use Rattle.cxx_grammar.specs.declared.cases.ComponentCase.TheVariants as compone
 use Rattle.cxx_grammar.specs.declared.cases.TypeCase.{TypeCase}
 use Rattle.cxx_grammar.specs.declared.cases.ArgCase.{ArgCase}
 use Rattle.cxx_grammar.specs.declared.cases.LiteralCase.{LiteralCase}
-use Rattle.cxx_grammar.specs.State.{State, Named, Parses, ◌>>=◌, skip, with_rest, past, past_byte, save, make, make_saved}
-use Rattle.cxx_grammar.specs.Cases.{case_of_base, case_of_component, is_encoding_end}
-use Rattle.cxx_grammar.specs.Leaves.{parse_source, parse_operator, operator_here, parse_prefixed, base_as, parse_base, parse_unmarked_base, std_of, saved_at, parse_saved, substitution_as, parse_substitution, parse_template_param, builtin_word, parse_d_builtin, parse_builtin, at_letter, parse_number_end, parse_bool, parse_null, parse_integer, integer_here, past_cv, past_ref}
+use Rattle.cxx_grammar.specs.State.{State, Named, skip, with_rest, past, past_byte, save, make, make_saved}
+use Rattle.cxx_grammar.specs.Cases.{case_of_base, case_of_component}
+use Rattle.cxx_grammar.specs.Leaves.{parse_source, parse_operator, operator_here, parse_prefixed, base_as, parse_base, parse_unmarked_base, std_of, parse_saved, substitution_as, parse_substitution, parse_template_param, builtin_word, parse_d_builtin, parse_builtin, at_letter, parse_number_end, parse_bool, parse_null, parse_integer, integer_here, past_cv, past_ref}
 use Rattle.cxx_grammar.specs.Grammar.{make_named, make_ctor, ctor_info}
 use Rattle.cxx_grammar.specs.Grammar as grammar
 use Rattle.cxx_grammar.specs.State.{Info}

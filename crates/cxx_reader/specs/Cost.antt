@@ -1,5 +1,5 @@
 -- What calls cost: the nodes that they make, and what they save and append to the lists that are read.
-use Rattle.std.specs.Prelude.{◌≡◌, ℕ, ◌+◌, ◌*◌, ◌≤◌, length, Bool, if◌then◌else◌}
+use Rattle.std.specs.Prelude.{ℕ, ◌+◌, ◌*◌, ◌≤◌, length, Bool, if◌then◌else◌}
 use Rattle.cxx_tree.specs.Stored.{size}
 use Rattle.cxx_reader.specs.Table.{Table}
 use Rattle.cxx_reader.specs.declared.reader.Reader.{Reader}

@@ -1,5 +1,5 @@
 -- What a reader's call gives.
-use Rattle.std.specs.Prelude.{◌≡◌, ℕ, ◌<◌, ◌≤◌, List, drop, take, Option, Some, None, Result, Ok, Err, map, length, option_map, IfSome}
+use Rattle.std.specs.Prelude.{◌≡◌, ℕ, ◌≤◌, List, drop, take, Option, Some, None, Result, Ok, Err, map, length, option_map, IfSome}
 use Rattle.std.specs.List.{AllByRecursion}
 use Rattle.std.specs.Borrow.{Bor}
 use Rattle.cxx_grammar.specs.Leaves.{number_printed}

@@ -1,5 +1,5 @@
 -- The parser: what the readers are specified by. It never runs. Where a production has others inside, these come first.
-use Rattle.std.specs.Prelude.{ℕ, zero, suc, ◌+◌, ◌++◌, List, [], ◌∷◌, codes, Bool, true, false, ◌&&◌, not, if◌then◌else◌, drop, length, Option, Some, None}
+use Rattle.std.specs.Prelude.{ℕ, zero, suc, ◌+◌, List, [], ◌∷◌, codes, Bool, true, false, if◌then◌else◌, drop, length, Option, Some, None}
 use Rattle.cxx_tree.specs.Tree.{Tree, scoped, with_args, data_name, listed, expansion, qualified, pointer, reference}
 use Rattle.cxx_tree.specs.Stored.{trees_from_list}
 use Rattle.cxx_tree.specs.Rows.{typed_literal}
@@ -16,12 +16,12 @@ use Rattle.cxx_grammar.specs.declared.cases.ArgCase.{ArgCase}
 use Rattle.cxx_grammar.specs.declared.cases.ArgCase.TheVariants as arg
 use Rattle.cxx_grammar.specs.declared.cases.LiteralCase.{LiteralCase}
 use Rattle.cxx_grammar.specs.declared.cases.LiteralCase.TheVariants as literal
-use Rattle.cxx_grammar.specs.State.{State, Info, Named, plain, Parses, ◌>>=◌, skip, past, save, make, make_saved}
+use Rattle.cxx_grammar.specs.State.{Info, Named, plain, Parses, ◌>>=◌, skip, past, save, make, make_saved}
 use Rattle.cxx_grammar.specs.Cases.{is_encoding_end, is_args_end, case_of_name, case_of_first, case_of_component, case_of_type, case_of_arg, case_of_literal}
 use Rattle.cxx_grammar.specs.Bases.{is_with_args}
 use Rattle.cxx_grammar.specs.Leaves.{parse_base, parse_unmarked_base, parse_substitution, parse_template_param, parse_builtin, parse_number_end, parse_bool, parse_null, parse_integer, cv_at, past_cv, past_ref}
 use Rattle.cxx_grammar.specs.Binds.{bind_encoding}
-use Rattle.cxx_grammar.specs.Grammar.{make_with_args, make_named, make_ctor, make_scoped, make_function, info_at, has_return, std}
+use Rattle.cxx_grammar.specs.Grammar.{make_with_args, make_ctor, make_scoped, make_function, info_at, has_return, std}
 
 -- items up to an end, at most n of them
 unfoldable pub parse_items : (List ℕ → Bool) → Parses Tree → ℕ → Parses (List Tree)

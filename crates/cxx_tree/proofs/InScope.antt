@@ -1,17 +1,12 @@
 -- A name in a scope.
-use Rattle.std.proofs.Common.{ℕ, ◌≡◌, ◌+◌, ◌<◌, ◌≤◌, Bool, true, false, List, length, refl, sym, ap, ◌∙◌, arith, max, min, Result, Err}
+use Rattle.std.proofs.Common.{ℕ, ◌≡◌, ◌+◌, ◌<◌, ◌≤◌, true, false, List, length, refl, sym, ◌∙◌, arith, max}
 use Rattle.std.proofs.lemmas.Grind.{common_steps}
 use Rattle.std.specs.Prelude.{Option, None, Some}
 use Rattle.std.specs.Option.{option_or}
 use Rattle.cxx_tree.specs.declared.counts.Measure as stored
-use Rattle.cxx_tree.specs.declared.arena.PushError.{PushError}
-use Rattle.cxx_tree.specs.declared.arena.PushError.TheVariants.{Memory, Limit}
 use Rattle.cxx_tree.specs.Tree.{Tree, named, scoped}
 use Rattle.cxx_tree.specs.Measure.{Measure, measure, nothing, join, around, within}
-use Rattle.cxx_tree.specs.Counts.{Row, Tallied, AreExact}
-use Rattle.cxx_tree.specs.Stored.{Store, forest, tree_at}
-use Rattle.cxx_tree.specs.Grows.{Grows, Makes}
-use Rattle.cxx_tree.proofs.Grown.{Makes-after}
+use Rattle.cxx_tree.specs.Counts.{Row, AreExact}
 
 option-end : (o : Option ℕ) → option_or o None ≡ o
 option-end None = refl

@@ -1,4 +1,4 @@
-use Rattle.std.proofs.Common.{ℕ, ◌≡◌, ◌<◌, List, [], ◌∷◌, ◌++◌, ◌∙◌, length, map, drop, take, sym, ap, subst, arith, rules, refl, Some, length-append, length-drop}
+use Rattle.std.proofs.Common.{ℕ, ◌≡◌, ◌<◌, List, [], ◌∷◌, ◌++◌, ◌∙◌, length, map, drop, take, sym, ap, subst, arith, rules, refl, Some, length-append}
 use Rattle.std.specs.List.{AllByRecursion}
 use Rattle.cxx_tree.specs.Tree.{Tree}
 use Rattle.cxx_tree.specs.Grows.{Grows}
@@ -10,7 +10,7 @@ use Rattle.cxx_reader.specs.declared.reader.Reader.{Reader}
 use Rattle.cxx_reader.specs.Parser.{parse_arg, parse_name, parse_list}
 use Rattle.cxx_reader.specs.Table.{Table, IsNode, stands}
 use Rattle.cxx_reader.specs.Outcome.{state, IsNamed, named_at, GivesNamed}
-use Rattle.cxx_reader.proofs.Kept.{Keeps-trans, Keeps-tables, Keeps-after}
+use Rattle.cxx_reader.proofs.Kept.{Keeps-trans}
 use Rattle.cxx_reader.proofs.Costs.{Pays-tables, Pays-trans, Pays-add}
 use Rattle.cxx_reader.proofs.Turns.{ListSoFar, items_more, components_more, components_end}
 use Rattle.cxx_reader.proofs.Lists.{list_start, none-below, take-length, take-push, one-more, one-more-below, args_stop, components_stop, close_gives}

@@ -1,4 +1,4 @@
-use Rattle.std.proofs.Common.{◌≡◌, ◌+◌, ◌*◌, ◌≤◌, length, drop}
+use Rattle.std.proofs.Common.{◌≡◌, ◌+◌, ◌*◌, ◌≤◌, drop}
 use Rattle.cxx_tree.specs.Stored.{forest, trees_at}
 use Rattle.cxx_printer.specs.Heads.{count_items}
 use Rattle.cxx_printer.proofs.operands.count_of_list.Given as goal

@@ -1,4 +1,4 @@
-use Rattle.std.proofs.Common.{ℕ, ◌+◌, ◌*◌}
+use Rattle.std.proofs.Common.{◌+◌, ◌*◌}
 use Rattle.cxx_printer.proofs.shapes.+closings.Given as goal
 
 abbrev pub decreases-is_closed : goal.decreases-is_closed

@@ -1,4 +1,4 @@
-use Rattle.std.proofs.Common.{ℕ, ◌+◌, ◌*◌}
+use Rattle.std.proofs.Common.{◌+◌, ◌*◌}
 use Rattle.cxx_printer.proofs.shapes.+endings.Given as goal
 
 abbrev pub decreases-ending_of : goal.decreases-ending_of

@@ -1,6 +1,5 @@
 use Rattle.std.proofs.Common.{ℕ, List, ◌++◌, ◌+◌, take, drop, ap, ◌∙◌, codes}
 use Rattle.std.proofs.lemmas.List.{take_rest}
-use Rattle.cxx_printer.specs.Prints.{Prints}
 use Rattle.cxx_printer.specs.Symbol.{between, pieces_behind}
 use Rattle.cxx_printer.proofs.Symbols.{pieces_behind-step, pieces_behind-end, so_far-step, so_far-end}
 use Rattle.cxx_printer.proofs.symbol.print_behind.Goals as goal

@@ -1,5 +1,4 @@
 use Rattle.std.proofs.Common.{take}
-use Rattle.cxx_printer.specs.Prints.{Prints}
 use Rattle.cxx_printer.specs.Symbol.{between}
 use Rattle.cxx_printer.proofs.Appended.{prints_then}
 use Rattle.cxx_printer.proofs.symbol.print_byte.Goals as goal

@@ -1,5 +1,4 @@
 use Rattle.std.proofs.Common.{codes}
-use Rattle.cxx_printer.specs.Prints.{Prints}
 use Rattle.cxx_printer.specs.Symbol.{in_parens}
 use Rattle.cxx_printer.proofs.Symbols.{prints_three}
 use Rattle.cxx_printer.proofs.symbol.print_in_parens.Goals as goal

@@ -1,4 +1,4 @@
-use Rattle.std.proofs.Common.{ℕ, ◌≡◌, ◌-◌, ◌≤◌, sym, ap, subst}
+use Rattle.std.proofs.Common.{◌-◌, ◌≤◌, sym, subst}
 use Rattle.cxx_tree.specs.Tree.{Tree}
 use Rattle.cxx_tree.specs.Measure.{measure}
 use Rattle.cxx_reader.specs.Parser.{parse_type}

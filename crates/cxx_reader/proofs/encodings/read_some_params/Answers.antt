@@ -1,5 +1,4 @@
-use Rattle.std.proofs.Common.{ℕ, ◌≡◌, ◌+◌, ◌<◌, ◌≤◌, List, [], ◌∷◌, ◌++◌, ◌∙◌, length, map, drop, take, refl, sym, ap, subst, arith, rules, Some, length-append}
-use Rattle.std.specs.List.{AllByRecursion}
+use Rattle.std.proofs.Common.{ℕ, ◌≡◌, ◌<◌, List, [], ◌∷◌, ◌++◌, ◌∙◌, length, take, refl, sym, ap, subst, arith, rules, Some, length-append}
 use Rattle.cxx_tree.specs.Tree.{Tree}
 use Rattle.cxx_tree.specs.Grows.{Grows}
 use Rattle.cxx_tree.specs.Stored.{Store, forest, size, tree_at}
@@ -8,7 +7,7 @@ use Rattle.cxx_grammar.specs.Cases.{is_encoding_end}
 use Rattle.cxx_grammar.specs.State.{State}
 use Rattle.cxx_reader.specs.declared.reader.Reader.{Reader}
 use Rattle.cxx_reader.specs.Parser.{parse_type, parse_some_params}
-use Rattle.cxx_reader.specs.Table.{Table, IsNode, stands}
+use Rattle.cxx_reader.specs.Table.{IsNode, stands}
 use Rattle.cxx_reader.specs.Outcome.{state, GivesFrom}
 use Rattle.std.proofs.Common.{Ok}
 use Rattle.cxx_reader.proofs.Costs.{Pays-add}

@@ -1,4 +1,4 @@
-use Rattle.std.proofs.Common.{◌≤◌, arith}
+use Rattle.std.proofs.Common.{arith}
 use Rattle.cxx_tree.specs.Counts.{Tallied}
 use Rattle.cxx_tree.specs.Stored.{forest, tree_at, text_at}
 use Rattle.cxx_tree.proofs.InScope.{long-limit}

@@ -1,7 +1,7 @@
-use Rattle.std.proofs.Common.{ℕ, ◌≡◌, ◌+◌, ◌<◌, ◌≤◌, List, [], ◌∷◌, ◌++◌, ◌∙◌, length, map, drop, take, refl, sym, ap, subst, arith, rules, Some, Ok, length-append}
+use Rattle.std.proofs.Common.{ℕ, ◌≡◌, ◌+◌, ◌<◌, List, [], ◌∷◌, ◌++◌, ◌∙◌, length, map, drop, take, refl, sym, ap, subst, arith, Some, Ok, length-append}
 use Rattle.cxx_tree.specs.Tree.{Tree}
 use Rattle.cxx_tree.specs.Grows.{Grows}
-use Rattle.cxx_tree.specs.Stored.{Store, forest, size, tree_at, list_at, trees_from_list}
+use Rattle.cxx_tree.specs.Stored.{Store, forest, size, tree_at, trees_from_list}
 use Rattle.cxx_tree.proofs.Grown.{Grows-trans}
 use Rattle.cxx_tree.proofs.Replaced.{list_below-grows}
 use Rattle.cxx_grammar.specs.State.{State}
@@ -11,8 +11,7 @@ use Rattle.cxx_reader.specs.Table.{IsNode, stands}
 use Rattle.cxx_reader.specs.Outcome.{state, GivesFrom, list_trees}
 use Rattle.cxx_reader.proofs.Lists.{take-push, one-more, one-more-below}
 use Rattle.cxx_reader.proofs.Bound.{BoundSoFar, bound_end, bound_more, bound_stop, next_arg, no_arg}
-use Rattle.cxx_tree.specs.Measure.{measure_each}
-use Rattle.cxx_reader.proofs.Costs.{SpendsSoFar, spends_more, spends_of, spends_added}
+use Rattle.cxx_reader.proofs.Costs.{spends_more, spends_of, spends_added}
 use Rattle.cxx_reader.proofs.Bound.{one_less}
 use Rattle.cxx_reader.proofs.reader.Reader.bind_args.Goals as goal
 

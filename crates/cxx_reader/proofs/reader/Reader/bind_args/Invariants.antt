@@ -1,4 +1,4 @@
-use Rattle.std.proofs.Common.{ℕ, ◌≡◌, ◌≤◌, [], length, map, drop, take}
+use Rattle.std.proofs.Common.{◌≡◌, ◌≤◌, [], length, map, drop, take}
 use Rattle.std.specs.List.{AllByRecursion}
 use Rattle.cxx_tree.specs.Measure.{measure_each}
 use Rattle.cxx_reader.proofs.Costs.{SpendsSoFar}

@@ -1,5 +1,5 @@
-use Rattle.std.proofs.Common.{◌≡◌, ◌∙◌, sym, ap, subst, true, Some}
-use Rattle.cxx_tree.specs.Tree.{Tree, std_name}
+use Rattle.std.proofs.Common.{◌∙◌, sym, ap, subst, Some}
+use Rattle.cxx_tree.specs.Tree.{Tree}
 use Rattle.cxx_tree.specs.Measure.{measure}
 use Rattle.cxx_tree.specs.Stored.{Store, forest, tree_at, tree_of, plain_tree}
 use Rattle.cxx_grammar.specs.Bases.{expand}

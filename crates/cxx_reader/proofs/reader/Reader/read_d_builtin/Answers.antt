@@ -1,6 +1,4 @@
-use Rattle.std.proofs.Common.{◌≡◌, ◌∙◌, sym, ap, subst, refl, true}
-use Rattle.std.specs.Prelude.{if◌then◌else◌}
-use Rattle.cxx_grammar.specs.State.{State}
+use Rattle.std.proofs.Common.{◌∙◌, sym}
 use Rattle.cxx_reader.specs.declared.reader.Reader.{Reader}
 use Rattle.cxx_reader.proofs.Kept.{gives_made}
 use Rattle.cxx_reader.proofs.reader.Reader.read_d_builtin.Goals as goal

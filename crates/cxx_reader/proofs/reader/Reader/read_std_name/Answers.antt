@@ -1,6 +1,6 @@
 use Rattle.std.proofs.Common.{◌≡◌, ◌∙◌, sym, subst, true}
 use Rattle.abi_scalars.specs.Texts.{begins_source}
-use Rattle.cxx_grammar.specs.State.{State, skip}
+use Rattle.cxx_grammar.specs.State.{State}
 use Rattle.cxx_reader.specs.Table.{stands}
 use Rattle.cxx_reader.specs.Parser.{base_in_std}
 use Rattle.cxx_reader.specs.Outcome.{state, Gives}

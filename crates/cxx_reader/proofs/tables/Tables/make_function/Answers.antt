@@ -1,4 +1,4 @@
-use Rattle.std.proofs.Common.{ℕ, ◌≡◌, List, map, drop, refl, sym, subst, ap, ◌∙◌, Result, None}
+use Rattle.std.proofs.Common.{ℕ, List, map, drop, refl, sym, subst, ap, ◌∙◌, Result, None}
 use Rattle.std.specs.Prelude.{option_map}
 use Rattle.cxx_tree.specs.Rows.{function_encoding}
 use Rattle.cxx_tree.specs.Grows.{Makes}
