@@ -19,8 +19,7 @@ pub fn name(arena: &mut Arena, text: &[u8]) -> Result<u32, PushError>
     ensures makes { Makes result arena.old arena.new (named text.now) }
     ensures few { size arena.new ≤ size arena.old + 1 }
 {
-    let text = arena.text(text)?;
-    arena.push(Node::Plain(Plain::Name(text)))
+    arena.push_name(text)
 }
 
 /// Makes a name in a scope.
@@ -31,8 +30,7 @@ pub fn name_in(arena: &mut Arena, scope: u32, text: &[u8]) -> Result<u32, PushEr
         (scoped false (tree_at (forest arena.old) scope) (named text.now)) }
     ensures few { size arena.new ≤ size arena.old + 1 }
 {
-    let text = arena.text(text)?;
-    arena.push(Node::Plain(Plain::ScopedName(scope, text)))
+    arena.push_scoped_name(scope, text)
 }
 
 /// Makes the literal of an integer: a number, between the texts around it.

@@ -66,7 +66,7 @@ plain_tree-same h n ts us agree (plain.StdName std expanded) b = refl
 plain_tree-same h n ts us agree (plain.Phrase attributes ps) b =
     ap (phrase attributes) (parts_of-same h n ts us agree (parts_at h ps) b.1)
 plain_tree-same h n ts us agree (plain.Scoped friend scope name) b = let one = agree scope b.0 in let two = agree name b.1 in cc
-plain_tree-same h n ts us agree (plain.ScopedName scope name) b = ap (λ (t : Tree). scoped false t (named (text_at h name))) (agree scope b.0)
+plain_tree-same h n ts us agree (plain.ScopedName scope name path) b = ap (λ (t : Tree). scoped false t (named (text_at h name))) (agree scope b.0)
 plain_tree-same h n ts us agree (plain.WithArgs name args) b =
     let one = agree name b.0 in let rest = trees_at-same n ts us agree (list_at h args) b.1.1 in cc
 plain_tree-same h n ts us agree (plain.AbiTag name tag) b = ap (λ (t : Tree). abi_tag t (text_at h tag)) (agree name b.0)
@@ -187,7 +187,7 @@ plain_tree-more h g e n ts (plain.Leaf simple x y) b = let one = text_at-more h 
 plain_tree-more h g e n ts (plain.StdName std expanded) b = refl
 plain_tree-more h g e n ts (plain.Phrase attributes ps) b = ap (phrase attributes) (parts_in-more h g e n ts ps b)
 plain_tree-more h g e n ts (plain.Scoped friend scope name) b = refl
-plain_tree-more h g e n ts (plain.ScopedName scope name) b = ap (λ (bytes : List ℕ). scoped false (tree_at ts scope) (named bytes)) (text_at-more h g e name b.1)
+plain_tree-more h g e n ts (plain.ScopedName scope name path) b = ap (λ (bytes : List ℕ). scoped false (tree_at ts scope) (named bytes)) (text_at-more h g e name b.1)
 plain_tree-more h g e n ts (plain.WithArgs name args) b = ap (with_args (tree_at ts name)) (trees_in-more h g e n ts args b.1)
 plain_tree-more h g e n ts (plain.AbiTag name tag) b = ap (abi_tag (tree_at ts name)) (text_at-more h g e tag b.1)
 plain_tree-more h g e n ts (plain.InModule name owner) b = refl
@@ -266,7 +266,9 @@ IsPlainBelow-more h g e n m le (plain.Leaf simple x y) b = (IsText-more h g e x 
 IsPlainBelow-more h g e n m le (plain.StdName std expanded) b = b
 IsPlainBelow-more h g e n m le (plain.Phrase attributes ps) b = IsPartsBelow-more h g e n m le ps b
 IsPlainBelow-more h g e n m le (plain.Scoped friend scope name) b = (omega (arith, le, b.0), omega (arith, le, b.1))
-IsPlainBelow-more h g e n m le (plain.ScopedName scope name) b = (omega (arith, le, b.0), IsText-more h g e name b.1)
+IsPlainBelow-more h g e n m le (plain.ScopedName scope name None) b = (omega (arith, le, b.0), IsText-more h g e name b.1, tt)
+IsPlainBelow-more h g e n m le (plain.ScopedName scope name (Some r)) b =
+    (omega (arith, le, b.0), IsText-more h g e name b.1, IsText-more h g e (Stored r) b.2)
 IsPlainBelow-more h g e n m le (plain.WithArgs name args) b = (omega (arith, le, b.0), IsListBelow-more h g e n m le args b.1)
 IsPlainBelow-more h g e n m le (plain.AbiTag name tag) b = (omega (arith, le, b.0), IsText-more h g e tag b.1)
 IsPlainBelow-more h g e n m le (plain.InModule name owner) b = (omega (arith, le, b.0), omega (arith, le, b.1))

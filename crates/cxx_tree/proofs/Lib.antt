@@ -4,4 +4,5 @@ pub mod Grown
 pub mod InScope
 pub mod Making
 pub mod Measured
+pub mod Paths
 pub mod Replaced

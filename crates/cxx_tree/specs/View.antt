@@ -1,10 +1,11 @@
 -- What an arena keeps of the nodes that it holds.
-use Rattle.std.specs.Prelude.{ℕ, ◌+◌, List, [], ◌∷◌, map}
+use Rattle.std.specs.Prelude.{ℕ, ◌+◌, List, [], ◌∷◌, map, Option, IfSome}
 use Rattle.cxx_tree.specs.declared.arena.Arena.TheInside.{Inside}
 use Rattle.cxx_tree.specs.declared.arena.Entry as stored
 use Rattle.cxx_tree.specs.declared.node.Node.{Node}
 use Rattle.cxx_tree.specs.Stored.{Held, Store, IsBelow, forest}
 use Rattle.cxx_tree.specs.Counts.{AreCounted}
+use Rattle.cxx_tree.specs.Paths.{ArePaths, IsLastOpen}
 
 -- the nodes that entries hold
 abbrev pub nodes_of : List stored.Entry → List Node
@@ -24,5 +25,10 @@ AreStored h k (n ∷ ns) = IsBelow h k n × AreStored h (k + 1) ns
 abbrev pub IsStore : Store → Type 0
 IsStore s = AreStored s.held 0 s.nodes
 
+-- the nodes with their counts, and the places of their texts
+abbrev pub IsKept : List stored.Entry → Option ℕ → Store → Type 0
+IsKept es start s =
+    IsStore s × AreCounted es (forest s) × ArePaths s.held s.nodes (forest s) × IfSome start (IsLastOpen s)
+
 abbrev pub IsConsistent : Inside → Type 0
-IsConsistent a = IsStore (store_of a) × AreCounted a.entries.items (forest (store_of a))
+IsConsistent a = IsKept a.entries.items a.start (store_of a)

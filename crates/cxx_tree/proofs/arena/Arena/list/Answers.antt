@@ -1,10 +1,10 @@
-use Rattle.std.proofs.Common.{ℕ, refl, sym, subst, ap, ◌∙◌}
+use Rattle.std.proofs.Common.{ℕ, refl, subst, ap, ◌∙◌}
 use Rattle.cxx_tree.specs.declared.node.Part.{Part}
 use Rattle.cxx_tree.specs.Stored.{Store, Held, Extends, forest}
-use Rattle.cxx_tree.specs.Counts.{AreCounted}
 use Rattle.cxx_tree.specs.Grows.{Grows}
 use Rattle.cxx_tree.specs.View.{store_of}
-use Rattle.cxx_tree.proofs.Forest.{grown, grown-forest, Begins-end, Begins-same}
+use Rattle.cxx_tree.proofs.Forest.{grown-forest, Begins-end, Begins-same}
+use Rattle.cxx_tree.proofs.Paths.{kept-held}
 use Rattle.cxx_tree.proofs.Grown.{Grows-held}
 use Rattle.cxx_tree.proofs.arena.Arena.list.Goals as goal
 
@@ -18,7 +18,7 @@ invariant_of-self-2 c =
       Begins-same Part h.parts h.parts refl,
       Begins-same ℕ h.texts h.texts refl,
     ) in
-    (grown s g e c.self.invariant.0, subst (AreCounted c.self.inside.entries.items) (sym (grown-forest s g e c.self.invariant.0)) c.self.invariant.1)
+    kept-held c.self.inside.entries.items c.self.inside.start s g e refl c.self.invariant
 
 pub returns-clause-forest : goal.returns-clause-forest
 returns-clause-forest c =
