@@ -92,9 +92,11 @@ kept-texts es o s g e k =
 open-held : (o : Option ℕ) (s : Store) (g : Held) → g.texts ≡ s.held.texts → forest (record { nodes = s.nodes; held = g }) ≡ forest s → IfSome o (IsLastOpen s) → IfSome o (IsLastOpen (record { nodes = s.nodes; held = g }))
 unfolding IsLastOpen
 open-held None s g e f h = tt
-open-held (Some from) s g e f h =
-    (h.0, subst (λ (ts : List Tree). IsOpen (tree_at ts (size s - 1)) g.texts from) (sym f)
-    (subst (λ (x : List ℕ). IsOpen (tree_at (forest s) (size s - 1)) x from) (sym e) h.1))
+open-held (Some from) s g e f h = (
+  h.0,
+  subst (λ (ts : List Tree). IsOpen (tree_at ts (size s - 1)) g.texts from) (sym f)
+      (subst (λ (x : List ℕ). IsOpen (tree_at (forest s) (size s - 1)) x from) (sym e) h.1),
+)
 
 pub kept-held : (es : List entry.Entry) (o : Option ℕ) (s : Store) (g : Held) → Extends s.held g → g.texts ≡ s.held.texts → IsKept es o s → IsKept es o (record { nodes = s.nodes; held = g })
 kept-held es o s g e f k =
@@ -134,8 +136,7 @@ behind-open q from old bytes new r o p =
     let text = placed-text (old ++ codes "::") bytes new r p in
     let all : drop from new ≡ drop from old ++ (codes "::" ++ slice_range new r.from r.to) =
     ap (drop from) (p.texts ∙ append_assoc old (codes "::") bytes) ∙ drop-front from old (codes "::" ++ bytes) o.1
-    ∙ ap (λ (w : List ℕ). drop from old ++ (codes "::" ++ w)) (sym text) in
-    (
+    ∙ ap (λ (w : List ℕ). drop from old ++ (codes "::" ++ w)) (sym text) in (
       IsPath.member q (drop from old) (slice_range new r.from r.to) (drop from new) o.0 all,
       omega (arith, o.1, ap length p.texts, length-append (old ++ codes "::") bytes, length-append old (codes "::")),
     )

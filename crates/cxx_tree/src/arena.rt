@@ -188,10 +188,11 @@ impl Arena {
     }
 
     /// Appends a name, and returns its index.
-    #[tactic(auto, using(crate::proofs::Making::making, crate::proofs::Grown::grows, crate::proofs::Paths::placed), unfolding(
+    #[tactic(auto, using(
+    // How an arena grows, and what is copied to it.
+    crate::proofs::Making::making, crate::proofs::Grown::grows, crate::proofs::Paths::placed), unfolding(
     // The tree of a node, and what it refers to.
-    crate::specs::Stored::tree_of, crate::specs::Stored::plain_tree, crate::specs::Stored::IsBelow,
-    crate::specs::Stored::IsPlainBelow, crate::specs::Paths::HasPath, crate::specs::Paths::HasPlainPath))]
+    crate::specs::Stored::tree_of, crate::specs::Stored::plain_tree, crate::specs::Stored::IsBelow, crate::specs::Stored::IsPlainBelow, crate::specs::Paths::HasPath, crate::specs::Paths::HasPlainPath))]
     #[inline(always)]
     pub fn push_name(&mut self, name: &[u8]) -> Result<u32, PushError>
         ensures makes { Makes result self.old self.new (named name.now) }
@@ -207,10 +208,11 @@ impl Arena {
 
     /// Appends a name in a scope that stands here, and returns its index. If the texts end with that of the scope, they
     /// go on with `::` and the name.
-    #[tactic(auto, using(crate::proofs::Making::making, crate::proofs::Grown::grows, crate::proofs::Paths::placed), unfolding(
+    #[tactic(auto, using(
+    // How an arena grows, and what is copied to it.
+    crate::proofs::Making::making, crate::proofs::Grown::grows, crate::proofs::Paths::placed), unfolding(
     // The tree of a node, and what it refers to.
-    crate::specs::Stored::tree_of, crate::specs::Stored::plain_tree, crate::specs::Stored::IsBelow,
-    crate::specs::Stored::IsPlainBelow, crate::specs::Paths::HasPath, crate::specs::Paths::HasPlainPath))]
+    crate::specs::Stored::tree_of, crate::specs::Stored::plain_tree, crate::specs::Stored::IsBelow, crate::specs::Stored::IsPlainBelow, crate::specs::Paths::HasPath, crate::specs::Paths::HasPlainPath))]
     #[inline(always)]
     pub fn push_scoped_name(&mut self, scope: u32, name: &[u8]) -> Result<u32, PushError>
         requires scope { scope < size self.old }
@@ -219,7 +221,7 @@ impl Arena {
         ensures few { size self.new ≤ size self.old + 1 }
     {
         match self.start_of(scope) {
-            Some(from) => self.push_behind(from, scope, name),
+            Some(from) => self.push_joined(from, scope, name),
             None => {
                 let text = self.text(name)?;
                 self.push(Node::Plain(Plain::ScopedName(scope, text, None)))
@@ -228,27 +230,25 @@ impl Arena {
     }
 
     // Appends a name in the scope whose text stands at the end of the texts, from a place on.
-    #[tactic(auto, using(crate::proofs::Making::making, crate::proofs::Grown::grows, crate::proofs::Paths::placed), unfolding(
+    #[tactic(auto, using(
+    // How an arena grows, and what is copied to it.
+    crate::proofs::Making::making, crate::proofs::Grown::grows, crate::proofs::Paths::placed), unfolding(
     // The tree of a node, and what it refers to.
-    crate::specs::Stored::tree_of, crate::specs::Stored::plain_tree, crate::specs::Stored::IsBelow,
-    crate::specs::Stored::IsPlainBelow, crate::specs::Paths::HasPath, crate::specs::Paths::HasPlainPath))]
+    crate::specs::Stored::tree_of, crate::specs::Stored::plain_tree, crate::specs::Stored::IsBelow, crate::specs::Stored::IsPlainBelow, crate::specs::Paths::HasPath, crate::specs::Paths::HasPlainPath))]
     #[inline(always)]
-    fn push_behind(&mut self, from: u32, scope: u32, name: &[u8]) -> Result<u32, PushError>
+    fn push_joined(&mut self, from: u32, scope: u32, name: &[u8]) -> Result<u32, PushError>
         requires scope { scope < size self.old }
         requires start { IsOpen (tree_at (forest self.old) scope) self.old.held.texts from }
         ensures makes { Makes result self.old self.new
             (scoped false (tree_at (forest self.old) scope) (named name.now)) }
         ensures few { size self.new ≤ size self.old + 1 }
     {
-        let range = self.place_behind(name)?;
+        let range = self.place_joined(name)?;
         let text = Text::Stored(range);
         let Some(counts) = in_scope(self, scope, text) else {
             return Err(PushError::Limit);
         };
-        let path = Range {
-            from,
-            to: range.to,
-        };
+        let path = Range { from, to: range.to };
         let node = Node::Plain(Plain::ScopedName(scope, text, Some(path)));
         self.push_counted(node, counts, Some(from))
     }
@@ -266,10 +266,11 @@ impl Arena {
     }
 
     /// Returns the text of a name, or of a name in scopes, if it stands in one piece.
-    #[tactic(auto, using(crate::proofs::Making::making, crate::proofs::Grown::grows, crate::proofs::Paths::placed), unfolding(
+    #[tactic(auto, using(
+    // How an arena grows, and what is copied to it.
+    crate::proofs::Making::making, crate::proofs::Grown::grows, crate::proofs::Paths::placed), unfolding(
     // The tree of a node, and what it refers to.
-    crate::specs::Stored::tree_of, crate::specs::Stored::plain_tree, crate::specs::Stored::IsBelow,
-    crate::specs::Stored::IsPlainBelow, crate::specs::Paths::HasPath, crate::specs::Paths::HasPlainPath))]
+    crate::specs::Stored::tree_of, crate::specs::Stored::plain_tree, crate::specs::Stored::IsBelow, crate::specs::Stored::IsPlainBelow, crate::specs::Paths::HasPath, crate::specs::Paths::HasPlainPath))]
     #[inline(always)]
     pub fn path(&self, i: u32) -> Option<&[u8]>
         requires within { i < size self.now }
@@ -291,8 +292,8 @@ impl Arena {
         self.texts.part(range.from as usize, range.to as usize)
     }
 
-    // Appends a node with its counts, and returns its index. If the texts end with its text, the place where that begins
-    // is given.
+    // Appends a node with its counts, and returns its index. If the texts end with its text, it is given where that
+    // begins.
     #[inline(always)]
     fn push_counted(
         &mut self,
@@ -362,7 +363,7 @@ impl Arena {
 
     // Copies `::` and a text. Returns where the text stands.
     #[inline(always)]
-    fn place_behind(&mut self, bytes: &[u8]) -> Result<Range, AllocError>
+    fn place_joined(&mut self, bytes: &[u8]) -> Result<Range, AllocError>
         ensures ok { IfOk result (λ r. IsPlaced (self.old.held.texts ++ codes "::") bytes.now r self.new.held.texts) }
         ensures nodes { self.new.nodes ≡ self.old.nodes }
         ensures forest { forest self.new ≡ forest self.old }
@@ -443,7 +444,9 @@ fn without_path(node: Node) -> Node
     }
 }
 
-#[tactic(auto, unfolding(crate::specs::Stored::plain_tree, crate::specs::Stored::IsPlainBelow, crate::specs::Paths::HasPlainPath))]
+#[tactic(auto, unfolding(
+// The tree of a node, and what it refers to.
+crate::specs::Stored::plain_tree, crate::specs::Stored::IsPlainBelow, crate::specs::Paths::HasPlainPath))]
 #[inline(always)]
 fn plain_without_path(plain: Plain) -> Plain
     ensures tree { (s : Store) → plain_tree s.held (forest s) result ≡ plain_tree s.held (forest s) plain }

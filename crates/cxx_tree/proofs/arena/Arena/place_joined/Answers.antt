@@ -6,7 +6,7 @@ use Rattle.cxx_tree.specs.View.{store_of}
 use Rattle.cxx_tree.proofs.Forest.{grown-forest, Begins-end, Begins-same}
 use Rattle.cxx_tree.proofs.Grown.{Grows-held}
 use Rattle.cxx_tree.proofs.Paths.{kept-texts}
-use Rattle.cxx_tree.proofs.arena.Arena.place_behind.Goals as goal
+use Rattle.cxx_tree.proofs.arena.Arena.place_joined.Goals as goal
 
 pub invariant_of-self-2 : goal.invariant_of-self-2
 invariant_of-self-2 c =

@@ -8,17 +8,17 @@ use Rattle.cxx_tree.specs.Stored.{forest, tree_of, plain_tree, tree_at}
 use Rattle.cxx_tree.proofs.Measured.{tallied-some, tallied-none}
 use Rattle.cxx_tree.proofs.Grown.{Makes-after, Makes-limit}
 use Rattle.cxx_tree.proofs.Paths.{placed-text, behind-open, behind-path}
-use Rattle.cxx_tree.proofs.arena.Arena.push_behind.Goals as goal
+use Rattle.cxx_tree.proofs.arena.Arena.push_joined.Goals as goal
 
 pub returns-in_default-clause-makes : goal.returns-in_default-clause-makes
 returns-in_default-clause-makes c =
     let a = c.args.self.now in
-    let b = c.place_behind.new.self in
+    let b = c.place_joined.new.self in
     let text = placed-text (a.held.texts ++ codes "::") c.args.name.now b.held.texts c.in_ok-range.range (c.in_ok-range.ensures {u = tt}).ok in
-    let scope : tree_at (forest b) c.args.scope ≡ tree_at (forest a) c.args.scope = ap (λ (ts : List Tree). tree_at ts c.args.scope) c.place_behind.ensures.forest in
+    let scope : tree_at (forest b) c.args.scope ≡ tree_at (forest a) c.args.scope = ap (λ (ts : List Tree). tree_at ts c.args.scope) c.place_joined.ensures.forest in
     let one = subst (λ (w : List ℕ). Tallied c.in_scope.result (measure (scoped false (tree_at (forest b) c.args.scope) (named w)))) text c.in_scope.ensures.counts in
     let limit = subst (λ (q : Tree). Tallied c.in_scope.result (measure (scoped false q (named c.args.name.now)))) scope one in
-    Makes-limit a b (scoped false (tree_at (forest a) c.args.scope) (named c.args.name.now)) (tallied-none _ _ limit c.in_default.is) c.place_behind.ensures.grows
+    Makes-limit a b (scoped false (tree_at (forest a) c.args.scope) (named c.args.name.now)) (tallied-none _ _ limit c.in_default.is) c.place_joined.ensures.grows
 
 pub push_counted-requires-clause-counts : goal.push_counted-requires-clause-counts
 unfolding tree_of plain_tree
@@ -32,25 +32,25 @@ pub push_counted-requires-clause-start : goal.push_counted-requires-clause-start
 unfolding tree_of plain_tree
 push_counted-requires-clause-start c =
     let a = c.args.self.now in
-    let b = c.place_behind.new.self in
-    let scope : tree_at (forest b) c.args.scope ≡ tree_at (forest a) c.args.scope = ap (λ (ts : List Tree). tree_at ts c.args.scope) c.place_behind.ensures.forest in
+    let b = c.place_joined.new.self in
+    let scope : tree_at (forest b) c.args.scope ≡ tree_at (forest a) c.args.scope = ap (λ (ts : List Tree). tree_at ts c.args.scope) c.place_joined.ensures.forest in
     behind-open (tree_at (forest b) c.args.scope) c.args.from a.held.texts c.args.name.now b.held.texts c.in_ok-range.range
     (subst (λ (q : Tree). IsOpen q a.held.texts c.args.from) (sym scope) c.requires.start) (c.in_ok-range.ensures {u = tt}).ok
 
 pub push_counted-requires-clause-path : goal.push_counted-requires-clause-path
 unfolding tree_of plain_tree HasPath HasPlainPath
 push_counted-requires-clause-path c =
-    behind-path _ c.args.from c.in_ok-range.range.to c.place_behind.new.self.held.texts (c.in_ok-range.ensures {u = tt}).ok.to (push_counted-requires-clause-start c)
+    behind-path _ c.args.from c.in_ok-range.range.to c.place_joined.new.self.held.texts (c.in_ok-range.ensures {u = tt}).ok.to (push_counted-requires-clause-start c)
 
 pub returns-clause-makes : goal.returns-clause-makes
 unfolding tree_of plain_tree
 returns-clause-makes c =
     let a = c.args.self.now in
-    let b = c.place_behind.new.self in
+    let b = c.place_joined.new.self in
     let end = c.push_counted.new.self in
     let r = c.push_counted.result in
     let text = placed-text (a.held.texts ++ codes "::") c.args.name.now b.held.texts c.in_ok-range.range (c.in_ok-range.ensures {u = tt}).ok in
-    let scope : tree_at (forest b) c.args.scope ≡ tree_at (forest a) c.args.scope = ap (λ (ts : List Tree). tree_at ts c.args.scope) c.place_behind.ensures.forest in
+    let scope : tree_at (forest b) c.args.scope ≡ tree_at (forest a) c.args.scope = ap (λ (ts : List Tree). tree_at ts c.args.scope) c.place_joined.ensures.forest in
     let one = subst (λ (w : List ℕ). Makes r b end (scoped false (tree_at (forest b) c.args.scope) (named w))) text c.push_counted.ensures.makes in
-    Makes-after r a b end (scoped false (tree_at (forest a) c.args.scope) (named c.args.name.now)) c.place_behind.ensures.grows
+    Makes-after r a b end (scoped false (tree_at (forest a) c.args.scope) (named c.args.name.now)) c.place_joined.ensures.grows
     (subst (λ (q : Tree). Makes r b end (scoped false q (named c.args.name.now))) scope one)
