@@ -35,8 +35,8 @@ use crate::words::member_opened;
 use crate::writing::{
     styled_bytes, try_separator, write, write_behind, write_blank_unless, write_byte, write_closed,
     write_cv, write_cv_mark, write_equals, write_id, write_item, write_joined, write_mark,
-    write_number, write_opened, write_path, write_ref, write_separator, write_sizeof, write_star, write_std,
-    write_styled, write_text,
+    write_number, write_opened, write_path, write_ref, write_separator, write_sizeof, write_star,
+    write_std, write_styled, write_text,
 };
 use cxx_tree::{
     Arena, Cv, Declaration, Encoding, Function, List, Listing, Manner, Node, Part, Parts, Phrase,

@@ -171,11 +171,11 @@ pub fn in_scope(arena: &Arena, scope: u32, name: Text) -> Option<Measure>
     ensures counts { Tallied result (spec.measure (scoped false (tree_at (forest arena.now) scope)
         (named (text_at arena.now.held name)))) }
 {
-    let len = text_len(arena, name);
-    if len >= MAX_WORK as usize {
+    let long = text_len(arena, name);
+    if long >= MAX_WORK as usize {
         return None;
     }
-    around(1, with_name(arena.measure(scope), len))
+    around(1, with_name(arena.measure(scope), long))
 }
 
 // The counts of a scope, and of a name of so many bytes after it.
