@@ -1,5 +1,5 @@
 -- Texts of names, and of names in scopes, that stand in one piece.
-use Rattle.std.proofs.Common.{ℕ, ◌≡◌, ◌+◌, ◌-◌, ◌<◌, ◌≤◌, List, [], ◌∷◌, ◌++◌, length, refl, sym, ap, ◌∙◌, arith, subst, zero, suc, length-append, append_assoc, drop, take, slice_range, codes, Option, Some, None, false}
+use Rattle.std.proofs.Common.{ℕ, ◌≡◌, ◌+◌, ◌-◌, ◌<◌, ◌≤◌, List, [], ◌∷◌, ◌++◌, length, refl, sym, ap, ◌∙◌, arith, subst, zero, suc, length-append, append_assoc, drop, slice_range, codes, Option, Some, None, false}
 use Rattle.std.proofs.Math.ListN.{get_or}
 use Rattle.std.proofs.lemmas.List.{take_rest, drop_at}
 use Rattle.std.specs.Prelude.{IfSome}
@@ -12,10 +12,10 @@ use Rattle.cxx_tree.specs.declared.node.Plain.TheVariants as plain
 use Rattle.cxx_tree.specs.declared.node.Node.{Node}
 use Rattle.cxx_tree.specs.declared.node.Node.TheVariants as node
 use Rattle.cxx_tree.specs.Tree.{Tree, named, scoped}
-use Rattle.cxx_tree.specs.Stored.{Held, Store, Extends, forest, size, tree_at, text_at, tree_of, IsBelow, IsPlainBelow}
+use Rattle.cxx_tree.specs.Stored.{Held, Store, Extends, forest, size, tree_at, IsBelow, IsPlainBelow, IsRange}
 use Rattle.cxx_tree.specs.Counts.{AreCounted}
-use Rattle.cxx_tree.specs.Paths.{IsPath, HasPath, HasPlainPath, ArePaths, IsOpen, IsLastOpen, IsPlaced}
-use Rattle.cxx_tree.specs.View.{AreStored, IsStore, IsKept, nodes_of}
+use Rattle.cxx_tree.specs.Paths.{IsPath, HasPath, HasPlainPath, ArePaths, IsOpen, IsLastOpen, IsPlaced, joined_to}
+use Rattle.cxx_tree.specs.View.{AreStored, IsKept, nodes_of}
 use Rattle.cxx_tree.proofs.Forest.{text_at-more, grown, grown-forest}
 
 -- what is held grows
@@ -141,8 +141,18 @@ behind-open q from old bytes new r o p =
       omega (arith, o.1, ap length p.texts, length-append (old ++ codes "::") bytes, length-append old (codes "::")),
     )
 
+pub joined-open : (start : Option ℕ) (q : Tree) (old bytes new : List ℕ) (r : Range) → IfSome start (IsOpen q old) → IsPlaced (joined_to start old) bytes r new → IfSome start (IsOpen (scoped false q (named (slice_range new r.from r.to))) new)
+joined-open None q old bytes new r o p = tt
+joined-open (Some from) q old bytes new r o p = behind-open q from old bytes new r o p
+
 pub behind-path : (t : Tree) (from to : ℕ) (new : List ℕ) → to ≡ length new → IsOpen t new from → IsPath t (slice_range new from to)
 behind-path t from to new e o = subst (IsPath t) (sym (slice-end new from to e)) o.0
+
+-- the range of a text that ends the texts
+pub whole-path : (path : Option Range) (start : Option ℕ) (to : ℕ) (t : Tree) (new : List ℕ) → IfSome path (λ r. (start ≡ Some r.from) × (r.to ≡ to)) → to ≡ length new → IfSome start (IsOpen t new) → IfSome path (λ r. IsPath t (slice_range new r.from r.to))
+whole-path None start to t new w e o = tt
+whole-path (Some r) start to t new w e o =
+    behind-path t r.from r.to new (w.1 ∙ e) (subst (λ (s : Option ℕ). IfSome s (IsOpen t new)) w.0 o)
 
 -- a node without the place of its text
 pub plain-no_path : (p : Plain) → ((q : ℕ) (x : Text) (r : Option Range) → p ≡ plain.ScopedName q x r → ⊥) → (h : Held) (t : Tree) → HasPlainPath h p t

@@ -1,5 +1,5 @@
 -- Texts of names, and of names in scopes, that stand in one piece.
-use Rattle.std.specs.Prelude.{ℕ, ◌<◌, ◌≤◌, ◌≡◌, ◌-◌, List, [], ◌∷◌, ◌++◌, codes, drop, length, slice_range, false, Option, IfSome}
+use Rattle.std.specs.Prelude.{ℕ, ◌<◌, ◌≤◌, ◌≡◌, ◌-◌, List, [], ◌∷◌, ◌++◌, codes, drop, length, slice_range, false, Option, Some, None, IfSome}
 use Rattle.cxx_tree.specs.declared.node.Range.{Range}
 use Rattle.cxx_tree.specs.declared.node.Plain.{Plain}
 use Rattle.cxx_tree.specs.declared.node.Plain.TheVariants as plain
@@ -42,3 +42,8 @@ pub record IsPlaced (old bytes : List ℕ) (r : Range) (new : List ℕ) : Type 0
   pub texts : new ≡ old ++ bytes
   pub from : r.from ≡ length old
   pub to : r.to ≡ length new
+
+-- texts, and `::` if a name is joined to what begins at a place of them
+abbrev pub joined_to : Option ℕ → List ℕ → List ℕ
+joined_to None texts = texts
+joined_to (Some from) texts = texts ++ codes "::"

@@ -1,11 +1,11 @@
 //! An arena of nodes, and what they refer to.
 #![tactic(auto, using(crate::proofs::Forest::laws, crate::proofs::Grown::grows), unfolding(crate::specs::Stored::forest, crate::specs::Counts::AreCounted))]
 
-ghost use Rattle.std.specs.Prelude.{◌≡◌, ℕ, ◌+◌, ◌<◌, ◌≤◌, [], ◌∷◌, ◌++◌, codes, drop, length, slice_range, true, false, OnOk, OnErr, IfOk, IfSome, IsErrOf, IsOkUnless};
+ghost use Rattle.std.specs.Prelude.{◌≡◌, ℕ, ◌+◌, ◌<◌, ◌≤◌, [], ◌∷◌, ◌++◌, codes, drop, length, slice_range, true, false, Some, OnOk, OnErr, IfOk, IfSome, IsErrOf, IsOkUnless};
 ghost use Rattle.cxx_tree.specs.Measure as spec;
 ghost use Rattle.cxx_tree.specs.Counts.{Row, AreExact};
 ghost use Rattle.cxx_tree.specs.Grows.{Grows, Makes};
-ghost use Rattle.cxx_tree.specs.Paths.{IsPath, HasPath, HasPlainPath, IsOpen, IsPlaced};
+ghost use Rattle.cxx_tree.specs.Paths.{IsPath, HasPath, HasPlainPath, IsOpen, IsPlaced, joined_to};
 ghost use Rattle.cxx_tree.specs.Tree.{Tree, named, scoped};
 ghost use Rattle.cxx_tree.specs.declared.arena.PushError.TheVariants as PushError;
 ghost use Rattle.std.specs.List.{AllByRecursion};
@@ -197,6 +197,9 @@ impl Arena {
     pub fn push_name(&mut self, name: &[u8]) -> Result<u32, PushError>
         ensures makes { Makes result self.old self.new (named name.now) }
         ensures few { size self.new ≤ size self.old + 1 }
+        ensures memory { length self.new.held.texts ≤ length self.old.held.texts + length name.now }
+        ensures lists { self.new.held.lists ≡ self.old.held.lists }
+        ensures parts { self.new.held.parts ≡ self.old.held.parts }
     {
         let range = self.place(name)?;
         let text = Text::Stored(range);
@@ -219,38 +222,22 @@ impl Arena {
         ensures makes { Makes result self.old self.new
             (scoped false (tree_at (forest self.old) scope) (named name.now)) }
         ensures few { size self.new ≤ size self.old + 1 }
+        ensures memory { length self.new.held.texts ≤ length self.old.held.texts + length name.now + 2 }
+        ensures lists { self.new.held.lists ≡ self.old.held.lists }
+        ensures parts { self.new.held.parts ≡ self.old.held.parts }
     {
-        match self.start_of(scope) {
-            Some(from) => self.push_joined(from, scope, name),
-            None => {
-                let text = self.text(name)?;
-                self.push(Node::Plain(Plain::ScopedName(scope, text, None)))
-            }
-        }
-    }
-
-    // Appends a name in the scope whose text stands at the end of the texts, from a place on.
-    #[tactic(auto, using(
-    // How an arena grows, and what is copied to it.
-    crate::proofs::Making::making, crate::proofs::Grown::grows, crate::proofs::Paths::placed), unfolding(
-    // The tree of a node, and what it refers to.
-    crate::specs::Stored::tree_of, crate::specs::Stored::plain_tree, crate::specs::Stored::IsBelow, crate::specs::Stored::IsPlainBelow, crate::specs::Paths::HasPath, crate::specs::Paths::HasPlainPath))]
-    #[inline(always)]
-    fn push_joined(&mut self, from: u32, scope: u32, name: &[u8]) -> Result<u32, PushError>
-        requires scope { scope < size self.old }
-        requires start { IsOpen (tree_at (forest self.old) scope) self.old.held.texts from }
-        ensures makes { Makes result self.old self.new
-            (scoped false (tree_at (forest self.old) scope) (named name.now)) }
-        ensures few { size self.new ≤ size self.old + 1 }
-    {
-        let range = self.place_joined(name)?;
+        let start = self.start_of(scope);
+        let range = self.place_in(start, name)?;
         let text = Text::Stored(range);
         let Some(counts) = in_scope(self, scope, text) else {
             return Err(PushError::Limit);
         };
-        let path = Range { from, to: range.to };
-        let node = Node::Plain(Plain::ScopedName(scope, text, Some(path)));
-        self.push_counted(node, counts, Some(from))
+        let path = range_from(start, range.to);
+        self.push_counted(
+            Node::Plain(Plain::ScopedName(scope, text, path)),
+            counts,
+            start,
+        )
     }
 
     // Where the text of a node begins, if it is the last one and the texts end with its text.
@@ -381,6 +368,23 @@ impl Arena {
         })
     }
 
+    // Copies a name, after `::` if the text of its scope begins somewhere. Returns where the name stands.
+    #[inline(always)]
+    fn place_in(&mut self, start: Option<u32>, name: &[u8]) -> Result<Range, AllocError>
+        ensures ok { IfOk result (λ r. IsPlaced (joined_to start self.old.held.texts) name.now r self.new.held.texts) }
+        ensures nodes { self.new.nodes ≡ self.old.nodes }
+        ensures forest { forest self.new ≡ forest self.old }
+        ensures grows { Grows self.old self.new }
+        ensures lists { self.new.held.lists ≡ self.old.held.lists }
+        ensures parts { self.new.held.parts ≡ self.old.held.parts }
+        ensures err { OnErr result (self.new ≡ self.old) }
+    {
+        match start {
+            Some(_) => self.place_joined(name),
+            None => self.place(name),
+        }
+    }
+
     /// Copies a list of nodes.
     pub fn list(&mut self, items: &[u32]) -> Result<List, AllocError>
         ensures list { IfOk result (λ l. list_at self.new.held l ≡ items.now) }
@@ -428,6 +432,17 @@ fn range_behind(len: usize, more: usize) -> Result<Range, AllocError>
         from: len as u32,
         to: (len + more) as u32,
     })
+}
+
+// The range from a place on, if there is one.
+#[inline(always)]
+fn range_from(start: Option<u32>, to: u32) -> Option<Range>
+    ensures value { IfSome result (λ r. (start ≡ Some r.from) × (r.to ≡ to)) }
+{
+    match start {
+        Some(from) => Some(Range { from, to }),
+        None => None,
+    }
 }
 
 // The node without the place of its text.

@@ -1,6 +1,4 @@
 use Rattle.std.proofs.Common.{refl}
-use Rattle.cxx_tree.specs.Stored.{tree_of, IsBelow}
-use Rattle.cxx_tree.specs.Paths.{HasPath}
 use Rattle.cxx_tree.proofs.Paths.{node-no_path}
 use Rattle.cxx_tree.proofs.arena.without_path.Goals as goal
 

@@ -1,4 +1,3 @@
-use Rattle.cxx_tree.specs.View.{store_of}
 use Rattle.cxx_tree.proofs.Paths.{kept-empty}
 use Rattle.cxx_tree.proofs.arena.Arena.clear.Goals as goal
 

@@ -1,4 +1,4 @@
-use Rattle.std.proofs.Common.{ℕ, ◌≡◌, ◌++◌, ◌∙◌, List, codes, append_assoc, refl, sym, subst, ap}
+use Rattle.std.proofs.Common.{ℕ, ◌++◌, ◌∙◌, codes, refl, subst, ap}
 use Rattle.cxx_tree.specs.declared.node.Part.{Part}
 use Rattle.cxx_tree.specs.Stored.{Store, Held, Extends, forest}
 use Rattle.cxx_tree.specs.Grows.{Grows}

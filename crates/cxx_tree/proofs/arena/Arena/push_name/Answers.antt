@@ -1,5 +1,5 @@
-use Rattle.std.proofs.Common.{List, ℕ, ◌+◌, sym, subst}
-use Rattle.cxx_tree.specs.Tree.{Tree, named}
+use Rattle.std.proofs.Common.{List, ℕ, ◌+◌, subst}
+use Rattle.cxx_tree.specs.Tree.{named}
 use Rattle.cxx_tree.specs.Measure.{measure, around, nothing}
 use Rattle.cxx_tree.specs.Counts.{Tallied}
 use Rattle.cxx_tree.specs.Grows.{Makes}
