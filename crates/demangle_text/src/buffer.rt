@@ -400,14 +400,16 @@ impl Buffer {
     }
 
     /// Extends the piece up to the end of the output. The piece must be in the output, at the innermost mark or later;
-    /// the method doesn't test that. The buffer stays as it is.
+    /// the method doesn't test that. The texts and the lists stay as they are. As after each call that changes a text,
+    /// of the pieces that are no older than the innermost mark only the result may be used further.
     #[inline(always)]
-    pub fn up_to_end(&self, piece: Piece) -> Piece
-        requires living { IsLiving self.now piece }
-        requires inner { IsInner self.now piece }
-        ensures shape { Lives self.now result (appended (text_after self.now piece) (shape self.now piece)) }
-        ensures last { IsLast self.now result }
-        ensures stands { (from to : ℕ) → Stands piece from to → Stands result from (length (main_bytes self.now)) }
+    pub fn up_to_end(&mut self, piece: Piece) -> Piece
+        requires living { IsLiving self.old piece }
+        requires inner { IsInner self.old piece }
+        ensures same { self.new ≡ self.old }
+        ensures shape { Lives self.new result (appended (text_after self.old piece) (shape self.old piece)) }
+        ensures last { IsLast self.new result }
+        ensures stands { (from to : ℕ) → Stands piece from to → Stands result from (length (main_bytes self.new)) }
     {
         let to = self.output.len();
         let n = to - piece.to_byte;

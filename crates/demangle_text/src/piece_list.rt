@@ -179,13 +179,10 @@ fn grow(entries: &mut Vec<Entry>) -> Result<(), AllocError>
     ensures within { length entries.old.items ≤ length entries.new.items }
     ensures capacity { OnOk result (length entries.old.items < length entries.new.items) }
 {
-    let Some(want) = entries.len().checked_mul(2) else {
-        // This isn't reached: an entry has more than one byte, so a vector in memory has fewer than 2^63 entries.
-        return Err(AllocError);
-    };
+    let twice = entries.len().saturating_mul(2);
     let none = Entry {
         piece: Piece::whole_at(0, 0),
         reach: 0,
     };
-    entries.resize(want.max(FIRST_CAPACITY), none)
+    entries.resize(twice.max(FIRST_CAPACITY), none)
 }

@@ -178,10 +178,7 @@ impl Buffer {
             ++ drop at self.old.output_text)) }
         ensures main_err { OnErr result (self.new.output_text ≡ self.old.output_text) }
     {
-        let Some(n) = first.text_len().checked_add(bytes.len()) else {
-            // This isn't reached: both texts are in memory, and have fewer than 2^63 bytes together.
-            return Err(AllocError);
-        };
+        let n = self.len(first) + bytes.len();
         tri!(self.open_gap(at, n));
         let middle = if first.spilled {
             let text = self.kept.spill.part(first.from_byte, first.to_byte);

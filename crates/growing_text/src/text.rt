@@ -327,10 +327,9 @@ fn grow(bytes: &mut Vec<u8>, len: usize, n: usize) -> Result<(), AllocError>
     ensures within { len ≤ length bytes.new.items }
     ensures capacity { OnOk result (len + n ≤ length bytes.new.items) }
 {
-    let Some(want) = len.checked_add(n) else {
-        // This isn't reached: both are lengths of texts in memory, and these have fewer than 2^63 bytes together.
-        return Err(AllocError);
-    };
     let twice = bytes.len().saturating_mul(2);
-    bytes.resize(want.max(twice).max(FIRST_CAPACITY), 0)
+    bytes.resize(len.saturating_add(n).max(twice).max(FIRST_CAPACITY), 0)?;
+    // No vector has so many bytes, so the sum above is the exact one.
+    prove!(bytes.as_slice().len() < usize::MAX);
+    Ok(())
 }

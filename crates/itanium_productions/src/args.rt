@@ -63,7 +63,8 @@ pub(crate) fn read_template_args(
                 tri!(read_template_arg(reader, depth, context));
                 tri!(reader.end_argument(opens, scopes));
                 // Tested after each argument, so that the list can't grow far beyond the limit before its `E`.
-                if reader.buffer.len(reader.buffer.up_to_end(list)) > widest {
+                let whole = reader.buffer.up_to_end(list);
+                if reader.buffer.len(whole) > widest {
                     return Err(Stop::Unreadable);
                 }
                 first = false;

@@ -32,7 +32,7 @@ returns-clause-shape c =
     let is : appended (text_after new list) (shape new list) ≡ arguments_closed (appended more s) =
     ap (λ (t : Shape). appended (text_after new list) t) same ∙ ap (λ (v : List ℕ). appended v s) after
     ∙ sym (appended_twice more end s) ∙ ap (λ (v : List ℕ). appended v (appended more s)) end_is in
-    subst (λ (t : Shape). Lives new c.up_to_end.result t) is c.up_to_end.ensures.shape
+    subst (λ (t : Shape). Lives c.up_to_end.new.self c.up_to_end.result t) is c.up_to_end.ensures.shape
 
 pub up_to_end-requires : goal.up_to_end-requires
 up_to_end-requires c = grind arith

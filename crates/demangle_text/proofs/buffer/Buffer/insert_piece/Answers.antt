@@ -10,13 +10,24 @@ use Rattle.demangle_text.specs.View.{store_of}
 use Rattle.demangle_text.specs.Gaps.{IsGap}
 use Rattle.growing_text.proofs.Gaps.{both-put}
 use Rattle.demangle_text.proofs.Tails.{length-text}
+use Rattle.demangle_text.proofs.States.{text_is}
 use Rattle.demangle_text.proofs.Gaps.{IsGap-same, IsStore-filled, IsEdit-filled, text-kept}
 use Rattle.demangle_text.proofs.buffer.Buffer.insert_piece.Goals as goal
 use Rattle.demangle_text.proofs.buffer.Buffer.insert_piece.Goals.{then-first, else-first}
 
-gap : (c : goal.After-put) → IsGap c.args.self.now (store_of c.self.inside) c.args.at c.in-Some.n
+-- the length of the text and of the bytes
+abbrev num : goal.After-put → ℕ
+num c = c.len.result + length c.args.bytes.now
+
+size : (c : goal.After-put) → c.len.result ≡ c.args.first.to_byte - c.args.first.from_byte
+size c =
+    let b = c.args.self.now in
+    let living = c.requires.living in
+    c.len.ensures.value ∙ ap length (text_is b c.args.first living) ∙ length-text b c.args.first living
+
+gap : (c : goal.After-put) → IsGap c.args.self.now (store_of c.self.inside) c.args.at (num c)
 gap c =
-    IsGap-same c.args.self.now _ (store_of c.self.inside) c.args.at c.in-Some.n c.self.view_is
+    IsGap-same c.args.self.now _ (store_of c.self.inside) c.args.at (num c) c.self.view_is
     c.in-Ok.ensures.gap
 
 -- the text is put from wherever it lies
@@ -38,7 +49,7 @@ module _ (c : goal.After-put) where
   spill = c.self.inside.kept.spill
 
   kept : piece_text all spill p ≡ piece_text c.args.self.now.output_text c.args.self.now.spill_text p
-  kept = text-kept c.args.self.now (store_of c.self.inside) c.args.at c.in-Some.n (gap c) c.requires.within p c.requires.living c.requires.before
+  kept = text-kept c.args.self.now (store_of c.self.inside) c.args.at (num c) (gap c) c.requires.within p c.requires.living c.requires.before
 
   spilled-is : (text : List ℕ) → text ≡ slice_range spill p.from_byte p.to_byte → p.spilled ≡ true → (text ≡ piece_text all spill p) × (length text ≡ p.to_byte - p.from_byte)
   spilled-is text is home =
@@ -81,23 +92,23 @@ output c =
     let is : mid ≡ take at all ++ (text ++ drop (at + k) all) = value c ∙ ap (λ (v : List ℕ). take at all ++ (v ++ drop (at + k) all)) (kept c) in
     let done : c.put.new.self ≡ take (at + k) mid ++ (bytes ++ drop (at + k + length bytes) mid) =
     c.put.ensures.value ∙ ap (λ (i : ℕ). take i mid ++ (bytes ++ drop (i + length bytes) mid)) (ends c) in
-    both-put (take at b.output_text) (drop at b.output_text) all text bytes mid _ c.in-Some.n at k (gap c).gap low (sym long)
-    (omega (arith, c.text_len.ensures.value)) is done
+    both-put (take at b.output_text) (drop at b.output_text) all text bytes mid _ (num c) at k (gap c).gap low (sym long)
+    (omega (arith, size c)) is done
 
-long : (c : goal.After-put) → length (added c) ≡ c.in-Some.n
+long : (c : goal.After-put) → length (added c) ≡ (num c)
 long c =
     let b = c.args.self.now in
     let p = c.args.first in
     let both = length-append (piece_text b.output_text b.spill_text p) c.args.bytes.now in
-    omega (arith, both, length-text b p c.requires.living, c.text_len.ensures.value)
+    omega (arith, both, length-text b p c.requires.living, size c)
 
 pub invariant_of-self : goal.invariant_of-self
 invariant_of-self c = subst (λ (t : Store). IsStore (record t { output_text = c.put.new.self })) (sym (same c)) (
-    IsStore-filled c.args.self.now (store_of c.self.inside) c.args.at c.in-Some.n (gap c) _ _ (long c) (output c))
+    IsStore-filled c.args.self.now (store_of c.self.inside) c.args.at (num c) (gap c) _ _ (long c) (output c))
 
 pub returns-clause-edit : goal.returns-clause-edit
 returns-clause-edit c = subst (λ (t : Store). IsEdit c.args.self.now (record t { output_text = c.put.new.self })) (sym (same c)) (
-    IsEdit-filled c.args.self.now (store_of c.self.inside) c.args.at c.in-Some.n (gap c) _ _ (long c) (output c))
+    IsEdit-filled c.args.self.now (store_of c.self.inside) c.args.at (num c) (gap c) _ _ (long c) (output c))
 
 pub returns-clause-output : goal.returns-clause-output
 returns-clause-output c = output c

@@ -17,9 +17,10 @@ returns-clause-shape c =
     let closed = c.in-Ok.value in
     let after = text_after b words in
     let taken : shape b worded ≡ appended after (shape b words) =
-    subst (λ (s : Buffer). shape s worded ≡ appended (text_after s words) (shape s words)) c.deref.ensures c.up_to_end-worded.ensures.shape.shape_is in
+    subst (λ (s : Buffer). shape s worded ≡ appended (text_after s words) (shape s words)) c.deref_mut.ensures.value
+    (subst (λ (s : Buffer). shape s worded ≡ appended (text_after c.up_to_end-worded.S words) (shape c.up_to_end-worded.S words)) c.up_to_end-worded.ensures.same c.up_to_end-worded.ensures.shape.shape_is) in
     let ended : shape n closed ≡ appended close (shape b worded) =
-    subst (λ (s : Buffer). shape n closed ≡ appended close (shape s worded)) c.deref_mut.ensures.value (c.in-Ok.ensures {u = tt}).shape.shape_is in
+    subst (λ (s : Buffer). shape n closed ≡ appended close (shape s worded)) c.deref_mut-2.ensures.value (c.in-Ok.ensures {u = tt}).shape.shape_is in
     let whole : Lives n c.whole-self.result (whole_shape (shape n closed)) =
     subst (λ (s : Buffer). Lives s c.whole-self.result (whole_shape (shape s closed))) c.deref-2.ensures c.whole-self.ensures.shape in
     let is = ap whole_shape (ended ∙ ap (appended close) taken)
