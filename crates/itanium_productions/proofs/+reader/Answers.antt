@@ -98,11 +98,15 @@ args::read_template_args-returns-then-len-widest-2-clause-reads t c =
     three ∙ two ∙ ap (λ (v : List ℕ). v ++ text next) one in
     let begun = Lives-same _ _ _ _ (c.in-Ok-end_argument.ensures {u = tt}).kept
     (Lives-same _ _ _ _ (c.in-Ok-read_template_arg.ensures {u = tt}).kept (Lives-same _ _ _ _ kept so_far.begun)) in
-    let all = shape new c.up_to_end.result in
+    let whole = c.up_to_end-whole.result in
+    let same : c.up_to_end-whole.new.self ≡ new = c.up_to_end-whole.ensures.same ∙ c.deref_mut-in-NextArgument.ensures.value in
+    let all = shape new whole in
     let built : all ≡ appended (text_after new list) (arguments_opened (shape c.args.reader.now.buffer.value c.args.reader.now.found)) =
-    subst (λ (b : Buffer). shape b c.up_to_end.result ≡ appended (text_after b list) (shape b list)) c.deref-in-NextArgument-2.ensures c.up_to_end.ensures.shape.shape_is
+    subst (λ (b : Buffer). shape b whole ≡ appended (text_after new list) (shape new list)) same
+    (subst (λ (b : Buffer). shape c.up_to_end-whole.new.self whole ≡ appended (text_after b list) (shape b list)) c.deref_mut-in-NextArgument.ensures.value c.up_to_end-whole.ensures.shape.shape_is)
     ∙ ap (appended (text_after new list)) begun.shape_is in
-    let long : c.len-in-NextArgument.result ≡ text_len all = search rules in
+    let long : c.len-in-NextArgument.result ≡ text_len all =
+    c.len-in-NextArgument.ensures.value ∙ ap (λ (b : Buffer). text_len (shape b whole)) (c.deref-in-NextArgument.ensures ∙ same) in
     attached_more_wide _ _ _ so_far.reads {next = next} {all = all} {mid = state framed}
     (sym c.in-NextArgument.ensures.case) (search rules) longer built
     (omega (arith, c.if-len-widest-2.true, so_far.widest, long, so_far.front))
@@ -131,11 +135,15 @@ args::read_template_args-loop-reader-preserved t c =
     three ∙ two ∙ ap (λ (v : List ℕ). v ++ text next) one in
     let begun = Lives-same _ _ _ _ (c.in-Ok-end_argument.ensures {u = tt}).kept
     (Lives-same _ _ _ _ (c.in-Ok-read_template_arg.ensures {u = tt}).kept (Lives-same _ _ _ _ kept so_far.begun)) in
-    let all = shape new c.up_to_end.result in
+    let whole = c.up_to_end-whole.result in
+    let same : c.up_to_end-whole.new.self ≡ new = c.up_to_end-whole.ensures.same ∙ c.deref_mut-in-NextArgument.ensures.value in
+    let all = shape new whole in
     let built : all ≡ appended (text_after new list) (arguments_opened (shape c.args.reader.now.buffer.value c.args.reader.now.found)) =
-    subst (λ (b : Buffer). shape b c.up_to_end.result ≡ appended (text_after b list) (shape b list)) c.deref-in-NextArgument-2.ensures c.up_to_end.ensures.shape.shape_is
+    subst (λ (b : Buffer). shape b whole ≡ appended (text_after new list) (shape new list)) same
+    (subst (λ (b : Buffer). shape c.up_to_end-whole.new.self whole ≡ appended (text_after b list) (shape b list)) c.deref_mut-in-NextArgument.ensures.value c.up_to_end-whole.ensures.shape.shape_is)
     ∙ ap (appended (text_after new list)) begun.shape_is in
-    let long : c.len-in-NextArgument.result ≡ text_len all = search rules in record {
+    let long : c.len-in-NextArgument.result ≡ text_len all =
+    c.len-in-NextArgument.ensures.value ∙ ap (λ (b : Buffer). text_len (shape b whole)) (c.deref-in-NextArgument.ensures ∙ same) in record {
       below = grind arith;
       front = c.loop-reader.invariant.front;
       widest = c.loop-reader.invariant.widest;
@@ -536,13 +544,15 @@ specials::read_construction-returns-clause-reads t c =
     let words : shape b begun ≡ plain_shape word = (base_read.kept.pieces begun push.shape.living).shape_is ∙ push.shape.shape_is in
     let after : text_after b begun ≡ text base =
     text_after-follows pushed b begun _ push.shape.living (IsLast-push _ _ _ push.kept push.mark push.stands) base_read.output in
+    let same : c.up_to_end-whole.new.self ≡ b = c.up_to_end-whole.ensures.same ∙ c.deref_mut-2.ensures.value in
     let taken : shape b whole ≡ appended (text_after b begun) (shape b begun) =
-    subst (λ (s : Buffer). shape s whole ≡ appended (text_after s begun) (shape s begun)) c.deref.ensures c.up_to_end-whole.ensures.shape.shape_is in
+    subst (λ (s : Buffer). shape s whole ≡ appended (text_after b begun) (shape b begun)) same
+    (subst (λ (s : Buffer). shape c.up_to_end-whole.new.self whole ≡ appended (text_after s begun) (shape s begun)) c.deref_mut-2.ensures.value c.up_to_end-whole.ensures.shape.shape_is) in
     let printed : text (shape b whole) ≡ word ++ text base =
     ap (λ (s : Shape). text s) taken ∙ appended_text (text_after b begun) (shape b begun)
     ∙ ap (λ (s : Shape). text s ++ text_after b begun) words ∙ ap (λ (v : List ℕ). word ++ v) after in
     let joins : shape joined_in c.in-Ok-join.value ≡ joined (shape b whole) (codes "-in-") (shape b one.found) =
-    subst (λ (s : Buffer). shape joined_in c.in-Ok-join.value ≡ joined (shape s whole) (codes "-in-") (shape s one.found)) c.deref_mut-2.ensures.value join.shape.shape_is in
+    subst (λ (s : Buffer). shape joined_in c.in-Ok-join.value ≡ joined (shape s whole) (codes "-in-") (shape s one.found)) (c.deref_mut-3.ensures.value ∙ same) join.shape.shape_is in
     let built : shape joined_in c.in-Ok-join.value ≡ construction_shape base class =
     joins ∙ ap (λ (v : List ℕ). plain_shape ((v ++ codes "-in-") ++ text (shape b one.found))) printed
     ∙ ap (λ (s : Shape). plain_shape (((word ++ text base) ++ codes "-in-") ++ text s)) class_is
@@ -557,8 +567,8 @@ specials::read_construction-returns-clause-reads t c =
       entered = one.entered;
       most_saved = max one.recorded_peak (length (saved pushed));
     } ≡ spec.with_rest c.in-Some.rest.now (state one) = rw (saved_as, scopes_as) refl in
-    let saved_end : saved joined_in ≡ saved b = cc (join.edit.lists.saved_same, c.deref_mut-2.ensures.value) in
-    let scopes_end : scopes joined_in ≡ scopes b = cc (join.edit.lists.scopes_same, c.deref_mut-2.ensures.value) in
+    let saved_end : saved joined_in ≡ saved b = cc (join.edit.lists.saved_same, c.deref_mut-3.ensures.value, same) in
+    let scopes_end : scopes joined_in ≡ scopes b = cc (join.edit.lists.scopes_same, c.deref_mut-3.ensures.value, same) in
     let ended : record {
       rest = two.rest.now;
       saved = saved joined_in;
