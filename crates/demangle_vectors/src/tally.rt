@@ -1,9 +1,11 @@
 //! Tests a `Tally` over readers and writers of std, and the faults.
+ghost use Rattle.std.specs.Prelude.{◌≤◌, IfOk};
 
-use crate::extracted::symfilter_engine::{Failed, FilterFault, Sink, Source, Tally};
 use std::cell::Cell;
 use std::io;
 use std::io::{ErrorKind, Read, Write};
+use std::process::Abort;
+use symfilter_engine::{Failed, FilterFault, Sink, Source, Tally};
 
 /// The number of calls of a `Tally` that are tested.
 const CALLS: usize = 5;
@@ -32,6 +34,7 @@ enum Turn {
 
 /// A reader and a writer of std that counts its calls. Each call gives or takes two bytes, but the call with the
 /// number `at` does what `turn` says.
+#[derive(Drop)]
 struct Counted<'a> {
     calls: &'a Cell<usize>,
     at: usize,
@@ -40,8 +43,10 @@ struct Counted<'a> {
 
 impl Counted<'_> {
     /// Returns how many of `len` bytes this call gives or takes.
-    fn count(&mut self, len: usize) -> io::Result<usize> {
-        self.calls.set(self.calls.get() + 1);
+    fn count(&mut self, len: usize) -> io::Result<usize>
+        ensures { IfOk result (λ count. count ≤ len) }
+    {
+        self.calls.set(self.calls.get().saturating_add(1));
         if self.calls.get() != self.at {
             return Ok(len.min(2));
         }
@@ -70,6 +75,7 @@ impl Write for Counted<'_> {
 
 /// A call of a `Tally`: its number, its result, whether the `Tally` has failed by then, and how often its reader or
 /// writer was called.
+#[derive(Clone, Copy)]
 struct Call {
     number: usize,
     answer: Result<usize, Failed>,
@@ -79,11 +85,11 @@ struct Call {
 
 /// Asserts that each call of the `Tally` calls its reader or writer once and returns what that did, and that a failure
 /// is kept.
-fn assert_call(call: Call, at: usize, turn: Result<usize, Failed>) {
-    assert_eq!(call.calls, call.number);
-    assert_eq!(call.answer, if call.number == at { turn } else { Ok(2) });
+fn assert_call(rt: &impl Abort, call: Call, at: usize, turn: Result<usize, Failed>) {
+    assert_eq!(rt; call.calls, call.number);
+    assert!(rt; call.answer == if call.number == at { turn } else { Ok(2) });
     let fails = turn.is_err() && at != NEVER;
-    assert_eq!(call.has_failed, fails && at <= call.number);
+    assert_eq!(rt; call.has_failed, fails && at <= call.number);
 }
 
 /// Returns what a `Tally` returns if its reader or writer does `turn`. If that gives or takes nothing, it is
@@ -96,60 +102,83 @@ fn answer(turn: Turn, nothing: Result<usize, Failed>) -> Result<usize, Failed> {
 }
 
 /// Tests a `Tally` over a reader that does `turn` at the call with the number `at`.
-fn assert_reads(at: usize, turn: Turn) {
+fn assert_reads(rt: &impl Abort, at: usize, turn: Turn) {
     let calls = Cell::new(0);
-    let mut source = Tally::new(Counted { calls: &calls, at, turn });
-    let mut buffer = [0; 3];
+    let mut source = Tally::new(Counted {
+        calls: &calls,
+        at,
+        turn,
+    });
+    let mut buffer = [0u8; 3];
     for number in 1..=CALLS {
-        let call =
-            Call { number, answer: source.take(&mut buffer), has_failed: Source::failed(&source), calls: calls.get() };
-        assert_call(call, at, answer(turn, Ok(0)));
+        let call = Call {
+            number,
+            answer: source.take(&mut buffer),
+            has_failed: Source::failed(&source),
+            calls: calls.get(),
+        };
+        assert_call(rt, call, at, answer(turn, Ok(0)));
     }
 }
 
 /// Tests a `Tally` over a writer that does `turn` at the call with the number `at`. A writer that takes nothing of
 /// some bytes fails.
-fn assert_writes(at: usize, turn: Turn) {
+fn assert_writes(rt: &impl Abort, at: usize, turn: Turn) {
     let calls = Cell::new(0);
-    let mut sink = Tally::new(Counted { calls: &calls, at, turn });
+    let mut sink = Tally::new(Counted {
+        calls: &calls,
+        at,
+        turn,
+    });
     for number in 1..=CALLS {
-        let call = Call { number, answer: sink.put(b"abc"), has_failed: Sink::failed(&sink), calls: calls.get() };
-        assert_call(call, at, answer(turn, Err(Failed)));
+        let call = Call {
+            number,
+            answer: sink.put(b"abc"),
+            has_failed: Sink::failed(&sink),
+            calls: calls.get(),
+        };
+        assert_call(rt, call, at, answer(turn, Err(Failed)));
     }
 }
 
 #[test]
-fn a_tally_answers_what_its_reader_does() {
+fn a_tally_answers_what_its_reader_does(rt: HostRuntime) {
     for turn in TURNS {
         for at in NEVER..=CALLS {
-            assert_reads(at, turn);
+            assert_reads(&rt, at, turn);
         }
     }
 }
 
 #[test]
-fn a_tally_answers_what_its_writer_does() {
+fn a_tally_answers_what_its_writer_does(rt: HostRuntime) {
     for turn in TURNS {
         for at in NEVER..=CALLS {
-            assert_writes(at, turn);
+            assert_writes(&rt, at, turn);
         }
     }
 }
 
 #[test]
-fn nothing_to_write_is_no_failure_and_a_full_slice_is_one() {
-    let mut buffer = [0; 2];
+fn nothing_to_write_is_no_failure_and_a_full_slice_is_one(rt: HostRuntime) {
+    let mut buffer = [0u8; 2];
     let mut sink = Tally::new(buffer.as_mut_slice());
-    assert_eq!(sink.put(b""), Ok(0));
-    assert_eq!(sink.put(b"abc"), Ok(2));
-    assert!(!sink.failed());
-    assert_eq!(sink.put(b"c"), Err(Failed));
-    assert!(sink.failed());
+    assert!(rt; sink.put(b"") == Ok(0));
+    assert!(rt; sink.put(b"abc") == Ok(2));
+    assert!(rt; !sink.failed());
+    assert!(rt; sink.put(b"c") == Err(Failed));
+    assert!(rt; sink.failed());
+}
+
+/// Asserts the number of a fault, and the line that is printed for it.
+fn assert_fault(rt: &impl Abort, fault: FilterFault, number: u8, line: &str) {
+    assert_eq!(rt; fault as u8, number);
+    assert_eq!(rt; fault.line(), line);
 }
 
 #[test]
-fn the_numbers_of_the_faults() {
-    assert_eq!(FilterFault::Read as u8, 1);
-    assert_eq!(FilterFault::Write as u8, 2);
-    assert_eq!(FilterFault::Memory as u8, 3);
+fn numbers_and_lines_of_the_faults(rt: HostRuntime) {
+    assert_fault(&rt, FilterFault::Read, 1, "symfilter: read failed");
+    assert_fault(&rt, FilterFault::Write, 2, "symfilter: write failed");
+    assert_fault(&rt, FilterFault::Memory, 3, "symfilter: out of memory");
 }
