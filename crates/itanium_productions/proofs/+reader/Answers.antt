@@ -143,13 +143,27 @@ args::read_template_args-loop-reader-preserved t c =
     (subst (λ (b : Buffer). shape c.up_to_end-whole.new.self whole ≡ appended (text_after b list) (shape b list)) c.deref_mut-in-NextArgument.ensures.value c.up_to_end-whole.ensures.shape.shape_is)
     ∙ ap (appended (text_after new list)) begun.shape_is in
     let long : c.len-in-NextArgument.result ≡ text_len all =
-    c.len-in-NextArgument.ensures.value ∙ ap (λ (b : Buffer). text_len (shape b whole)) (c.deref-in-NextArgument.ensures ∙ same) in record {
+    c.len-in-NextArgument.ensures.value ∙ ap (λ (b : Buffer). text_len (shape b whole)) (c.deref-in-NextArgument.ensures ∙ same) in
+    let name = shape c.args.reader.now.buffer.value c.args.reader.now.found in
+    let made = c.up_to_end-whole.new.self in
+    let reader = c.end_argument.new.self in
+    let at : Buffer → spec.ParserState = λ b. record {
+      rest = reader.rest.now;
+      saved = saved b;
+      scopes = scopes b;
+      entered = reader.entered;
+      most_saved = max reader.recorded_peak (length (saved b));
+    } in
+    let ended : at new ≡ spec.end_argument c.opens_scope-opens.result c.scopes-scopes.result next (state framed) = search rules in
+    record {
       below = grind arith;
       front = c.loop-reader.invariant.front;
       widest = c.loop-reader.invariant.widest;
-      reads = attached_more _ _ _ so_far.reads {next = next} {all = all} {mid = state framed} (sym c.in-NextArgument.ensures.case) (search rules) (search rules) longer built
-          (omega (arith, c.if-len-widest-2.false, so_far.widest, long, so_far.front)) (search rules) (search rules);
-      begun = begun;
+      reads = attached_more _ _ _ so_far.reads {next = next} {all = all} {more = text_after made list} {mid = state framed} {after = at made}
+          (sym c.in-NextArgument.ensures.case) (search rules) (search rules) (ap (λ (b : Buffer). text_after b list) same ∙ longer)
+          (built ∙ ap (λ (b : Buffer). appended (text_after b list) (arguments_opened name)) (sym same))
+          (omega (arith, c.if-len-widest-2.false, so_far.widest, long, so_far.front)) (ap at same ∙ ended) (search rules);
+      begun = subst (λ (b : Buffer). Lives b list (arguments_opened name)) (sym same) begun;
       inner = grind arith;
       run = search rules;
       scopes_stand = grind arith;
