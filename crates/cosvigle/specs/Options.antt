@@ -74,7 +74,7 @@ plain_printing LeftOut = Names
 -- what is printed for a symbol
 abbrev pub printing_of : Flags → Printing
 printing_of flags =
-    if flags.declarations then Declarations (record { mode = mode_of flags; style = flags.style }) else
+    if flags.declarations then Declarations (record { mode = mode_of flags; style = flags.style; limit = None }) else
     plain_printing flags.params
 
 -- what a format asks for

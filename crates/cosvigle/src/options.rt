@@ -57,6 +57,7 @@ pub fn printing_of(flags: Flags) -> Printing
         return Printing::Declarations(cxx_demangle::Printing {
             mode: mode_of(flags),
             style: flags.style,
+            limit: None,
         });
     }
     match flags.params {

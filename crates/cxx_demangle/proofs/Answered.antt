@@ -6,7 +6,7 @@ use Rattle.std.proofs.lemmas.Bool.{false≢true, cases_lt}
 use Rattle.abi_scalars.specs.Symbol.{after_prefix}
 use Rattle.cxx_tree.specs.Tree.{Tree}
 use Rattle.cxx_grammar.specs.State.{State}
-use Rattle.cxx_reader.specs.Parser.{parse_encoding}
+use Rattle.cxx_grammar.specs.Grammar.{parse_encoding}
 use Rattle.cxx_demangle.specs.declared.demangler.Printing.{Printing}
 use Rattle.cxx_demangle.specs.Answer.{start, max_depth, max_text, IsWhole, IsText, text_of, IsAnswer}
 use Rattle.cxx_demangle.proofs.Whole.{whole_read, none_read, some_left, no_prefix, no_encoding, has_answer, no_answer}

@@ -1,5 +1,5 @@
 -- Answers by computation.
-use Rattle.std.proofs.Common.{◌≡◌, ℕ, List, [], ◌∷◌, Bool, true, false, Option, Some, None, refl, sym, codes, length, ◌≤◌, arith}
+use Rattle.std.proofs.Common.{◌≡◌, ℕ, List, [], ◌∷◌, true, Option, Some, None, refl, sym, codes, length, ◌≤◌, arith}
 use Rattle.std.specs.Prelude.{option_map}
 use Rattle.std.specs.Str.{is_utf8, chars}
 use Rattle.std.proofs.lemmas.Str.{IsUtf8-from_is_utf8}
@@ -14,13 +14,13 @@ use Rattle.cxx_grammar.specs.State.{State}
 use Rattle.cxx_grammar.specs.Bases.{base_name, args_of, is_with_args, is_param, expand}
 use Rattle.cxx_grammar.specs.Binds.{bind_args}
 use Rattle.cxx_grammar.specs.Leaves.{base_as}
-use Rattle.cxx_reader.specs.Parser.{parse_items, component_as, parse_components, first_as, name_as, literal_as, arg_as, type_as, parse_name, parse_encoding}
+use Rattle.cxx_grammar.specs.Grammar.{parse_items, component_as, parse_components, first_as, name_as, literal_as, arg_as, type_as, productions, parse_encoding}
 use Rattle.cxx_printer.specs.Words.{ending, short_std_text, long_std_text, std_text, cv_text, ref_text, mark, opened, member_opened, closed}
 use Rattle.cxx_printer.specs.Heads.{prec_of, rank, is_simple, has_args, is_designator, is_scoped, is_objc_object, protocol_of, count_item, count_items, count_of}
 use Rattle.cxx_printer.specs.Printing.{print, list_from, last_ends, sequence, separated, repeated}
 use Rattle.cxx_printer.specs.Symbol.{mode_text, block_text, is_digit_first, is_piece, between, pieces_behind, pieces_text, in_parens, suffix_text, symbol_in}
 use Rattle.cxx_demangle.specs.declared.demangler.Printing.{Printing}
-use Rattle.cxx_demangle.specs.Answer.{start, max_depth, IsWhole, text_of, IsText, IsAnswer}
+use Rattle.cxx_demangle.specs.Answer.{start, max_depth, text_of, IsAnswer}
 use Rattle.cxx_demangle.specs.Examples.{WorkedSymbols, whole}
 use Rattle.cxx_demangle.proofs.Whole.{whole_read, none_read, some_left, has_answer, no_encoding}
 
@@ -50,7 +50,7 @@ rest_by printing symbol inside byte rest prefix is = go (parse_encoding max_dept
     go (Some (t, end)) e f = no_encoding printing symbol inside prefix (some_left inside t end e (λ g. absurd cc))
 
 pub worked_symbols : WorkedSymbols
-unfolding parse_items component_as parse_components first_as name_as literal_as arg_as type_as parse_name parse_encoding
+unfolding parse_items component_as parse_components first_as name_as literal_as arg_as type_as productions
     base_name args_of is_with_args is_param expand bind_args base_as bind as_pack measure count
     front_digits weighted number source_name index_of digits number_text optional_number_text identifier
     print list_from last_ends sequence separated repeated ending short_std_text long_std_text std_text cv_text

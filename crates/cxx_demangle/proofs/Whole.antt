@@ -4,27 +4,24 @@ use Rattle.cxx_reader.specs.declared.reader.Reader.{Reader}
 use Rattle.cxx_reader.specs.declared.stop.Stop.{Stop}
 use Rattle.cxx_reader.specs.declared.stop.Stop.TheVariants.{Unreadable, Memory}
 use Rattle.cxx_reader.specs.Outcome.{Gives}
-use Rattle.std.specs.Prelude.{if◌then◌else◌, codes, ◌≤◌}
-use Rattle.abi_scalars.specs.Bytes.{begins}
-use Rattle.std.specs.Str.{IsUtf8}
+use Rattle.std.specs.Prelude.{min, ◌≤◌}
 use Rattle.abi_scalars.specs.Symbol.{after_prefix}
 use Rattle.cxx_tree.specs.Tree.{Tree}
+use Rattle.cxx_tree.specs.Stored.{Store, IsWithin}
 use Rattle.cxx_grammar.specs.State.{State}
-use Rattle.cxx_grammar.specs.Grammar.{Encoding}
-use Rattle.cxx_reader.specs.Parser.{parse_encoding}
-use Rattle.cxx_reader.proofs.EncodingReadings.{encoding_sound, encoding_complete}
-use Rattle.cxx_reader.proofs.Sound.{some_same, chosen}
+use Rattle.cxx_grammar.specs.Grammar.{parse_encoding}
+use Rattle.cxx_reader.proofs.Options.{some_same}
 use Rattle.cxx_demangle.specs.declared.demangler.Printing.{Printing}
-use Rattle.cxx_demangle.specs.Answer.{start, max_depth, max_text, IsWhole, Reads, IsText, text_of, HasAnswer, HasNoAnswer, HasAtMostOneReading, HasBounds, IsAnswer}
+use Rattle.cxx_demangle.specs.Answer.{start, max_depth, IsWhole, Reads, IsText, text_of, HasAnswer, HasNoAnswer, HasAtMostOneReading, HasBounds, IsAnswer, limit_of}
 use Rattle.cxx_demangle.specs.Demangler.{answer_of}
 
 -- all bytes are read
 pub whole_read : (bytes : List ℕ) (t : Tree) (end : State) → parse_encoding max_depth (start bytes) ≡ Some (t, end) → end.rest ≡ [] → IsWhole bytes t
-whole_read bytes t end e f = record { end = end; reading = encoding_sound max_depth (start bytes) t end e; all = f }
+whole_read bytes t end e f = record { end = end; reading = e; all = f }
 
 -- what the parser gives of an encoding that is there
 parsed : {bytes : List ℕ} {u : Tree} (w : IsWhole bytes u) → parse_encoding max_depth (start bytes) ≡ Some (u, w.end)
-parsed w = encoding_complete w.reading
+parsed w = w.reading
 
 -- nothing is read
 pub none_read : (bytes : List ℕ) → parse_encoding max_depth (start bytes) ≡ None → (u : Tree) → IsWhole bytes u → ⊥
@@ -86,23 +83,21 @@ refused (Ok i) after x g e = absurd cc
 refused (Err Unreadable) after x g e = g
 refused (Err Memory) after x g e = absurd cc
 
-drop-shorter : (n : ℕ) (xs : List ℕ) → length (drop n xs) ≤ length xs
-drop-shorter zero xs = omega arith
-drop-shorter (suc n) [] = omega arith
-drop-shorter (suc n) (x ∷ xs) = omega (arith, drop-shorter n xs)
+-- less is within a limit too
+within_more : (m n : ℕ) (store : Store) → m ≤ n → IsWithin m store → IsWithin n store
+within_more m n store l w =
+    record { nodes = omega (arith, l, w.nodes); items = omega (arith, l, w.items); parts = omega (arith, l, w.parts); texts = omega (arith, l, w.texts) }
 
--- what follows the prefix is no longer than the symbol
-pub inside_shorter : (symbol inside : List ℕ) → after_prefix symbol ≡ Some inside → length inside ≤ length symbol
-inside_shorter symbol inside e =
-    chosen (begins (codes "_Z") symbol) (Some (drop 2 symbol)) (if begins (codes "__Z") symbol then Some (drop 3 symbol) else None) inside
-    (λ _ f. omega (arith, ap length (some_same (drop 2 symbol) inside f), drop-shorter 2 symbol))
-    (λ _ f. chosen (begins (codes "__Z") symbol) (Some (drop 3 symbol)) None inside
-    (λ _ g. omega (arith, ap length (some_same (drop 3 symbol) inside g), drop-shorter 3 symbol)) (λ _ g. absurd cc) f)
-    e
+-- what is kept is within the limit
+pub bounds_of : (printing : Printing) (symbol : List ℕ) (store : Store) (saved limit : ℕ) → limit ≡ min (limit_of printing.limit (length symbol)) 4294967295 → IsWithin limit store → saved ≤ limit
+    → HasBounds printing symbol store saved
+bounds_of printing symbol store saved limit e w l =
+    let small : limit ≤ limit_of printing.limit (length symbol) = omega (arith, e) in
+    record { store = within_more limit (limit_of printing.limit (length symbol)) store small w; saved = omega (arith, small, l) }
 
-pub bounds_of : (symbol inside : List ℕ) (nodes saved : ℕ) → after_prefix symbol ≡ Some inside → HasBounds inside nodes saved → HasBounds symbol nodes saved
-bounds_of symbol inside nodes saved e b =
-    let shorter = inside_shorter symbol inside e in
-    record { few_nodes = omega (arith, b.few_nodes, shorter); few_saved = omega (arith, b.few_saved, shorter) }
+-- what was cleared keeps nothing
+pub bounds_none : (printing : Printing) (symbol : List ℕ) (store : Store) (saved : List ℕ) → IsWithin 0 store → saved ≡ [] → HasBounds printing symbol store (length saved)
+bounds_none printing symbol store saved w e =
+    record { store = within_more 0 (limit_of printing.limit (length symbol)) store (omega arith) w; saved = omega (arith, ap length e) }
 
-pub ruleset answers = (bounds_of)
+pub ruleset answers = (bounds_of, bounds_none)

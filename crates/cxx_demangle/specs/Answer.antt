@@ -3,9 +3,10 @@ use Rattle.std.specs.Prelude.{◌≡◌, ℕ, ◌+◌, ◌*◌, ◌≤◌, List,
 use Rattle.std.specs.Str.{IsUtf8}
 use Rattle.abi_scalars.specs.Symbol.{after_prefix}
 use Rattle.cxx_tree.specs.Tree.{Tree}
+use Rattle.cxx_tree.specs.Stored.{Store, IsWithin}
 use Rattle.cxx_printer.specs.Symbol.{symbol_text}
 use Rattle.cxx_grammar.specs.State.{State}
-use Rattle.cxx_grammar.specs.Grammar.{Encoding}
+use Rattle.cxx_grammar.specs.Grammar.{parse_encoding}
 use Rattle.cxx_demangle.specs.declared.demangler.Printing.{Printing}
 
 -- the most counted productions that may nest
@@ -24,7 +25,7 @@ start bytes = record { rest = bytes; saved = []; replaced = 0 }
 -- `cxx_grammar/specs/State`), and that of replaced nodes in `count_replaced` of `cxx_grammar/specs/Binds`
 pub record IsWhole (bytes : List ℕ) (t : Tree) : Type 0 where
   pub end : State
-  pub reading : Encoding max_depth (start bytes) t end
+  pub reading : parse_encoding max_depth (start bytes) ≡ Some (t, end)
   pub all : end.rest ≡ []
 
 -- the grammar reads the whole symbol as the tree, within the limits
@@ -62,8 +63,12 @@ IsAnswer printing symbol None = HasNoAnswer printing symbol
 pub record HasAtMostOneReading (symbol : List ℕ) : Type 0 where
   pub agree : (t u : Tree) → Reads symbol t → Reads symbol u → t ≡ u
 
--- each byte of a symbol makes at most four nodes, and each of the 65,536 nodes that may be replaced two. Each byte
--- saves at most two trees
-pub record HasBounds (symbol : List ℕ) (nodes saved : ℕ) : Type 0 where
-  pub few_nodes : nodes ≤ 4 * length symbol + 131072
-  pub few_saved : saved ≤ 2 * length symbol
+-- the limit for a symbol of n bytes: the one that is given, or the default
+abbrev pub limit_of : Option ℕ → ℕ → ℕ
+limit_of (Some limit) n = limit
+limit_of None n = 16 * n + 4194304
+
+-- what is kept of a symbol is within its limit: nodes and what they refer to, and saved trees
+pub record HasBounds (printing : Printing) (symbol : List ℕ) (store : Store) (saved : ℕ) : Type 0 where
+  pub store : IsWithin (limit_of printing.limit (length symbol)) store
+  pub saved : saved ≤ limit_of printing.limit (length symbol)

@@ -3,7 +3,7 @@ use Rattle.std.specs.Prelude.{ℕ, List, Bool, true, false, Option, Some, None, 
 use Rattle.std.specs.Str.{IsUtf8}
 use Rattle.std.specs.declared.alloc.AllocError.{AllocError}
 use Rattle.cxx_tree.specs.Tree.{Tree}
-use Rattle.cxx_tree.specs.Stored.{size}
+use Rattle.cxx_tree.specs.Stored.{Store}
 use Rattle.cxx_reader.specs.Table.{Table, IsNode, stands}
 use Rattle.cxx_demangle.specs.declared.demangler.Demangler.TheInside.{Inside}
 use Rattle.cxx_demangle.specs.Answer.{IsWhole}
@@ -16,14 +16,14 @@ answer_of false text = None
 -- what is left of the last symbol
 pub record LastAnswer : Type 0 where
   pub text : Option (List ℕ)  -- its answer, if there is one
-  pub nodes : ℕ  -- how many nodes it made
+  pub store : Store  -- its nodes, and what they refer to
   pub saved : ℕ  -- how many substitution candidates it saved
 
 -- what the fields mean
 abbrev pub last_answer : Inside → LastAnswer
 last_answer d = record {
   text = answer_of d.is_answered d.text;
-  nodes = size d.tables.store;
+  store = d.tables.store;
   saved = length d.tables.saved;
 }
 

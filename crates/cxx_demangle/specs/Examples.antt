@@ -1,12 +1,12 @@
 -- Symbols with their declarations.
 use Rattle.std.specs.Prelude.{codes, Some, None}
-use Rattle.cxx_printer.specs.declared.env.Style.TheVariants.{Llvm, Gnu}
-use Rattle.cxx_printer.specs.declared.symbol.Mode.TheVariants.{Name, Signature, Declaration}
+use Rattle.cxx_printer.specs.declared.env.Style.TheVariants.{Llvm}
+use Rattle.cxx_printer.specs.declared.symbol.Mode.TheVariants.{Signature, Declaration}
 use Rattle.cxx_demangle.specs.declared.demangler.Printing.{Printing}
 use Rattle.cxx_demangle.specs.Answer.{IsAnswer}
 
 abbrev pub whole : Printing
-whole = record { mode = Declaration; style = Llvm }
+whole = record { mode = Declaration; style = Llvm; limit = None }
 
 pub record WorkedSymbols : Type 0 where
   -- a function without parameters

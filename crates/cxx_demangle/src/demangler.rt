@@ -1,12 +1,13 @@
 //! `Demangler`, which demangles symbol after symbol.
 #![tactic(auto, using(crate::proofs::Whole::answers), unfolding(cxx_reader::specs::Table::stands))]
 
-ghost use Rattle.std.specs.Prelude.{◌≡◌, length, IfOk, OnOk, OnErr, MatchResult, ⊤, option_map, is_some, true, false, Ok, None};
+ghost use Rattle.std.specs.Prelude.{◌≡◌, ◌≤◌, length, min, IfOk, OnOk, OnErr, MatchResult, ⊤, option_map, is_some, true, false, Ok, None};
 ghost use Rattle.std.specs.Borrow.{sem};
 ghost use Rattle.std.specs.Str.{IsUtf8};
 ghost use Rattle.abi_scalars.specs.Symbol as symbols;
-ghost use Rattle.cxx_tree.specs.Stored.{size};
+ghost use Rattle.cxx_tree.specs.Stored.{IsWithin};
 ghost use Rattle.cxx_reader.specs.Table.{IsNode, stands};
+ghost use Rattle.cxx_demangle.specs.Answer as spec;
 ghost use Rattle.cxx_demangle.specs.Answer.{IsAnswer, HasAtMostOneReading, HasBounds, IsText, text_of};
 ghost use Rattle.cxx_demangle.specs.Demangler.{GivesWhole};
 
@@ -28,13 +29,19 @@ pub const MAX_DEPTH: usize = 512;
 /// The most bytes of an answer.
 pub const MAX_TEXT: usize = 1_048_576;
 
-/// What is printed of a symbol.
+// The greatest limit of what is kept to read a symbol.
+const MAX_LIMIT: usize = 0xffff_ffff;
+
+/// What is printed of a symbol, and how much may be kept to read it.
 #[derive(Clone, Copy, PartialEq)]
 pub struct Printing {
     /// What of a function is printed.
     pub mode: Mode,
     /// Whose texts are printed.
     pub style: Style,
+    /// The most nodes, items of their lists, parts of their phrases, bytes of their texts, and substitution candidates,
+    /// each, at most 4,294,967,295. `None` is 16 for each byte of the symbol and 4,194,304.
+    pub limit: Option<usize>,
 }
 
 /// Demangles symbol after symbol in the same memory, and keeps the last answer.
@@ -57,14 +64,31 @@ impl Model for Demangler {
     ghost invariant = { KeepsAnswer };
 }
 
-// Reads all of the bytes as an encoding. Returns its node, or `None` if there is no such encoding within the limits.
-fn read(tables: &mut Tables, alloc: Global, bytes: &[u8]) -> Result<Option<u32>, AllocError>
+// Returns the limit for a symbol of so many bytes.
+fn limit_of(limit: Option<usize>, len: usize) -> usize
+    ensures value { result ≡ min (spec.limit_of limit len) 4294967295 }
+{
+    match limit {
+        Some(limit) => limit.min(MAX_LIMIT),
+        None => (16 * len.min(MAX_LIMIT) + 4_194_304).min(MAX_LIMIT),
+    }
+}
+
+// Reads all of the bytes as an encoding, and keeps at most `limit` of each kind. Returns its node, or `None` if there is
+// no such encoding within the limits of the grammar.
+fn read(
+    tables: &mut Tables,
+    alloc: Global,
+    bytes: &[u8],
+    limit: usize,
+) -> Result<Option<u32>, AllocError>
     ensures gives { GivesWhole result tables.new bytes.now }
-    ensures bounds { HasBounds bytes.now (size tables.new.store) (length tables.new.saved) }
+    ensures within { IsWithin limit tables.new.store }
+    ensures saved { length tables.new.saved ≤ limit }
 {
     // The reader owns the tables while it reads.
     let mut cleared = replace(tables, Tables::new(alloc));
-    cleared.clear();
+    cleared.clear(limit);
     let mut reader = Reader {
         rest: bytes,
         tables: cleared,
@@ -74,11 +98,20 @@ fn read(tables: &mut Tables, alloc: Global, bytes: &[u8]) -> Result<Option<u32>,
     let read = read_encoding(&mut reader, MAX_DEPTH);
     let is_whole = reader.rest.is_empty();
     swap(tables, &mut reader.tables);
+    // Its clauses say that the limit is kept.
+    tables.limit();
     match read {
         Ok(tree) if is_whole => Ok(Some(tree)),
         Ok(_) => Ok(None),
-        Err(Stop::Unreadable) => Ok(None),
-        Err(Stop::Memory) => Err(AllocError),
+        // What wasn't read to its end leaves nothing.
+        Err(Stop::Unreadable) => {
+            tables.clear(limit);
+            Ok(None)
+        }
+        Err(Stop::Memory) => {
+            tables.clear(limit);
+            Err(AllocError)
+        }
     }
 }
 
@@ -113,7 +146,7 @@ impl Demangler {
     /// Returns a value that has read no symbol. Allocates nothing.
     pub fn new(alloc: Global) -> Self
         ensures empty { result.text ≡ None }
-        ensures nothing { (result.nodes ≡ 0) × (result.saved ≡ 0) }
+        ensures nothing { IsWithin 0 result.store × (result.saved ≡ 0) }
     {
         Demangler {
             is_answered: false,
@@ -131,9 +164,10 @@ impl Demangler {
     /// counted productions nest, no tree is higher than 1,024, none has a work above 1,048,576, and at most 65,536
     /// nodes are replaced. Or what is printed has more than `MAX_TEXT` bytes, or it isn't UTF-8.
     ///
-    /// A symbol of n bytes leaves at most 4 · n + 131,072 nodes and 2 · n saved ones, whether it has an answer or not.
+    /// What is kept to read the symbol is within the limit of `printing`, whether it has an answer or not.
     ///
-    /// Returns an error if an allocation fails. Then the value has no answer, and it can be used again.
+    /// Returns an error if an allocation fails, or if the symbol needs more than that limit. Then the value has no
+    /// answer, and it can be used again.
     pub fn prepare(
         &mut self,
         alloc: Global,
@@ -145,14 +179,15 @@ impl Demangler {
         ensures one { HasAtMostOneReading symbol.now }
         ensures no_prefix { symbols.after_prefix symbol.now ≡ None → (result ≡ Ok false) × (self.new.text ≡ None) }
         ensures err { OnErr result (self.new.text ≡ None) }
-        ensures bounds { HasBounds symbol.now self.new.nodes self.new.saved }
+        ensures bounds { HasBounds printing symbol.now self.new.store self.new.saved }
     {
         self.is_answered = false;
+        let limit = limit_of(printing.limit, symbol.len());
         let Some(bytes) = after_prefix(symbol.as_bytes()) else {
-            self.tables.clear();
+            self.tables.clear(limit);
             return Ok(false);
         };
-        let Some(tree) = read(&mut self.tables, alloc, bytes)? else {
+        let Some(tree) = read(&mut self.tables, alloc, bytes, limit)? else {
             return Ok(false);
         };
         print(&self.tables, tree, printing, &mut self.text)?;
@@ -188,8 +223,8 @@ impl Demangler {
         ensures* kept { sem 𝓛 (follows_so the_row the_row self.entry.ghost_name none (λ _ _. ⊤)
             (λ last. MatchResult result
             (λ found. (last.text ≡ option_map (λ text. text.now) found)
-            × HasBounds symbol.now last.nodes last.saved)
-            (λ _. (last.text ≡ None) × HasBounds symbol.now last.nodes last.saved))) }
+            × HasBounds printing symbol.now last.store last.saved)
+            (λ _. (last.text ≡ None) × HasBounds printing symbol.now last.store last.saved))) }
     {
         self.prepare(alloc, symbol, printing)?;
         Ok(self.text())

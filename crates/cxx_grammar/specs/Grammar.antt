@@ -1,10 +1,9 @@
--- The grammar, as a relation: which bytes are read as which tree (Itanium C++ ABI 5.1). The number says how many
--- counted productions may nest inside. Counted are encodings, names, types, qualified types and template arguments.
-use Rattle.std.specs.Prelude.{ℕ, suc, ◌≡◌, List, [], ◌∷◌, codes, Bool, true, false, ◌&&◌, not, if◌then◌else◌, drop, Option, Some, None}
+-- The grammar: what the bytes of a symbol are read as.
+use Rattle.std.specs.Prelude.{Bool, List, None, Option, Some, [], codes, drop, false, if◌then◌else◌, length, not, suc, true, zero, ℕ, ◌&&◌, ◌+◌, ◌∷◌, ◌≡◌}
 use Rattle.cxx_tree.specs.declared.kinds.Prec.TheVariants.{Primary}
-use Rattle.cxx_tree.specs.Tree.{Tree, named, scoped, with_args, data_name, listed, expansion, qualified, pointer, reference}
+use Rattle.cxx_tree.specs.Tree.{Tree, data_name, expansion, listed, named, pointer, qualified, reference, scoped, with_args}
 use Rattle.cxx_tree.specs.Stored.{trees_from_list}
-use Rattle.cxx_tree.specs.Rows.{ctor_dtor, typed_literal, function_encoding}
+use Rattle.cxx_tree.specs.Rows.{ctor_dtor, function_encoding, typed_literal}
 use Rattle.abi_scalars.specs.Bytes.{begins}
 use Rattle.cxx_grammar.specs.declared.cases.NameCase.{NameCase}
 use Rattle.cxx_grammar.specs.declared.cases.NameCase.TheVariants as name_case
@@ -18,10 +17,10 @@ use Rattle.cxx_grammar.specs.declared.cases.ArgCase.{ArgCase}
 use Rattle.cxx_grammar.specs.declared.cases.ArgCase.TheVariants as arg
 use Rattle.cxx_grammar.specs.declared.cases.LiteralCase.{LiteralCase}
 use Rattle.cxx_grammar.specs.declared.cases.LiteralCase.TheVariants as literal
-use Rattle.cxx_grammar.specs.State.{State, Info, Named, no_info, plain, Parses, ◌>>=◌, skip, past, save, make, make_saved}
-use Rattle.cxx_grammar.specs.Cases.{is_encoding_end, is_args_end, case_of_name, case_of_first, case_of_component, case_of_type, case_of_arg, case_of_literal}
-use Rattle.cxx_grammar.specs.Bases.{base_name, is_with_args, is_param, expand}
-use Rattle.cxx_grammar.specs.Leaves.{parse_base, parse_unmarked_base, parse_substitution, parse_template_param, parse_builtin, parse_number_end, parse_bool, parse_null, parse_integer, cv_at, past_cv, ref_at, past_ref}
+use Rattle.cxx_grammar.specs.State.{Info, Named, Parses, State, make, make_saved, no_info, past, plain, save, skip, ◌>>=◌}
+use Rattle.cxx_grammar.specs.Cases.{case_of_arg, case_of_component, case_of_first, case_of_literal, case_of_name, case_of_type, is_args_end, is_encoding_end}
+use Rattle.cxx_grammar.specs.Bases.{base_name, expand, is_param, is_with_args}
+use Rattle.cxx_grammar.specs.Leaves.{cv_at, parse_base, parse_bool, parse_builtin, parse_integer, parse_null, parse_number_end, parse_substitution, parse_template_param, parse_unmarked_base, past_cv, past_ref, ref_at}
 use Rattle.cxx_grammar.specs.Binds.{bind_encoding}
 
 -- a name that is made of a tree
@@ -64,290 +63,245 @@ make_function ret n params s =
 abbrev pub has_return : Info → Bool
 has_return i = i.ends_with_args && not i.no_return
 
-mutual
-  -- <encoding> ::= <name> [<bare-function-type>]
-  pub data Encoding : ℕ → State → Tree → State → Type 0 where
-    encoding : (d : ℕ) (s : State) (n : Named) (mid : State) (t : Tree) (end : State) (u : Tree) (after : State)
-        → Name d s n mid
-        → Signature d n mid t end
-        → bind_encoding n t end ≡ Some (u, after)
-        → Encoding (suc d) s u after
+-- items up to an end, at most n of them
+unfoldable pub parse_items : (List ℕ → Bool) → Parses Tree → ℕ → Parses (List Tree)
+parse_items is_end item zero s = None
+parse_items is_end item (suc n) s =
+    if is_end s.rest then Some ([], s)
+    else (item s >>= λ t. parse_items is_end item n t.1 >>= λ ts. Some (t.0 ∷ ts.0, ts.1))
 
-  -- what follows the name of an encoding
-  pub data Signature : ℕ → Named → State → Tree → State → Type 0 where
-    -- nothing: the name is that of data
-    data_signature : (d : ℕ) (n : Named) (s : State) (t : Tree) (after : State)
-        → is_encoding_end s.rest ≡ true
-        → make (data_name n.tree) s ≡ Some (t, after)
-        → Signature d n s t after
-    -- <bare-function-type> ::= [<return type>] <parameters>
-    function_signature : (d : ℕ) (n : Named) (s : State) (ret : Option Tree) (mid : State)
-        (params : List Tree) (end : State) (t : Tree) (after : State)
-        → is_encoding_end s.rest ≡ false
-        → Return d (has_return n.info) s ret mid
-        → Params d mid params end
-        → make_function ret n params end ≡ Some (t, after)
-        → Signature d n s t after
+abbrev pub parse_list : (List ℕ → Bool) → Parses Tree → Parses (List Tree)
+parse_list is_end item s = parse_items is_end item (length s.rest + 1) s
 
-  -- a return type, if there is one
-  pub data Return : ℕ → Bool → State → Option Tree → State → Type 0 where
-    no_return : (d : ℕ) (s : State) → Return d false s None s
-    return_type : (d : ℕ) (s : State) (t : Tree) (after : State)
-        → ReadsType d s t after
-        → Return d true s (Some t) after
+-- the counted productions: those that nest. A production has those that may stand inside of it, of the next depth
+pub record Productions : Type 0 where
+  pub encoding : Parses Tree
+  pub name : Parses Named
+  pub arg : Parses Tree
+  pub type : Parses Tree
+  pub qualified : Parses Tree
 
-  -- <parameters> ::= v | <type>+
-  pub data Params : ℕ → State → List Tree → State → Type 0 where
-    no_params : (d : ℕ) (s : State)
-        → begins (codes "v") s.rest ≡ true
-        → Params d s [] (skip 1 s)
-    some_params : (d : ℕ) (s : State) (t : Tree) (mid : State) (ts : List Tree) (after : State)
-        → begins (codes "v") s.rest ≡ false
-        → ReadsType d s t mid
-        → Types d mid ts after
-        → Params d s (t ∷ ts) after
+-- <template-arg>* E, after a letter
+abbrev pub parse_args : Productions → Parses (List Tree)
+parse_args p s = parse_list is_args_end p.arg (skip 1 s) >>= λ ts. Some (ts.0, skip 1 ts.1)
 
-  -- types up to the end of the encoding
-  pub data Types : ℕ → State → List Tree → State → Type 0 where
-    no_types : (d : ℕ) (s : State)
-        → is_encoding_end s.rest ≡ true
-        → Types d s [] s
-    more_types : (d : ℕ) (s : State) (t : Tree) (mid : State) (ts : List Tree) (after : State)
-        → is_encoding_end s.rest ≡ false
-        → ReadsType d s t mid
-        → Types d mid ts after
-        → Types d s (t ∷ ts) after
+-- <template-args> of a name
+abbrev pub parse_with_args : Productions → Named → Parses Named
+parse_with_args p q s = parse_args p s >>= λ ts. make_with_args q ts.0 ts.1
 
-  -- <name>
-  pub data Name : ℕ → State → Named → State → Type 0 where
-    name : (d : ℕ) (s : State) (n : Named) (after : State)
-        → NameAs (case_of_name s.rest) d s n after
-        → Name (suc d) s n after
+-- a name that was read, and [<template-args>]. With arguments it is saved
+abbrev pub parse_unscoped : Productions → Tree → Parses Named
+parse_unscoped p t s =
+    if begins (codes "I") s.rest then parse_with_args p (plain t) (save t s) else Some (plain t, s)
 
-  pub data NameAs : NameCase → ℕ → State → Named → State → Type 0 where
-    -- <nested-name> ::= N [<CV-qualifiers>] [<ref-qualifier>] <component>+ E
-    nested : (d : ℕ) (s : State) (n : Named) (after : State)
-        → First (case_of_first (past_ref (past_cv (skip 1 s))).rest) d (info_at (skip 1 s))
-        (past_ref (past_cv (skip 1 s))) n after
-        → NameAs name_case.Nested d s n after
-    -- St <unqualified-name> [<template-args>]
-    in_std : (d : ℕ) (s : State) (base : Tree) (mid : State) (t : Tree) (end : State) (n : Named) (after : State)
-        → parse_base (skip 2 s) ≡ Some (base, mid)
-        → make (scoped false std base) mid ≡ Some (t, end)
-        → Unscoped d t end n after
-        → NameAs name_case.Std d s n after
-    -- <substitution> <template-args>
-    substituted : (d : ℕ) (s : State) (t : Tree) (mid : State) (n : Named) (after : State)
-        → parse_substitution s ≡ Some (t, mid)
-        → begins (codes "I") mid.rest ≡ true
-        → WithArgs d (plain t) mid n after
-        → NameAs name_case.Substitution d s n after
-    -- <unqualified-name> [<template-args>]
-    unqualified : (d : ℕ) (s : State) (t : Tree) (mid : State) (n : Named) (after : State)
-        → parse_base s ≡ Some (t, mid)
-        → Unscoped d t mid n after
-        → NameAs name_case.Unqualified d s n after
+-- CI<digit> <name>: a constructor that another class has
+abbrev pub parse_inherited : Productions → Named → Parses Named
+parse_inherited p q s = p.name (skip 3 s) >>= λ from. make_ctor q false (Some from.0.tree) from.1
 
-  -- a name that was read, and [<template-args>]
-  pub data Unscoped : ℕ → Tree → State → Named → State → Type 0 where
-    without_args : (d : ℕ) (t : Tree) (s : State)
-        → begins (codes "I") s.rest ≡ false
-        → Unscoped d t s (plain t) s
-    -- with arguments it is saved
-    before_args : (d : ℕ) (t : Tree) (s : State) (n : Named) (after : State)
-        → begins (codes "I") s.rest ≡ true
-        → WithArgs d (plain t) (save t s) n after
-        → Unscoped d t s n after
+abbrev pub parse_scoped : Named → Parses Named
+parse_scoped q s = parse_unmarked_base s >>= λ base. make_scoped q base.0 base.1
 
-  -- <template-args> of a name
-  pub data WithArgs : ℕ → Named → State → Named → State → Type 0 where
-    with_arguments : (d : ℕ) (q : Named) (s : State) (args : List Tree) (mid : State) (n : Named) (after : State)
-        → Args d (skip 1 s) args mid
-        → make_with_args q args mid ≡ Some (n, after)
-        → WithArgs d q s n after
+unfoldable pub component_as : ComponentCase → Productions → Named → Parses Named
+component_as component.Ctor p q s = make_ctor q false q.info.inherited (skip 2 s)
+component_as component.InheritedCtor p q s = parse_inherited p q s
+component_as component.Dtor p q s = make_ctor q true q.info.inherited (skip 2 s)
+component_as component.Unqualified p q s = parse_scoped q s
 
-  -- the first component of a <nested-name>, and those after it
-  pub data First : FirstCase → ℕ → Info → State → Named → State → Type 0 where
-    -- St, which isn't saved, and a component
-    first_std : (d : ℕ) (i : Info) (s : State) (c : Named) (mid : State) (n : Named) (after : State)
-        → Component d (record { tree = std; info = i }) (skip 2 s) c mid
-        → Components d c (past "M" mid) n after
-        → First first.Std d i s n after
-    -- <substitution>, which isn't saved again, and a component
-    first_substitution : (d : ℕ) (i : Info) (s : State) (t : Tree) (before : State) (c : Named) (mid : State)
-        (n : Named) (after : State)
-        → parse_substitution s ≡ Some (t, before)
-        → Component d (record { tree = t; info = i }) before c mid
-        → Components d c (past "M" mid) n after
-        → First first.Substitution d i s n after
-    -- <template-param>
-    first_param : (d : ℕ) (i : Info) (s : State) (t : Tree) (mid : State) (n : Named) (after : State)
-        → parse_template_param s ≡ Some (t, mid)
-        → Components d (record { tree = t; info = i }) (past "M" mid) n after
-        → First first.Param d i s n after
-    -- <unqualified-name>
-    first_unqualified : (d : ℕ) (i : Info) (s : State) (t : Tree) (mid : State) (n : Named) (after : State)
-        → parse_base s ≡ Some (t, mid)
-        → Components d (record { tree = t; info = i }) (past "M" mid) n after
-        → First first.Unqualified d i s n after
+abbrev pub parse_more_args : Productions → Named → Parses Named
+parse_more_args p q s = if is_with_args q.tree then None else parse_with_args p q s
 
-  -- what follows a component: E, or other components. The last one isn't saved
-  pub data Components : ℕ → Named → State → Named → State → Type 0 where
-    last_component : (d : ℕ) (q : Named) (s : State)
-        → begins (codes "E") s.rest ≡ true
-        → Components d q s q (skip 1 s)
-    next_component : (d : ℕ) (q : Named) (s : State) (c : Named) (mid : State) (n : Named) (after : State)
-        → begins (codes "E") s.rest ≡ false
-        → Component d q (save q.tree s) c mid
-        → Components d c (past "M" mid) n after
-        → Components d q s n after
+-- <component> ::= <template-args> | [L] <ctor-dtor-name> | [L] <unqualified-name>
+abbrev pub parse_component : Productions → Named → Parses Named
+parse_component p q s =
+    if begins (codes "I") s.rest then parse_more_args p q s
+    else component_as (case_of_component (past "L" s).rest) p q (past "L" s)
 
-  -- a component after others
-  pub data Component : ℕ → Named → State → Named → State → Type 0 where
-    -- <template-args>, unless the name has some
-    args_component : (d : ℕ) (q : Named) (s : State) (n : Named) (after : State)
-        → begins (codes "I") s.rest ≡ true
-        → is_with_args q.tree ≡ false
-        → WithArgs d q s n after
-        → Component d q s n after
-    name_component : (d : ℕ) (q : Named) (s : State) (n : Named) (after : State)
-        → begins (codes "I") s.rest ≡ false
-        → ComponentAs (case_of_component (past "L" s).rest) d q (past "L" s) n after
-        → Component d q s n after
+-- a component is saved, and the next one is read, with its `M`
+abbrev pub parse_next : Productions → Named → Parses Named
+parse_next p q s = parse_component p q (save q.tree s) >>= λ c. Some (c.0, past "M" c.1)
 
-  pub data ComponentAs : ComponentCase → ℕ → Named → State → Named → State → Type 0 where
-    -- <ctor-dtor-name> ::= C1 | C2 | C3 | C4 | C5
-    constructor : (d : ℕ) (q : Named) (s : State) (n : Named) (after : State)
-        → make_ctor q false q.info.inherited (skip 2 s) ≡ Some (n, after)
-        → ComponentAs component.Ctor d q s n after
-    -- <ctor-dtor-name> ::= CI1 <name> | ...
-    inherited_constructor : (d : ℕ) (q : Named) (s : State) (from : Named) (mid : State) (n : Named) (after : State)
-        → Name d (skip 3 s) from mid
-        → make_ctor q false (Some from.tree) mid ≡ Some (n, after)
-        → ComponentAs component.InheritedCtor d q s n after
-    -- <ctor-dtor-name> ::= D0 | D1 | D2 | D4 | D5
-    destructor : (d : ℕ) (q : Named) (s : State) (n : Named) (after : State)
-        → make_ctor q true q.info.inherited (skip 2 s) ≡ Some (n, after)
-        → ComponentAs component.Dtor d q s n after
-    -- <unqualified-name>
-    scoped_name : (d : ℕ) (q : Named) (s : State) (base : Tree) (mid : State) (n : Named) (after : State)
-        → parse_unmarked_base s ≡ Some (base, mid)
-        → make_scoped q base mid ≡ Some (n, after)
-        → ComponentAs component.Unqualified d q s n after
+-- what follows a component, after its `M`: at most n others
+unfoldable pub parse_components : Productions → ℕ → Named → Parses Named
+parse_components p zero q s = None
+parse_components p (suc n) q s =
+    if begins (codes "E") s.rest then Some (q, skip 1 s)
+    else (parse_next p q s >>= λ c. parse_components p n c.0 c.1)
 
-  -- <template-arg>* E
-  pub data Args : ℕ → State → List Tree → State → Type 0 where
-    no_args : (d : ℕ) (s : State)
-        → is_args_end s.rest ≡ true
-        → Args d s [] (skip 1 s)
-    more_args : (d : ℕ) (s : State) (t : Tree) (mid : State) (ts : List Tree) (after : State)
-        → is_args_end s.rest ≡ false
-        → Arg d s t mid
-        → Args d mid ts after
-        → Args d s (t ∷ ts) after
+-- what follows a component
+abbrev pub parse_rest : Productions → Named → Parses Named
+parse_rest p q s = parse_components p (length (past "M" s).rest + 1) q (past "M" s)
 
-  -- <template-arg>
-  pub data Arg : ℕ → State → Tree → State → Type 0 where
-    argument : (d : ℕ) (s : State) (t : Tree) (after : State)
-        → ArgAs (case_of_arg s.rest) d s t after
-        → Arg (suc d) s t after
+-- a component that isn't the first, and what follows it
+abbrev pub parse_after : Productions → Named → Parses Named
+parse_after p q s = parse_component p q s >>= λ c. parse_rest p c.0 c.1
 
-  pub data ArgAs : ArgCase → ℕ → State → Tree → State → Type 0 where
-    -- J <template-arg>* E
-    pack_argument : (d : ℕ) (s : State) (ts : List Tree) (mid : State) (t : Tree) (after : State)
-        → Args d (skip 1 s) ts mid
-        → make (listed (trees_from_list ts)) mid ≡ Some (t, after)
-        → ArgAs arg.Pack d s t after
-    -- <expr-primary>
-    literal_argument : (d : ℕ) (s : State) (t : Tree) (after : State)
-        → LiteralAs (case_of_literal (drop 1 s.rest)) d (skip 1 s) t after
-        → ArgAs arg.Literal d s t after
-    -- <type>
-    type_argument : (d : ℕ) (s : State) (t : Tree) (after : State)
-        → ReadsType d s t after
-        → ArgAs arg.Type d s t after
+abbrev pub with_info : Info → Tree → Named
+with_info i t = record { tree = t; info = i }
 
-  -- <expr-primary>, after its L
-  pub data LiteralAs : LiteralCase → ℕ → State → Tree → State → Type 0 where
-    -- b0E | b1E
-    bool_literal : (d : ℕ) (s : State) (t : Tree) (after : State)
-        → parse_bool s ≡ Some (t, after)
-        → LiteralAs literal.Bool d s t after
-    -- DnE | Dn0E
-    null_literal : (d : ℕ) (s : State) (t : Tree) (after : State)
-        → parse_null s ≡ Some (t, after)
-        → LiteralAs literal.Null d s t after
-    -- <builtin-type> <number> E
-    integer_literal : (d : ℕ) (s : State) (t : Tree) (after : State)
-        → parse_integer s ≡ Some (t, after)
-        → LiteralAs literal.Integer d s t after
-    -- <type> <number> E
-    typed_number : (d : ℕ) (s : State) (t : Tree) (mid : State) (number : List ℕ) (end : State) (u : Tree)
-        (after : State)
-        → ReadsType d s t mid
-        → parse_number_end mid ≡ Some (number, end)
-        → make (typed_literal t number) end ≡ Some (u, after)
-        → LiteralAs literal.Typed d s u after
+abbrev pub first_substitution : Productions → Info → Parses Named
+first_substitution p i s = parse_substitution s >>= λ t. parse_after p (with_info i t.0) t.1
 
-  -- <type>
-  pub data ReadsType : ℕ → State → Tree → State → Type 0 where
-    type : (d : ℕ) (s : State) (t : Tree) (after : State)
-        → TypeAs (case_of_type s.rest) d s t after
-        → ReadsType (suc d) s t after
+abbrev pub first_param : Productions → Info → Parses Named
+first_param p i s = parse_template_param s >>= λ t. parse_rest p (with_info i t.0) t.1
 
-  pub data TypeAs : TypeCase → ℕ → State → Tree → State → Type 0 where
-    -- <qualified-type>
-    qualified_type : (d : ℕ) (s : State) (t : Tree) (after : State)
-        → Qualified d s t after
-        → TypeAs type_case.Qualified d s t (save t after)
-    -- Dp <type>
-    expansion_type : (d : ℕ) (s : State) (t : Tree) (mid : State) (u : Tree) (after : State)
-        → ReadsType d (skip 2 s) t mid
-        → make_saved (expansion t) mid ≡ Some (u, after)
-        → TypeAs type_case.Expansion d s u after
-    -- <builtin-type>, which isn't saved
-    builtin_type : (d : ℕ) (s : State) (t : Tree) (after : State)
-        → parse_builtin s ≡ Some (t, after)
-        → TypeAs type_case.Builtin d s t after
-    -- <template-param>
-    param_type : (d : ℕ) (s : State) (t : Tree) (mid : State) (n : Tree) (after : State)
-        → parse_template_param s ≡ Some (t, mid)
-        → TypeArgs d t (save t mid) n after
-        → TypeAs type_case.Param d s n after
-    -- P <type>
-    pointer_type : (d : ℕ) (s : State) (t : Tree) (mid : State) (u : Tree) (after : State)
-        → ReadsType d (skip 1 s) t mid
-        → make_saved (pointer t) mid ≡ Some (u, after)
-        → TypeAs type_case.Pointer d s u after
-    -- R <type> | O <type>
-    reference_type : (d : ℕ) (s : State) (is_lvalue : Bool) (t : Tree) (mid : State) (u : Tree) (after : State)
-        → ReadsType d (skip 1 s) t mid
-        → make_saved (reference t is_lvalue) mid ≡ Some (u, after)
-        → TypeAs (type_case.Reference is_lvalue) d s u after
-    -- <substitution>
-    substitution_type : (d : ℕ) (s : State) (t : Tree) (mid : State) (u : Tree) (after : State)
-        → parse_substitution s ≡ Some (t, mid)
-        → TypeArgs d t mid u after
-        → TypeAs type_case.Substitution d s u after
-    -- <class-enum-type> ::= <name>
-    class_type : (d : ℕ) (s : State) (n : Named) (after : State)
-        → Name d s n after
-        → TypeAs type_case.Class d s n.tree (save n.tree after)
+abbrev pub first_base : Productions → Info → Parses Named
+first_base p i s = parse_base s >>= λ t. parse_rest p (with_info i t.0) t.1
 
-  -- [<template-args>] of a type that was read. With arguments it is saved
-  pub data TypeArgs : ℕ → Tree → State → Tree → State → Type 0 where
-    no_type_args : (d : ℕ) (t : Tree) (s : State)
-        → begins (codes "I") s.rest ≡ false
-        → TypeArgs d t s t s
-    type_args : (d : ℕ) (t : Tree) (s : State) (args : List Tree) (mid : State) (u : Tree) (after : State)
-        → begins (codes "I") s.rest ≡ true
-        → Args d (skip 1 s) args mid
-        → make_saved (with_args t (trees_from_list args)) mid ≡ Some (u, after)
-        → TypeArgs d t s u after
+unfoldable pub first_as : FirstCase → Productions → Info → Parses Named
+first_as first.Std p i s = parse_after p (with_info i std) (skip 2 s)
+first_as first.Substitution p i s = first_substitution p i s
+first_as first.Param p i s = first_param p i s
+first_as first.Unqualified p i s = first_base p i s
 
-  -- <qualified-type> ::= <CV-qualifiers> <type>
-  pub data Qualified : ℕ → State → Tree → State → Type 0 where
-    qualified_by : (d : ℕ) (s : State) (t : Tree) (mid : State) (u : Tree) (after : State)
-        → ReadsType d (past_cv s) t mid
-        → make (qualified t (cv_at s)) mid ≡ Some (u, after)
-        → Qualified (suc d) s u after
+-- the components, after the qualifiers
+abbrev pub parse_first : Productions → Info → Parses Named
+parse_first p i s = first_as (case_of_first s.rest) p i s
+
+-- <nested-name> ::= N [<CV-qualifiers>] [<ref-qualifier>] <component>+ E
+abbrev pub parse_nested : Productions → Parses Named
+parse_nested p s = parse_first p (info_at (skip 1 s)) (past_ref (past_cv (skip 1 s)))
+
+-- a name without a scope, in std
+abbrev pub base_in_std : Parses Tree
+base_in_std s = parse_base s >>= λ base. make (scoped false std base.0) base.1
+
+-- St <unqualified-name>
+abbrev pub parse_std_name : Parses Tree
+parse_std_name s = base_in_std (skip 2 s)
+
+-- St <unqualified-name> [<template-args>]
+abbrev pub parse_in_std : Productions → Parses Named
+parse_in_std p s = parse_std_name s >>= λ t. parse_unscoped p t.0 t.1
+
+abbrev pub with_args_only : Productions → Tree → Parses Named
+with_args_only p t s = if begins (codes "I") s.rest then parse_with_args p (plain t) s else None
+
+-- <substitution> <template-args>
+abbrev pub parse_substituted : Productions → Parses Named
+parse_substituted p s = parse_substitution s >>= λ t. with_args_only p t.0 t.1
+
+-- <unqualified-name> [<template-args>]
+abbrev pub parse_unqualified : Productions → Parses Named
+parse_unqualified p s = parse_base s >>= λ t. parse_unscoped p t.0 t.1
+
+-- <name>
+unfoldable pub name_as : NameCase → Productions → Parses Named
+name_as name_case.Nested p s = parse_nested p s
+name_as name_case.Std p s = parse_in_std p s
+name_as name_case.Substitution p s = parse_substituted p s
+name_as name_case.Unqualified p s = parse_unqualified p s
+
+-- <type> <number> E
+abbrev pub parse_typed : Productions → Parses Tree
+parse_typed p s = p.type s >>= λ t. parse_number_end t.1 >>= λ n. make (typed_literal t.0 n.0) n.1
+
+-- <expr-primary>, after its `L`
+unfoldable pub literal_as : LiteralCase → Productions → Parses Tree
+literal_as literal.Bool p s = parse_bool s
+literal_as literal.Null p s = parse_null s
+literal_as literal.Integer p s = parse_integer s
+literal_as literal.Unread p s = None
+literal_as literal.Typed p s = parse_typed p s
+
+-- J <template-arg>* E
+abbrev pub parse_pack : Productions → Parses Tree
+parse_pack p s = parse_args p s >>= λ ts. make (listed (trees_from_list ts.0)) ts.1
+
+abbrev pub parse_literal : Productions → Parses Tree
+parse_literal p s = literal_as (case_of_literal (drop 1 s.rest)) p (skip 1 s)
+
+-- <template-arg>
+unfoldable pub arg_as : ArgCase → Productions → Parses Tree
+arg_as arg.Pack p s = parse_pack p s
+arg_as arg.Literal p s = parse_literal p s
+arg_as arg.Type p s = p.type s
+
+-- a type that was read, and [<template-args>]
+abbrev pub parse_type_args : Productions → Tree → Parses Tree
+parse_type_args p t s =
+    if begins (codes "I") s.rest
+    then (parse_args p s >>= λ ts. make_saved (with_args t (trees_from_list ts.0)) ts.1) else Some (t, s)
+
+-- a tree around a type, after n bytes
+abbrev pub parse_around : Productions → (Tree → Tree) → ℕ → Parses Tree
+parse_around p around n s = p.type (skip n s) >>= λ t. make_saved (around t.0) t.1
+
+abbrev pub reference_to : Bool → Tree → Tree
+reference_to is_lvalue t = reference t is_lvalue
+
+-- <template-param> [<template-args>]
+abbrev pub parse_param_type : Productions → Parses Tree
+parse_param_type p s = parse_template_param s >>= λ t. parse_type_args p t.0 (save t.0 t.1)
+
+-- <substitution> [<template-args>]
+abbrev pub parse_substituted_type : Productions → Parses Tree
+parse_substituted_type p s = parse_substitution s >>= λ t. parse_type_args p t.0 t.1
+
+-- <class-enum-type> ::= <name>
+abbrev pub parse_class : Productions → Parses Tree
+parse_class p s = p.name s >>= λ n. Some (n.0.tree, save n.0.tree n.1)
+
+abbrev pub parse_saved_type : Productions → Parses Tree
+parse_saved_type p s = p.qualified s >>= λ t. Some (t.0, save t.0 t.1)
+
+-- <type>
+unfoldable pub type_as : TypeCase → Productions → Parses Tree
+type_as type_case.Qualified p s = parse_saved_type p s
+type_as type_case.Expansion p s = parse_around p expansion 2 s
+type_as type_case.Builtin p s = parse_builtin s
+type_as type_case.Param p s = parse_param_type p s
+type_as type_case.Pointer p s = parse_around p pointer 1 s
+type_as (type_case.Reference is_lvalue) p s = parse_around p (reference_to is_lvalue) 1 s
+type_as type_case.Substitution p s = parse_substituted_type p s
+type_as type_case.Class p s = parse_class p s
+
+-- <qualified-type> ::= <CV-qualifiers> <type>
+abbrev pub qualified_as : Productions → Parses Tree
+qualified_as p s = p.type (past_cv s) >>= λ t. make (qualified t.0 (cv_at s)) t.1
+
+-- a return type, if there is one
+abbrev pub parse_return : Productions → Bool → Parses (Option Tree)
+parse_return p false s = Some (None, s)
+parse_return p true s = p.type s >>= λ t. Some (Some t.0, t.1)
+
+abbrev pub parse_some_params : Productions → Parses (List Tree)
+parse_some_params p s = p.type s >>= λ t. parse_list is_encoding_end p.type t.1 >>= λ ts. Some (t.0 ∷ ts.0, ts.1)
+
+-- <parameters> ::= v | <type>+
+abbrev pub parse_params : Productions → Parses (List Tree)
+parse_params p s = if begins (codes "v") s.rest then Some ([], skip 1 s) else parse_some_params p s
+
+-- <bare-function-type> ::= [<return type>] <parameters>
+abbrev pub parse_function : Productions → Named → Parses Tree
+parse_function p n s =
+    parse_return p (has_return n.info) s >>= λ ret. parse_params p ret.1 >>= λ ts. make_function ret.0 n ts.0 ts.1
+
+-- what follows the name of an encoding. Nothing: the name is that of data
+abbrev pub parse_signature : Productions → Named → Parses Tree
+parse_signature p n s =
+    if is_encoding_end s.rest then make (data_name n.tree) s else parse_function p n s
+
+-- <encoding> ::= <name> [<bare-function-type>]
+abbrev pub encoding_as : Productions → Parses Tree
+encoding_as p s =
+    p.name s >>= λ n. parse_signature p n.0 n.1 >>= λ t. bind_encoding n.0 t.0 t.1
+
+-- the counted productions, in which those of p may stand
+abbrev pub one_more : Productions → Productions
+one_more p = record {
+  encoding = λ s. encoding_as p s;
+  name = λ s. name_as (case_of_name s.rest) p s;
+  arg = λ s. arg_as (case_of_arg s.rest) p s;
+  type = λ s. type_as (case_of_type s.rest) p s;
+  qualified = λ s. qualified_as p s;
+}
+
+-- the counted productions, of which at most d nest
+unfoldable pub productions : ℕ → Productions
+productions zero =
+    record { encoding = λ s. None; name = λ s. None; arg = λ s. None; type = λ s. None; qualified = λ s. None }
+productions (suc d) = one_more (productions d)
+
+-- an encoding, in which at most d counted productions nest, itself included
+abbrev pub parse_encoding : ℕ → Parses Tree
+parse_encoding d = (productions d).encoding

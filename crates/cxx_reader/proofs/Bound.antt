@@ -2,7 +2,6 @@
 use Rattle.std.proofs.Common.{ℕ, ◌≡◌, ◌+◌, ◌≤◌, List, [], ◌∷◌, ◌++◌, length, map, drop, refl, sym, ap, ◌∙◌, arith, zero, suc, Option, Some, None, Bool, Err}
 use Rattle.cxx_tree.specs.Tree.{Tree}
 use Rattle.cxx_tree.specs.Grows.{Grows}
-use Rattle.cxx_tree.specs.Measure.{measure, measure_each}
 use Rattle.cxx_tree.specs.declared.node.List as handle
 use Rattle.cxx_tree.specs.Stored.{size, list_at, trees_from_list, IsListBelow}
 use Rattle.cxx_tree.proofs.Forest.{list_at-more}
@@ -73,10 +72,3 @@ length-map f (x ∷ xs) = ap (λ (n : ℕ). suc n) (length-map f xs)
 pub no_arg : (a : Table) (l : handle.List) (n : ℕ) → length (list_at a.store.held l) ≤ n → drop n (list_trees a l) ≡ []
 unfolding list_trees
 no_arg a l n h = drop-all n (map (stands a) (list_at a.store.held l)) (omega (arith, h, length-map (stands a) (list_at a.store.held l)))
-
--- what is left of the template parameters of the arguments, after the next one
-pub one_less : (a b : Table) → Grows a.store b.store → (l : handle.List) → IsListBelow a.store.held (size a.store) l → (k i : ℕ)
-    → drop k (list_at b.store.held l) ≡ i ∷ drop (k + 1) (list_at b.store.held l)
-    → (measure_each (trees_from_list (drop k (list_trees a l)))).params ≡ (measure (stands b i)).params + (measure_each (trees_from_list (drop (k + 1) (list_trees a l)))).params
-unfolding measure
-one_less a b g l h k i e = ap (λ (ts : List Tree). (measure_each (trees_from_list ts)).params) (next_arg a b g l h k i e)

@@ -11,11 +11,11 @@ use Rattle.cxx_tree.proofs.InScope.{name-limit}
 use Rattle.cxx_grammar.specs.declared.cases.FirstCase.{FirstCase}
 use Rattle.cxx_grammar.specs.declared.cases.FirstCase.TheVariants as first
 use Rattle.cxx_grammar.specs.declared.cases.ComponentCase.TheVariants as component
-use Rattle.cxx_grammar.specs.State.{State, Info, Named, Parses, ◌>>=◌, past, save, with_rest, make, no_info}
+use Rattle.cxx_grammar.specs.State.{State, Info, Named, ◌>>=◌, past, save, with_rest, make, no_info}
 use Rattle.cxx_grammar.specs.Cases.{case_of_component}
 use Rattle.cxx_grammar.specs.Leaves.{parse_source, parse_base, base_as, parse_substitution, parse_template_param, past_cv, past_ref}
 use Rattle.cxx_grammar.specs.Grammar.{info_at, make_scoped, std}
-use Rattle.cxx_reader.specs.Parser.{base_in_std, parse_component, parse_next, component_as, parse_rest, first_as, with_info}
+use Rattle.cxx_grammar.specs.Grammar.{Productions, base_in_std, parse_component, parse_next, component_as, parse_rest, first_as, with_info}
 use Rattle.cxx_tree.specs.Grows.{Grows}
 use Rattle.std.specs.Prelude.{IfSome, option_map}
 use Rattle.cxx_reader.specs.declared.reader.Reader.{Reader}
@@ -85,9 +85,9 @@ source_then q s (Some n) = go (measure (named (source_text n.0))).fits refl
     go true f = refl
     go false f = rw (name-limit q.tree (named (source_text n.0)) f) refl
 
-pub source_component : (arg : Parses Tree) (name : Parses Named) (q : Named) (s : State) → begins_source s.rest ≡ true → parse_component arg name q s ≡ named_in q s
+pub source_component : (p : Productions) (q : Named) (s : State) → begins_source s.rest ≡ true → parse_component p q s ≡ named_in q s
 unfolding component_as base_as
-source_component arg name q s e = rw (no_args s.rest e, no_letter s.rest e, unqualified s.rest e, e) (source_then q s (identifier s.rest))
+source_component p q s e = rw (no_args s.rest e, no_letter s.rest e, unqualified s.rest e, e) (source_then q s (identifier s.rest))
 
 abbrev learned : Info → Tree × State → Option (Named × State)
 learned i t = Some (with_info i t.0, t.1)
@@ -102,20 +102,20 @@ next_then : (i : Info) (o : Option (Tree × State)) → ((o >>= learned i) >>= n
 next_then i None = refl
 next_then i (Some t) = refl
 
-pub source_next : (arg : Parses Tree) (name : Parses Named) (q : Named) (s : State) → begins_source s.rest ≡ true
-    → parse_next arg name q s ≡ (next_source q.tree s >>= learned (record q.info { ends_with_args = false }))
-source_next arg name q s e = rw (source_component arg name q (save q.tree s) e) (next_then (record q.info { ends_with_args = false }) (source_in q.tree (save q.tree s)))
+pub source_next : (p : Productions) (q : Named) (s : State) → begins_source s.rest ≡ true
+    → parse_next p q s ≡ (next_source q.tree s >>= learned (record q.info { ends_with_args = false }))
+source_next p q s e = rw (source_component p q (save q.tree s) e) (next_then (record q.info { ends_with_args = false }) (source_in q.tree (save q.tree s)))
 
 -- a source name isn't read
-pub source_stop : (e : Stop) (after : Reader) (arg : Parses Tree) (name : Parses Named) (q : Named) (s : State) → begins_source s.rest ≡ true
-    → Gives (Err e) after (next_source q.tree s) → GivesNamed (Err e) after (parse_next arg name q s)
-source_stop Unreadable after arg name q s b f = source_next arg name q s b ∙ rw f refl
-source_stop Memory after arg name q s b f = tt
+pub source_stop : (e : Stop) (after : Reader) (p : Productions) (q : Named) (s : State) → begins_source s.rest ≡ true
+    → Gives (Err e) after (next_source q.tree s) → GivesNamed (Err e) after (parse_next p q s)
+source_stop Unreadable after p q s b f = source_next p q s b ∙ rw f refl
+source_stop Memory after p q s b f = tt
 
 -- a source name is read
-pub source_ok : (arg : Parses Tree) (name : Parses Named) (q : Named) (s after : State) (t : Tree) → begins_source s.rest ≡ true
-    → next_source q.tree s ≡ Some (t, after) → parse_next arg name q s ≡ Some (with_info (record q.info { ends_with_args = false }) t, after)
-source_ok arg name q s after t b read = source_next arg name q s b ∙ rw read refl
+pub source_ok : (p : Productions) (q : Named) (s after : State) (t : Tree) → begins_source s.rest ≡ true
+    → next_source q.tree s ≡ Some (t, after) → parse_next p q s ≡ Some (with_info (record q.info { ends_with_args = false }) t, after)
+source_ok p q s after t b read = source_next p q s b ∙ rw read refl
 
 -- the name after `CI` stays
 pub inherited_stays : (a b : Table) (o : Option ℕ) → Grows a.store b.store → IfSome o (IsNode a)
@@ -130,12 +130,12 @@ after_tree f None g = refl
 after_tree f (Some t) g = refl
 
 -- the first component, and what follows it
-pub head_as_rest : (k : FirstCase) (arg : Parses Tree) (name : Parses Named) (i : Info) (s : State) → first_as k arg name i s ≡ (head_as k arg name i s >>= λ c. parse_rest arg name c.0 c.1)
+pub head_as_rest : (k : FirstCase) (p : Productions) (i : Info) (s : State) → first_as k p i s ≡ (head_as k p i s >>= λ c. parse_rest p c.0 c.1)
 unfolding first_as head_as
-head_as_rest first.Std arg name i s = refl
-head_as_rest first.Substitution arg name i s = after_tree (λ t u. parse_component arg name (with_info i t) u) (parse_substitution s) (parse_rest arg name)
-head_as_rest first.Param arg name i s = after_tree (λ t u. Some (with_info i t, u)) (parse_template_param s) (parse_rest arg name)
-head_as_rest first.Unqualified arg name i s = after_tree (λ t u. Some (with_info i t, u)) (parse_base s) (parse_rest arg name)
+head_as_rest first.Std p i s = refl
+head_as_rest first.Substitution p i s = after_tree (λ t u. parse_component p (with_info i t) u) (parse_substitution s) (parse_rest p)
+head_as_rest first.Param p i s = after_tree (λ t u. Some (with_info i t, u)) (parse_template_param s) (parse_rest p)
+head_as_rest first.Unqualified p i s = after_tree (λ t u. Some (with_info i t, u)) (parse_base s) (parse_rest p)
 
 -- no qualifier is next
 pub unqualified_info : (s : State) → begins_name s.rest ≡ true → info_at s ≡ no_info

@@ -1,5 +1,5 @@
 -- Tables that grow.
-use Rattle.std.proofs.Common.{ℕ, ◌≡◌, ◌<◌, ◌≤◌, List, [], ◌∷◌, ◌++◌, length, map, drop, take, zero, suc, refl, sym, ap, ◌∙◌, arith, subst, Result, Ok, Err}
+use Rattle.std.proofs.Common.{ℕ, ◌≡◌, ◌<◌, ◌≤◌, List, [], ◌∷◌, ◌++◌, length, length-take, map, drop, take, zero, suc, refl, sym, ap, ◌∙◌, arith, subst, Result, Ok, Err}
 use Rattle.std.specs.List.{AllByRecursion}
 use Rattle.cxx_tree.specs.Tree.{Tree}
 use Rattle.cxx_tree.specs.Grows.{Grows, Makes}
@@ -12,7 +12,7 @@ use Rattle.cxx_reader.specs.declared.reader.Reader.{Reader}
 use Rattle.cxx_reader.specs.declared.stop.Stop.{Stop}
 use Rattle.cxx_reader.specs.declared.stop.Stop.TheVariants.{Unreadable, Memory}
 use Rattle.cxx_reader.specs.Table.{Table, IsTable, IsNode, Stays, MakesIn, stands, saved_trees, stopped, taken}
-use Rattle.cxx_reader.specs.Outcome.{Gives, Keeps}
+use Rattle.cxx_reader.specs.Outcome.{Gives, Keeps, Moves}
 use Rattle.cxx_tree.proofs.Grown.{Grows-same, Grows-trans}
 use Rattle.std.specs.Prelude.{OnOk}
 
@@ -42,6 +42,8 @@ IsTable-grows a b is g s o =
     record {
       saved_below = subst (AllByRecursion (λ k. k < size b.store)) (sym s) (below-more (size a.store) (size b.store) a.saved g.longer is.saved_below);
       pending_below = subst (AllByRecursion (λ k. k < size b.store)) (sym o) (below-more (size a.store) (size b.store) a.pending g.longer is.pending_below);
+      few_saved = omega (arith, ap length s, g.limit, is.few_saved);
+      few_pending = omega (arith, ap length o, g.limit, is.few_pending);
     }
 
 below-take : (m n : ℕ) (is : List ℕ) → AllByRecursion (λ k. k < n) is → AllByRecursion (λ k. k < n) (take m is)
@@ -55,7 +57,13 @@ below-drop (suc m) n [] h = tt
 below-drop (suc m) n (i ∷ is) h = below-drop m n is h.1
 
 pub IsTable-taken : (m : ℕ) (a : Table) → IsTable a → IsTable (taken m a)
-IsTable-taken m a is = record { saved_below = is.saved_below; pending_below = below-take m (size a.store) a.pending is.pending_below }
+IsTable-taken m a is =
+    record {
+      saved_below = is.saved_below;
+      pending_below = below-take m (size a.store) a.pending is.pending_below;
+      few_saved = is.few_saved;
+      few_pending = omega (arith, length-take m a.pending, is.few_pending);
+    }
 
 -- after a node was made
 pub IsTable-made : (r : Result ℕ PushError) (a b : Table) (t : Tree) → IsTable a → Makes r a.store b.store t → b.saved ≡ a.saved → b.pending ≡ a.pending → IsTable b
@@ -118,6 +126,10 @@ pub Keeps-after : {A : Type 0} (r : Result A Stop) (a b c : Reader) → Keeps a 
 Keeps-after (Ok x) a b c k l = Keeps-trans a b c k l
 Keeps-after (Err e) a b c k l = tt
 
+-- bytes are read
+pub Moves-of : (a b : Reader) → Keeps a b → length b.rest.now < length a.rest.now → Moves a b
+Moves-of a b k l = record { keeps = k; takes = l }
+
 pub ruleset tables = (IsTable-made, MakesIn-made)
 
-pub ruleset readers = (gives_made, Keeps-made, Keeps-same, Keeps-trans)
+pub ruleset readers = (gives_made, Keeps-made, Keeps-same, Keeps-trans, Moves-of)

@@ -1,13 +1,9 @@
+pub mod Options
 pub mod Kept
 pub mod Turns
 pub mod Opens
 pub mod Rules
-pub mod Costs
 pub mod Lists
-pub mod Sound
-pub mod Takes
-pub mod Complete
-pub mod EncodingReadings
 pub mod Bound
 pub mod Unbound
 pub mod Heads

@@ -1,22 +1,23 @@
 -- The nodes of a list that is read stand after those of the lists around it.
-use Rattle.std.proofs.Common.{ℕ, ◌≡◌, ◌+◌, ◌≤◌, List, [], ◌∷◌, ◌++◌, length, map, drop, take, refl, sym, ap, ◌∙◌, arith, subst, zero, suc, Option, Some, true, false, Bool, Result, Ok, Err}
+use Rattle.std.proofs.Common.{ℕ, ◌≡◌, ◌-◌, ◌<◌, ◌≤◌, List, [], ◌∷◌, ◌++◌, length, map, drop, take, refl, sym, ap, ◌∙◌, arith, subst, zero, suc, Option, Some, true, false, Bool, Result, Ok, Err, length-append}
 use Rattle.std.specs.List.{AllByRecursion}
 use Rattle.std.proofs.lemmas.List.{map-append}
 use Rattle.cxx_tree.specs.Tree.{Tree}
 use Rattle.cxx_tree.specs.Grows.{Grows}
 use Rattle.cxx_tree.specs.declared.node.List as handle
-use Rattle.std.specs.Prelude.{IfOk, IsOkUnless}
-use Rattle.cxx_tree.specs.Stored.{size, list_at, IsListBelow}
+use Rattle.std.specs.Prelude.{IfOk, OnOk, IsOkUnless}
+use Rattle.cxx_tree.specs.Stored.{Store, forest, size, tree_at, list_at, IsListBelow}
+use Rattle.cxx_tree.proofs.Grown.{Grows-same, Grows-trans}
 use Rattle.cxx_grammar.specs.State.{State, Named, Parses, skip}
 use Rattle.cxx_grammar.specs.Cases.{is_args_end, is_encoding_end}
 use Rattle.cxx_reader.specs.declared.reader.Reader.{Reader}
 use Rattle.cxx_reader.specs.declared.stop.Stop.{Stop}
 use Rattle.cxx_reader.specs.declared.stop.Stop.TheVariants.{Unreadable, Memory}
-use Rattle.cxx_reader.specs.Table.{Table, IsNode, stands}
-use Rattle.cxx_reader.specs.Parser.{parse_list, parse_args, parse_next, parse_some_params}
-use Rattle.cxx_reader.specs.Outcome.{state, Gives, GivesList, GivesNamed, GivesFrom, list_trees}
+use Rattle.cxx_reader.specs.Table.{Table, IsNode, stands, saved_trees}
+use Rattle.cxx_grammar.specs.Grammar.{Productions, parse_list, parse_args, parse_next, parse_some_params}
+use Rattle.cxx_reader.specs.Outcome.{state, Keeps, Moves, KeepsFront, Gives, GivesList, GivesNamed, GivesFrom, list_trees}
 use Rattle.cxx_reader.proofs.Kept.{map-stands, below-more, below-push}
-use Rattle.cxx_reader.proofs.Turns.{ListSoFar, items_start, items_end, items_fail, ComponentsSoFar, components_fail}
+use Rattle.cxx_reader.proofs.Turns.{ListSoFar, items_start, items_fail, ComponentsSoFar, components_fail}
 
 drop-length : (xs : List ℕ) → drop (length xs) xs ≡ []
 drop-length [] = refl
@@ -35,6 +36,10 @@ take-push (suc n) (x ∷ xs) i h = ap (λ (l : List ℕ). x ∷ l) (take-push n 
 pub take-length : (xs : List ℕ) → take (length xs) xs ≡ xs
 take-length [] = refl
 take-length (x ∷ xs) = ap (λ (l : List ℕ). x ∷ l) (take-length xs)
+
+-- the trees of the nodes from an index on
+abbrev pub trees_behind : ℕ → Table → List Tree
+trees_behind n a = map (stands a) (drop n a.pending)
 
 -- no item yet
 pub none-yet : (a : Table) (from : ℕ) → from ≡ length a.pending → map (stands a) (drop from a.pending) ≡ []
@@ -62,40 +67,123 @@ one-more-below a b from i g below long e n =
     subst (AllByRecursion (IsNode b)) (sym (ap (drop from) e ∙ drop-push from a.pending i long))
     (below-push (size b.store) (drop from a.pending) i (below-more (size a.store) (size b.store) (drop from a.pending) g.longer below) n)
 
--- an argument isn't read
-pub args_stop : (e : Stop) (after : Reader) (arg : Parses Tree) (s : State) {so_far : List Tree} {u : State} → ListSoFar (parse_list is_args_end arg (skip 1 s)) is_args_end arg so_far u → is_args_end u.rest ≡ false
-    → Gives (Err e) after (arg u) → GivesList (Err e) after (parse_args arg s)
-args_stop Unreadable after arg s l e f = let no = items_fail l e f in rw no refl
-args_stop Memory after arg s l e f = tt
+-- a node that was made is added to the list that is read
+pub record Pushed (item : Option (Tree × State)) (old after : Reader) (i : ℕ) : Type 0 where
+  pub grows : Grows old.tables.store after.tables.store
+  pub pending : after.tables.pending ≡ old.tables.pending ++ i ∷ []
+  pub node : IsNode after.tables i
+  pub parsed : item ≡ Some (stands after.tables i, state after)
+
+pub pushed : {item : Option (Tree × State)} (old mid after : Reader) (i : ℕ) → Keeps old mid → after.tables.store ≡ mid.tables.store → saved_trees after.tables ≡ saved_trees mid.tables
+    → after.tables.pending ≡ mid.tables.pending ++ i ∷ [] → after.rest ≡ mid.rest → after.replaced ≡ mid.replaced
+    → IsNode mid.tables i × (item ≡ Some (stands mid.tables i, state mid)) → Pushed item old after i
+unfolding stands
+pushed old mid after i k st sv p r n g =
+    let same : stands after.tables i ≡ stands mid.tables i = ap (λ (s : Store). tree_at (forest s) i) st in
+    let after-state : state mid ≡ state after = cc in
+    record {
+      grows = subst (λ (s : Store). Grows old.tables.store s) (sym st) k.grows;
+      pending = p ∙ ap (λ (l : List ℕ). l ++ i ∷ []) k.pending;
+      node = subst (λ (s : Store). i < size s) (sym st) g.0;
+      parsed = g.1 ∙ ap (λ (u : Tree). Some (u, state mid)) (sym same) ∙ ap (λ (s : State). Some (stands after.tables i, s)) after-state;
+    }
+
+pub KeepsFront-same : (a : Reader) → KeepsFront a a
+KeepsFront-same a =
+    record { grows = Grows-same a.tables.store a.tables.store refl; front = take-length a.tables.pending; long = omega arith; within = omega arith }
+
+pub KeepsFront-push : (a b c : Reader) (i : ℕ) → KeepsFront a b → Grows b.tables.store c.tables.store → c.tables.pending ≡ b.tables.pending ++ i ∷ [] → length c.rest.now ≤ length b.rest.now → KeepsFront a c
+KeepsFront-push a b c i k g p w =
+    record {
+      grows = Grows-trans a.tables.store b.tables.store c.tables.store k.grows g;
+      front = ap (take (length a.tables.pending)) p ∙ take-push (length a.tables.pending) b.tables.pending i k.long ∙ k.front;
+      long = omega (arith, k.long, ap length p, length-append b.tables.pending (i ∷ []));
+      within = omega (arith, k.within, w);
+    }
+
+-- an item isn't read
+pub items_stop : (e : Stop) (from : ℕ) (after : Reader) (item : Parses Tree) {whole : Option (List Tree × State)} {is_end : List ℕ → Bool} {so_far : List Tree} {u : State} → ListSoFar whole is_end item so_far u → is_end u.rest ≡ false
+    → Gives (Err e) after (item u) → GivesFrom (Err e) from after whole
+items_stop Unreadable from after item l e f = items_fail l e f
+items_stop Memory from after item l e f = tt
 
 -- a component isn't read
-pub components_stop : (e : Stop) (after : Reader) (arg : Parses Tree) (name : Parses Named) {whole : Option (Named × State)} {q : Named} {u : State} → ComponentsSoFar whole arg name q u → is_args_end u.rest ≡ false
-    → GivesNamed (Err e) after (parse_next arg name q u) → GivesNamed (Err e) after whole
-components_stop Unreadable after arg name l e f = components_fail l e f
-components_stop Memory after arg name l e f = tt
+pub components_stop : (e : Stop) (after : Reader) (p : Productions) {whole : Option (Named × State)} {q : Named} {u : State} → ComponentsSoFar whole p q u → is_args_end u.rest ≡ false
+    → GivesNamed (Err e) after (parse_next p q u) → GivesNamed (Err e) after whole
+components_stop Unreadable after p l e f = components_fail l e f
+components_stop Memory after p l e f = tt
 
 -- all arguments are read
-pub close_gives : (r : Result handle.List Stop) (after : Reader) (a : Table) (from : ℕ) (arg : Parses Tree) (s u : State)
-    → ListSoFar (parse_list is_args_end arg (skip 1 s)) is_args_end arg (map (stands a) (drop from a.pending)) u
-    → is_args_end u.rest ≡ true
+pub close_gives : (r : Result handle.List Stop) (after : Reader) (a : Table) (from : ℕ) (p : Productions) (s u : State)
+    → parse_list is_args_end p.arg (skip 1 s) ≡ Some (trees_behind from a, u)
     → IfOk r (λ l. list_at after.tables.store.held l ≡ drop from a.pending)
     → IfOk r (λ l. IsListBelow after.tables.store.held (size after.tables.store) l)
     → Grows a.store after.tables.store → AllByRecursion (IsNode a) (drop from a.pending)
-    → state after ≡ skip 1 u → IsOkUnless r Memory → GivesList r after (parse_args arg s)
+    → state after ≡ skip 1 u → IsOkUnless r Memory → GivesList r after (parse_args p s)
 unfolding list_trees
-close_gives (Ok l) after a from arg s u so_far e is below g all st m =
-    let done : parse_list is_args_end arg (skip 1 s) ≡ Some (map (stands a) (drop from a.pending), u) = items_end so_far e in
+close_gives (Ok l) after a from p s u done is below g all st m =
     let trees : map (stands a) (drop from a.pending) ≡ list_trees after.tables l = sym (ap (map (stands after.tables)) is ∙ map-stands a after.tables g (drop from a.pending) all) in
     (below, rw done (ap (λ (ts : List Tree). Some (ts, skip 1 u)) trees ∙ ap (λ (v : State). Some (list_trees after.tables l, v)) (sym st)))
-close_gives (Err Unreadable) after a from arg s u so_far e is below g all st m = absurd (let f = m in cc)
-close_gives (Err Memory) after a from arg s u so_far e is below g all st m = tt
+close_gives (Err Unreadable) after a from p s u done is below g all st m = absurd (let f = m in cc)
+close_gives (Err Memory) after a from p s u done is below g all st m = tt
 
--- the first parameter is read
-pub params_start : (type : Parses Tree) (s : State) (t : Tree) (u : State) → type s ≡ Some (t, u) → ListSoFar (parse_some_params type s) is_encoding_end type (t ∷ []) u
-params_start type s t u e = record { turns = length u.rest + 1; enough = omega arith; is = rw e refl }
+begins_some : (bytes : List ℕ) → is_args_end bytes ≡ true → 0 < length bytes
+begins_some [] e = absurd (let f = e in cc)
+begins_some (b ∷ bytes) e = omega arith
 
--- a parameter isn't read
-pub params_stop : (e : Stop) (from : ℕ) (after : Reader) (type : Parses Tree) {whole : Option (List Tree × State)} {so_far : List Tree} {u : State} → ListSoFar whole is_encoding_end type so_far u → is_encoding_end u.rest ≡ false
-    → Gives (Err e) after (type u) → GivesFrom (Err e) from after whole
-params_stop Unreadable from after type l e f = items_fail l e f
-params_stop Memory from after type l e f = tt
+pub close_moves : (r : Result handle.List Stop) (old start mid after : Reader) (from : ℕ) → start.tables ≡ old.tables → length start.rest.now ≤ length old.rest.now → KeepsFront start mid → from ≡ length start.tables.pending
+    → is_args_end mid.rest.now ≡ true → Grows mid.tables.store after.tables.store → after.tables.pending ≡ take from mid.tables.pending → length after.rest.now ≡ length mid.rest.now - 1 → OnOk r (Moves old after)
+close_moves (Ok l) old start mid after from e w k f b g p n =
+    let some = begins_some mid.rest.now b in
+    record {
+      keeps = record {
+        grows = Grows-trans old.tables.store mid.tables.store after.tables.store (subst (λ (x : Table). Grows x.store mid.tables.store) e k.grows) g;
+        pending = p ∙ ap (λ (j : ℕ). take j mid.tables.pending) f ∙ k.front ∙ ap (λ (x : Table). x.pending) e;
+        within = omega (arith, w, k.within, n);
+      };
+      takes = omega (arith, w, k.within, n, some);
+    }
+close_moves (Err stop) old start mid after from e w k f b g p n = tt
+
+-- the nodes behind a front, of which one more is known
+behind : (front xs : List ℕ) (i : ℕ) → take (suc (length front)) xs ≡ front ++ i ∷ [] → drop (length front) xs ≡ i ∷ drop (suc (length front)) xs
+behind [] [] i e = absurd (let f = e in cc)
+behind [] (x ∷ xs) i e = let f = e in cc
+behind (f ∷ front) [] i e = absurd (let g = e in cc)
+behind (f ∷ front) (x ∷ xs) i e = behind front xs i (let g = e in cc)
+
+before : (front xs : List ℕ) (i : ℕ) → take (suc (length front)) xs ≡ front ++ i ∷ [] → take (length front) xs ≡ front
+before [] xs i e = refl
+before (f ∷ front) [] i e = absurd (let g = e in cc)
+before (f ∷ front) (x ∷ xs) i e = let g = e in let rest = before front xs i (let h = e in cc) in cc
+
+-- the first parameter is read, and the others after it
+pub params_gives : (r : Result (Unit {0}) Stop) (old start after : Reader) (i : ℕ) (ps : Productions) → Pushed (ps.type (state old)) old start i → OnOk r (KeepsFront start after)
+    → GivesFrom r (length start.tables.pending) after (parse_list is_encoding_end ps.type (state start)) → GivesFrom r (length old.tables.pending) after (parse_some_params ps (state old))
+unfolding stands
+params_gives (Ok u) old start after i ps p k g =
+    let n = length old.tables.pending in
+    let m : length start.tables.pending ≡ suc n = omega (arith, ap length p.pending, length-append old.tables.pending (i ∷ [])) in
+    let e : take (suc n) after.tables.pending ≡ old.tables.pending ++ i ∷ [] = subst (λ (j : ℕ). take j after.tables.pending ≡ old.tables.pending ++ i ∷ []) m (k.front ∙ p.pending) in
+    let split = behind old.tables.pending after.tables.pending i e in
+    let all : AllByRecursion (IsNode after.tables) (drop (suc n) after.tables.pending) = subst (λ (j : ℕ). AllByRecursion (IsNode after.tables) (drop j after.tables.pending)) m g.0 in
+    let rest : parse_list is_encoding_end ps.type (state start) ≡ Some (trees_behind (suc n) after.tables, state after) =
+    subst (λ (j : ℕ). parse_list is_encoding_end ps.type (state start) ≡ Some (trees_behind j after.tables, state after)) m g.1 in
+    let trees : stands start.tables i ∷ trees_behind (suc n) after.tables ≡ trees_behind n after.tables =
+    ap (λ (t : Tree). t ∷ trees_behind (suc n) after.tables) (sym (k.grows.same i p.node)) ∙ ap (map (stands after.tables)) (sym split) in
+    (subst (AllByRecursion (IsNode after.tables)) (sym split) (omega (arith, k.grows.longer, p.node), all), rw (p.parsed, rest) (ap (λ (ts : List Tree). Some (ts, state after)) trees))
+params_gives (Err Unreadable) old start after i ps p k g = rw (p.parsed, g) refl
+params_gives (Err Memory) old start after i ps p k g = tt
+
+pub params_keeps : {item : Option (Tree × State)} (r : Result (Unit {0}) Stop) (old start after : Reader) (i : ℕ) → Pushed item old start i → length start.rest.now ≤ length old.rest.now
+    → OnOk r (KeepsFront start after) → OnOk r (KeepsFront old after)
+params_keeps (Ok u) old start after i p w k =
+    let n = length old.tables.pending in
+    let m : length start.tables.pending ≡ suc n = omega (arith, ap length p.pending, length-append old.tables.pending (i ∷ [])) in
+    record {
+      grows = Grows-trans old.tables.store start.tables.store after.tables.store p.grows k.grows;
+      front = before old.tables.pending after.tables.pending i (subst (λ (j : ℕ). take j after.tables.pending ≡ old.tables.pending ++ i ∷ []) m (k.front ∙ p.pending));
+      long = omega (arith, m, k.long);
+      within = omega (arith, k.within, w);
+    }
+params_keeps (Err e) old start after i p w k = tt

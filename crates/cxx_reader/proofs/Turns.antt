@@ -5,7 +5,7 @@ use Rattle.std.proofs.lemmas.List.{append-nil}
 use Rattle.abi_scalars.specs.Bytes.{begins}
 use Rattle.cxx_tree.specs.Tree.{Tree}
 use Rattle.cxx_grammar.specs.State.{State, Named, Parses, ◌>>=◌, skip, past}
-use Rattle.cxx_reader.specs.Parser.{parse_items, parse_list, parse_components, parse_next, parse_rest}
+use Rattle.cxx_grammar.specs.Grammar.{Productions, parse_items, parse_list, parse_components, parse_next, parse_rest}
 
 -- what is read stands after what was read before
 abbrev pub with_front : List Tree → Option (List Tree × State) → Option (List Tree × State)
@@ -55,31 +55,31 @@ items_more {is_end = is_end} {item = item} {so_far = so_far} {s = s} {after = af
     }
 
 -- what a name gives, after some of its components
-pub record ComponentsSoFar (whole : Option (Named × State)) (arg : Parses Tree) (name : Parses Named) (q : Named) (s : State) : Type 0 where
+pub record ComponentsSoFar (whole : Option (Named × State)) (p : Productions) (q : Named) (s : State) : Type 0 where
   pub turns : ℕ
   pub enough : length s.rest < turns
-  pub is : whole ≡ parse_components arg name turns q s
+  pub is : whole ≡ parse_components p turns q s
 
-pub components_opens : (arg : Parses Tree) (name : Parses Named) (n : ℕ) (q : Named) (s : State) → 0 < n → parse_components arg name n q s
-    ≡ (if begins (codes "E") s.rest then Some (q, skip 1 s) else (parse_next arg name q s >>= λ c. parse_components arg name (n - 1) c.0 c.1))
+pub components_opens : (p : Productions) (n : ℕ) (q : Named) (s : State) → 0 < n → parse_components p n q s
+    ≡ (if begins (codes "E") s.rest then Some (q, skip 1 s) else (parse_next p q s >>= λ c. parse_components p (n - 1) c.0 c.1))
 unfolding parse_components
-components_opens arg name zero q s h = absurd (omega arith)
-components_opens arg name (suc n) q s h = let less : suc n - 1 ≡ n = omega arith in rw less refl
+components_opens p zero q s h = absurd (omega arith)
+components_opens p (suc n) q s h = let less : suc n - 1 ≡ n = omega arith in rw less refl
 
-pub components_start : (arg : Parses Tree) (name : Parses Named) (q : Named) (s : State) → ComponentsSoFar (parse_rest arg name q s) arg name q (past "M" s)
-components_start arg name q s = record { turns = length (past "M" s).rest + 1; enough = omega arith; is = refl }
+pub components_start : (p : Productions) (q : Named) (s : State) → ComponentsSoFar (parse_rest p q s) p q (past "M" s)
+components_start p q s = record { turns = length (past "M" s).rest + 1; enough = omega arith; is = refl }
 
-pub components_end : {whole : Option (Named × State)} {arg : Parses Tree} {name : Parses Named} {q : Named} {s : State} → ComponentsSoFar whole arg name q s → begins (codes "E") s.rest ≡ true → whole ≡ Some (q, skip 1 s)
-components_end {arg = arg} {name = name} {q = q} {s = s} l e = l.is ∙ components_opens arg name l.turns q s (omega (arith, l.enough)) ∙ rw e refl
+pub components_end : {whole : Option (Named × State)} {p : Productions} {q : Named} {s : State} → ComponentsSoFar whole p q s → begins (codes "E") s.rest ≡ true → whole ≡ Some (q, skip 1 s)
+components_end {p = p} {q = q} {s = s} l e = l.is ∙ components_opens p l.turns q s (omega (arith, l.enough)) ∙ rw e refl
 
-pub components_fail : {whole : Option (Named × State)} {arg : Parses Tree} {name : Parses Named} {q : Named} {s : State} → ComponentsSoFar whole arg name q s → begins (codes "E") s.rest ≡ false → parse_next arg name q s ≡ None → whole ≡ None
-components_fail {arg = arg} {name = name} {q = q} {s = s} l e f = l.is ∙ components_opens arg name l.turns q s (omega (arith, l.enough)) ∙ rw (e, f) refl
+pub components_fail : {whole : Option (Named × State)} {p : Productions} {q : Named} {s : State} → ComponentsSoFar whole p q s → begins (codes "E") s.rest ≡ false → parse_next p q s ≡ None → whole ≡ None
+components_fail {p = p} {q = q} {s = s} l e f = l.is ∙ components_opens p l.turns q s (omega (arith, l.enough)) ∙ rw (e, f) refl
 
-pub components_more : {whole : Option (Named × State)} {arg : Parses Tree} {name : Parses Named} {q c : Named} {s after : State}
-    → ComponentsSoFar whole arg name q s → begins (codes "E") s.rest ≡ false → parse_next arg name q s ≡ Some (c, after) → length after.rest < length s.rest → ComponentsSoFar whole arg name c after
-components_more {arg = arg} {name = name} {q = q} {s = s} l e f shorter =
+pub components_more : {whole : Option (Named × State)} {p : Productions} {q c : Named} {s after : State}
+    → ComponentsSoFar whole p q s → begins (codes "E") s.rest ≡ false → parse_next p q s ≡ Some (c, after) → length after.rest < length s.rest → ComponentsSoFar whole p c after
+components_more {p = p} {q = q} {s = s} l e f shorter =
     record {
       turns = l.turns - 1;
       enough = omega (arith, l.enough);
-      is = l.is ∙ components_opens arg name l.turns q s (omega (arith, l.enough)) ∙ rw (e, f) refl;
+      is = l.is ∙ components_opens p l.turns q s (omega (arith, l.enough)) ∙ rw (e, f) refl;
     }

@@ -10,7 +10,7 @@ use Rattle.cxx_grammar.specs.State.{Info, Named, Parses, ◌>>=◌, skip, past, 
 use Rattle.cxx_grammar.specs.Cases.{case_of_first}
 use Rattle.cxx_grammar.specs.Leaves.{parse_base, parse_substitution, parse_template_param}
 use Rattle.cxx_grammar.specs.Grammar.{std}
-use Rattle.cxx_reader.specs.Parser.{parse_component, with_info}
+use Rattle.cxx_grammar.specs.Grammar.{Productions, parse_component, with_info}
 
 -- a <source-name> in a scope
 abbrev pub source_in : Tree → Parses Tree
@@ -26,8 +26,8 @@ named_in q s =
 abbrev pub next_source : Tree → Parses Tree
 next_source scope s = source_in scope (save scope s) >>= λ t. Some (t.0, past "M" t.1)
 
-abbrev pub head_substitution : Parses Tree → Parses Named → Info → Parses Named
-head_substitution arg name i s = parse_substitution s >>= λ t. parse_component arg name (with_info i t.0) t.1
+abbrev pub head_substitution : Productions → Info → Parses Named
+head_substitution p i s = parse_substitution s >>= λ t. parse_component p (with_info i t.0) t.1
 
 abbrev pub head_param : Info → Parses Named
 head_param i s = parse_template_param s >>= λ t. Some (with_info i t.0, t.1)
@@ -35,15 +35,15 @@ head_param i s = parse_template_param s >>= λ t. Some (with_info i t.0, t.1)
 abbrev pub head_base : Info → Parses Named
 head_base i s = parse_base s >>= λ t. Some (with_info i t.0, t.1)
 
-unfoldable pub head_as : FirstCase → Parses Tree → Parses Named → Info → Parses Named
-head_as first.Std arg name i s = parse_component arg name (with_info i std) (skip 2 s)
-head_as first.Substitution arg name i s = head_substitution arg name i s
-head_as first.Param arg name i s = head_param i s
-head_as first.Unqualified arg name i s = head_base i s
+unfoldable pub head_as : FirstCase → Productions → Info → Parses Named
+head_as first.Std p i s = parse_component p (with_info i std) (skip 2 s)
+head_as first.Substitution p i s = head_substitution p i s
+head_as first.Param p i s = head_param i s
+head_as first.Unqualified p i s = head_base i s
 
 -- the first component; after `St` and a substitution, which aren't saved here, the component in this scope
-abbrev pub parse_head : Parses Tree → Parses Named → Info → Parses Named
-parse_head arg name i s = head_as (case_of_first s.rest) arg name i s
+abbrev pub parse_head : Productions → Info → Parses Named
+parse_head p i s = head_as (case_of_first s.rest) p i s
 
 -- no qualifier is next
 abbrev pub begins_name : List ℕ → Bool

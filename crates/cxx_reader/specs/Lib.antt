@@ -1,7 +1,6 @@
-pub mod Parser
 pub mod Table
 pub mod View
-pub mod Cost
 pub mod Outcome
 pub mod Unbound
 pub mod Heads
+pub mod Items

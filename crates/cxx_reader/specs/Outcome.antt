@@ -1,5 +1,5 @@
 -- What a reader's call gives.
-use Rattle.std.specs.Prelude.{◌≡◌, ℕ, ◌≤◌, List, drop, take, Option, Some, None, Result, Ok, Err, map, length, option_map, IfSome}
+use Rattle.std.specs.Prelude.{◌≡◌, ℕ, ◌<◌, ◌≤◌, List, drop, take, Option, Some, None, Result, Ok, Err, map, length, option_map, IfSome}
 use Rattle.std.specs.List.{AllByRecursion}
 use Rattle.std.specs.Borrow.{Bor}
 use Rattle.cxx_grammar.specs.Leaves.{number_printed}
@@ -28,6 +28,11 @@ pub record Keeps (old new : Reader) : Type 0 where
   pub grows : Grows old.tables.store new.tables.store
   pub pending : new.tables.pending ≡ old.tables.pending
   pub within : length new.rest.now ≤ length old.rest.now
+
+-- the same of a call that reads at least one byte
+pub record Moves (old new : Reader) : Type 0 where
+  pub keeps : Keeps old new
+  pub takes : length new.rest.now < length old.rest.now
 
 -- the same of a number as it is written, of which the parser gives what is printed
 abbrev pub GivesNumber : Result (Bor (List ℕ)) Stop → Reader → Option (List ℕ × grammar.State) → Type 0

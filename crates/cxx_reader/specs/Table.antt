@@ -1,5 +1,5 @@
 -- What the tables of a reader are: an arena, the saved nodes, and the nodes of lists that are read.
-use Rattle.std.specs.Prelude.{◌≡◌, ℕ, ◌<◌, true, false, List, map, take, Result, Ok, Err}
+use Rattle.std.specs.Prelude.{◌≡◌, ℕ, ◌<◌, ◌≤◌, true, false, List, length, map, take, Result, Ok, Err}
 use Rattle.std.specs.List.{AllByRecursion}
 use Rattle.cxx_tree.specs.Tree.{Tree}
 use Rattle.cxx_tree.specs.Stored.{Store, forest, size, tree_at}
@@ -55,3 +55,5 @@ taken from a = record { store = a.store; saved = a.saved; pending = take from a.
 pub record IsTable (a : Table) : Type 0 where
   pub saved_below : AllByRecursion (λ i. i < size a.store) a.saved
   pub pending_below : AllByRecursion (λ i. i < size a.store) a.pending
+  pub few_saved : length a.saved ≤ a.store.limit
+  pub few_pending : length a.pending ≤ a.store.limit

@@ -1,17 +1,17 @@
 //! Template arguments (Itanium C++ ABI 5.1.5.4, 5.1.6).
-#![tactic(auto, using(crate::proofs::Rules::productions), unfolding(cxx_tree::specs::Stored::tree_of, cxx_tree::specs::Stored::plain_tree, cxx_tree::specs::Stored::IsBelow, cxx_tree::specs::Stored::IsPlainBelow, crate::specs::Table::stands, crate::specs::Outcome::list_trees, crate::specs::Parser::arg_as, crate::specs::Parser::literal_as))]
+#![tactic(auto, using(crate::proofs::Rules::productions), unfolding(cxx_tree::specs::Stored::tree_of, cxx_tree::specs::Stored::plain_tree, cxx_tree::specs::Stored::IsBelow, cxx_tree::specs::Stored::IsPlainBelow, crate::specs::Table::stands, crate::specs::Outcome::list_trees, crate::specs::Items::ends, crate::specs::Items::item_of, cxx_grammar::specs::Grammar::arg_as, cxx_grammar::specs::Grammar::literal_as))]
 
 ghost use Rattle.std.specs.Prelude.{◌≡◌, ℕ, ◌<◌, ◌≤◌, length, OnOk, Some};
 ghost use Rattle.cxx_tree.specs.Rows as rows;
 ghost use Rattle.cxx_tree.specs.Stored.{forest, size};
 ghost use Rattle.cxx_grammar.specs.State as state_spec;
 ghost use Rattle.cxx_grammar.specs.Leaves as leaves;
-ghost use Rattle.cxx_reader.specs.Parser as spec;
+ghost use Rattle.cxx_grammar.specs.Grammar as spec;
 ghost use Rattle.cxx_reader.specs.Table.{IsNode, stands};
-ghost use Rattle.cxx_reader.specs.Outcome.{state, Keeps, Gives, GivesList};
-ghost use Rattle.cxx_reader.specs.Cost.{Pays, Owes};
+ghost use Rattle.cxx_reader.specs.Outcome.{state, Keeps, Moves, Gives, GivesList};
 
-use crate::cases::{arg_case, begins, literal_case};
+use crate::cases::{arg_case, literal_case};
+use crate::items::{Items, read_items};
 use crate::reader::Reader;
 use crate::stop::Stop;
 use crate::types::read_type;
@@ -22,18 +22,12 @@ use cxx_tree::{List, Node, Plain};
 #[cycle(reader)]
 #[inline(always)]
 pub fn read_args(reader: &mut Reader, depth: usize) -> Result<List, Stop>
-    ensures reads { GivesList result reader.new (spec.parse_args (spec.parse_arg depth) (state reader.old)) }
-    ensures keeps { OnOk result (Keeps reader.old reader.new) }
-    ensures takes { OnOk result (length reader.new.rest.now < length reader.old.rest.now) }
-    ensures pays { Pays 0 0 reader.old reader.new }
-    ensures leaves { OnOk result (Pays 4 2 reader.old reader.new) }
+    ensures reads { GivesList result reader.new (spec.parse_args (spec.productions depth) (state reader.old)) }
+    ensures moves { OnOk result (Moves reader.old reader.new) }
 {
     reader.skip(1);
     let from = reader.tables.pending_len();
-    while !begins(reader.rest, b'E') {
-        let arg = tri!(read_arg(reader, depth));
-        tri!(reader.tables.add(arg));
-    }
+    tri!(read_items(reader, depth, Items::Args));
     reader.skip(1);
     reader.tables.close(from)
 }
@@ -41,11 +35,8 @@ pub fn read_args(reader: &mut Reader, depth: usize) -> Result<List, Stop>
 /// Reads `<template-arg>`. At most `depth` counted productions may nest, this one included.
 #[cycle(reader)]
 pub fn read_arg(reader: &mut Reader, depth: usize) -> Result<u32, Stop>
-    ensures reads { Gives result reader.new (spec.parse_arg depth (state reader.old)) }
-    ensures keeps { OnOk result (Keeps reader.old reader.new) }
-    ensures takes { OnOk result (length reader.new.rest.now < length reader.old.rest.now) }
-    ensures pays { Pays 0 0 reader.old reader.new }
-    ensures leaves { OnOk result (Pays 2 1 reader.old reader.new) }
+    ensures reads { Gives result reader.new ((spec.productions depth).arg (state reader.old)) }
+    ensures moves { OnOk result (Moves reader.old reader.new) }
 {
     if depth == 0 {
         return Err(Stop::Unreadable);
@@ -61,11 +52,8 @@ pub fn read_arg(reader: &mut Reader, depth: usize) -> Result<u32, Stop>
 // Reads `J <template-arg>* E`.
 #[cycle(reader)]
 fn read_pack(reader: &mut Reader, depth: usize) -> Result<u32, Stop>
-    ensures reads { Gives result reader.new (spec.parse_pack (spec.parse_arg depth) (state reader.old)) }
-    ensures keeps { OnOk result (Keeps reader.old reader.new) }
-    ensures takes { OnOk result (length reader.new.rest.now < length reader.old.rest.now) }
-    ensures pays { Pays 0 0 reader.old reader.new }
-    ensures leaves { OnOk result (Pays 3 2 reader.old reader.new) }
+    ensures reads { Gives result reader.new (spec.parse_pack (spec.productions depth) (state reader.old)) }
+    ensures moves { OnOk result (Moves reader.old reader.new) }
 {
     let items = tri!(read_args(reader, depth));
     reader.make(Node::Plain(Plain::List(items)))
@@ -74,11 +62,8 @@ fn read_pack(reader: &mut Reader, depth: usize) -> Result<u32, Stop>
 // Reads `<expr-primary>`.
 #[cycle(reader)]
 fn read_literal(reader: &mut Reader, depth: usize) -> Result<u32, Stop>
-    ensures reads { Gives result reader.new (spec.parse_literal (spec.parse_type depth) (state reader.old)) }
-    ensures keeps { OnOk result (Keeps reader.old reader.new) }
-    ensures takes { OnOk result (length reader.new.rest.now < length reader.old.rest.now) }
-    ensures pays { Pays 0 0 reader.old reader.new }
-    ensures leaves { OnOk result (Pays 2 1 reader.old reader.new) }
+    ensures reads { Gives result reader.new (spec.parse_literal (spec.productions depth) (state reader.old)) }
+    ensures moves { OnOk result (Moves reader.old reader.new) }
 {
     reader.skip(1);
     match literal_case(reader.rest) {
@@ -93,11 +78,8 @@ fn read_literal(reader: &mut Reader, depth: usize) -> Result<u32, Stop>
 // Reads `<type> <number> E`.
 #[cycle(reader)]
 fn read_typed(reader: &mut Reader, depth: usize) -> Result<u32, Stop>
-    ensures reads { Gives result reader.new (spec.parse_typed (spec.parse_type depth) (state reader.old)) }
-    ensures keeps { OnOk result (Keeps reader.old reader.new) }
-    ensures takes { OnOk result (length reader.new.rest.now < length reader.old.rest.now) }
-    ensures pays { Pays 0 0 reader.old reader.new }
-    ensures leaves { OnOk result (Pays 2 1 reader.old reader.new) }
+    ensures reads { Gives result reader.new (spec.parse_typed (spec.productions depth) (state reader.old)) }
+    ensures moves { OnOk result (Moves reader.old reader.new) }
 {
     let t = tri!(read_type(reader, depth));
     let number = tri!(reader.read_number_end());
@@ -112,7 +94,6 @@ impl<'a> Reader<'a> {
             (leaves.number_printed number.now)) (state self.old)) }
         ensures keeps { OnOk result (Keeps self.old self.new) }
         ensures rest { OnOk result (self.new.rest.now ≡ self.old.rest.now) }
-        ensures owes { Owes 1 0 self.old self.new }
     {
         self.tables.make_typed_literal(self.alloc, t, number)
     }

@@ -12,7 +12,6 @@ ghost use Rattle.cxx_grammar.specs.Binds as spec;
 ghost use Rattle.cxx_reader.specs.Table.{IsNode, stands};
 ghost use Rattle.cxx_reader.specs.Unbound.{IsUnbound, bind_counted};
 ghost use Rattle.cxx_reader.specs.Outcome.{state, Keeps, KeepsFront, Gives, GivesFrom, GivesCount, IsNamed, named_at, list_trees};
-ghost use Rattle.cxx_reader.specs.Cost.{Pays, Spends, uncounted};
 
 use crate::bases::args_of;
 use crate::reader::{Named, Reader};
@@ -29,9 +28,6 @@ impl<'a> Reader<'a> {
         ensures reads { GivesCount result self.new (spec.count_replaced (stands self.old.tables i) (state self.old)) }
         ensures tables { self.new.tables ≡ self.old.tables }
         ensures rest { self.new.rest.now ≡ self.old.rest.now }
-        ensures spends { Spends 0 self.old self.new }
-        ensures counts { OnOk result (self.new.replaced ≡ self.old.replaced
-            + (measure (stands self.old.tables i)).params) }
     {
         let params = self.tables.arena().measure(i).params as usize;
         if self.replaced.saturating_add(params) > MAX_REPLACED {
@@ -49,7 +45,6 @@ impl<'a> Reader<'a> {
             (drop from self.old.tables.pending))) (stands self.old.tables i)) (state self.old)) }
         ensures keeps { OnOk result (Keeps self.old self.new) }
         ensures rest { self.new.rest.now ≡ self.old.rest.now }
-        ensures spends { Spends (measure (stands self.old.tables i)).params self.old self.new }
     {
         self.tables.bind(self.alloc, from, i)
     }
@@ -62,8 +57,6 @@ impl<'a> Reader<'a> {
             (drop from self.old.tables.pending)) (stands self.old.tables i) (state self.old)) }
         ensures keeps { OnOk result (Keeps self.old self.new) }
         ensures rest { self.new.rest.now ≡ self.old.rest.now }
-        ensures spends { Spends (uncounted is_inherited (measure (stands self.old.tables i)).params) self.old
-            self.new }
     {
         if is_inherited {
             tri!(self.count_replaced(i));
@@ -79,8 +72,6 @@ impl<'a> Reader<'a> {
             (trees_from_list (list_trees self.old.tables args)) (state self.old)) }
         ensures keeps { OnOk result (KeepsFront self.old self.new) }
         ensures rest { self.new.rest.now ≡ self.old.rest.now }
-        ensures spends { Spends (uncounted is_inherited (measure_each (trees_from_list (list_trees self.old.tables
-            args))).params) self.old self.new }
     {
         let from = self.tables.pending_len();
         let len = self.tables.arena().items(args).len();
@@ -116,7 +107,6 @@ impl<'a> Reader<'a> {
             (state self.old)) }
         ensures keeps { OnOk result (KeepsFront self.old self.new) }
         ensures rest { self.new.rest.now ≡ self.old.rest.now }
-        ensures spends { Spends (measure (stands self.old.tables name.node)).params self.old self.new }
     {
         if let Some(args) = self.inherited_args(name) {
             return self.bind_args(true, args);
@@ -146,9 +136,7 @@ impl<'a> Reader<'a> {
             (drop from self.old.tables.pending)) (stands self.old.tables i) (state self.old)) }
         ensures grows { OnOk result (Grows self.old.tables.store self.new.tables.store) }
         ensures pending { OnOk result (self.new.tables.pending ≡ take from self.old.tables.pending) }
-        ensures left { length self.new.tables.pending ≤ from }
         ensures rest { self.new.rest.now ≡ self.old.rest.now }
-        ensures spends { Spends (measure (stands self.old.tables i)).params self.old self.new }
     {
         let bound = self.bind_one(from, i);
         self.tables.truncate(from);
@@ -178,9 +166,6 @@ impl<'a> Reader<'a> {
             (state self.old)) }
         ensures keeps { OnOk result (Keeps self.old self.new) }
         ensures rest { self.new.rest.now ≡ self.old.rest.now }
-        ensures spends { Spends ((measure (stands self.old.tables name.node)).params
-            + (measure (stands self.old.tables i)).params) self.old self.new }
-        ensures left { length self.new.tables.pending ≤ length self.old.tables.pending }
     {
         let from = self.tables.pending_len();
         match self.bind_arguments(name) {
@@ -196,13 +181,10 @@ impl<'a> Reader<'a> {
     pub fn bind(&mut self, name: Named, i: u32) -> Result<u32, Stop>
         requires named { IsNamed self.old.tables name }
         requires node { IsNode self.old.tables i }
-        requires holds { (measure (stands self.old.tables name.node)).params
-            ≤ (measure (stands self.old.tables i)).params }
         ensures reads { Gives result self.new (spec.bind_encoding (named_at self.old.tables name)
             (stands self.old.tables i) (state self.old)) }
         ensures keeps { OnOk result (Keeps self.old self.new) }
         ensures rest { self.new.rest.now ≡ self.old.rest.now }
-        ensures pays { Pays 0 0 self.old self.new }
     {
         tri!(self.count_replaced(i));
         if self.is_unbound(name, i) {

@@ -1,16 +1,15 @@
 //! Encodings (Itanium C++ ABI 5.1.2).
-#![tactic(auto, using(crate::proofs::Rules::productions), unfolding(cxx_tree::specs::Stored::tree_of, cxx_tree::specs::Stored::plain_tree, cxx_tree::specs::Stored::IsBelow, cxx_tree::specs::Stored::IsPlainBelow, crate::specs::Table::stands, crate::specs::Outcome::named_at))]
+#![tactic(auto, using(crate::proofs::Rules::productions), unfolding(cxx_tree::specs::Stored::tree_of, cxx_tree::specs::Stored::plain_tree, cxx_tree::specs::Stored::IsBelow, cxx_tree::specs::Stored::IsPlainBelow, crate::specs::Table::stands, crate::specs::Outcome::named_at, crate::specs::Items::ends, crate::specs::Items::item_of))]
 
 ghost use Rattle.std.specs.Prelude.{◌≡◌, ℕ, ◌+◌, ◌*◌, ◌<◌, ◌≤◌, ◌&&◌, not, length, map, drop, take, OnOk, IfSome, option_map};
 ghost use Rattle.cxx_tree.specs.Grows.{Grows};
 ghost use Rattle.cxx_tree.specs.Stored.{forest, size};
-ghost use Rattle.cxx_grammar.specs.Grammar as grammar;
-ghost use Rattle.cxx_reader.specs.Parser as spec;
+ghost use Rattle.cxx_grammar.specs.Grammar as spec;
 ghost use Rattle.cxx_reader.specs.Table.{IsNode, stands};
 ghost use Rattle.cxx_reader.specs.Outcome.{state, Keeps, KeepsFront, Gives, GivesOption, GivesFrom, IsNamed, named_at, info_at};
-ghost use Rattle.cxx_reader.specs.Cost.{Pays, Owes};
 
 use crate::cases::is_encoding_end;
+use crate::items::{Items, read_items};
 use crate::names::read_name;
 use crate::reader::{Info, Named, Reader};
 use crate::stop::Stop;
@@ -20,10 +19,9 @@ use cxx_tree::{Node, Plain};
 /// Reads what follows the name of an encoding: nothing, or `<bare-function-type>`.
 pub fn read_signature(reader: &mut Reader, depth: usize, name: Named) -> Result<u32, Stop>
     requires named { IsNamed reader.old.tables name }
-    ensures reads { Gives result reader.new (spec.parse_signature (spec.parse_type depth)
+    ensures reads { Gives result reader.new (spec.parse_signature (spec.productions depth)
         (named_at reader.old.tables name) (state reader.old)) }
     ensures keeps { OnOk result (Keeps reader.old reader.new) }
-    ensures owes { Owes 1 0 reader.old reader.new }
 {
     if is_encoding_end(reader.rest) {
         return reader.make(Node::Plain(Plain::Data(name.node)));
@@ -34,10 +32,9 @@ pub fn read_signature(reader: &mut Reader, depth: usize, name: Named) -> Result<
 // Reads `<bare-function-type> ::= [<return type>] <parameters>`.
 fn read_function(reader: &mut Reader, depth: usize, name: Named) -> Result<u32, Stop>
     requires named { IsNamed reader.old.tables name }
-    ensures reads { Gives result reader.new (spec.parse_function (spec.parse_type depth)
+    ensures reads { Gives result reader.new (spec.parse_function (spec.productions depth)
         (named_at reader.old.tables name) (state reader.old)) }
     ensures keeps { OnOk result (Keeps reader.old reader.new) }
-    ensures pays { Pays 0 0 reader.old reader.new }
 {
     let ret = tri!(read_return_type(reader, depth, has_return(name.info)));
     let from = reader.tables.pending_len();
@@ -54,10 +51,9 @@ fn has_return(info: Info) -> bool
 
 // Reads a return type, if there is one.
 fn read_return_type(reader: &mut Reader, depth: usize, is_there: bool) -> Result<Option<u32>, Stop>
-    ensures reads { GivesOption result reader.new (spec.parse_return (spec.parse_type depth) is_there
+    ensures reads { GivesOption result reader.new (spec.parse_return (spec.productions depth) is_there
         (state reader.old)) }
     ensures keeps { OnOk result (Keeps reader.old reader.new) }
-    ensures pays { Pays 0 0 reader.old reader.new }
 {
     if !is_there {
         return Ok(None);
@@ -69,10 +65,8 @@ fn read_return_type(reader: &mut Reader, depth: usize, is_there: bool) -> Result
 // Reads `<parameters> ::= v | <type>+`, and appends their nodes to the list that is read.
 fn read_params(reader: &mut Reader, depth: usize) -> Result<(), Stop>
     ensures reads { GivesFrom result (length reader.old.tables.pending) reader.new
-        (spec.parse_params (spec.parse_type depth) (state reader.old)) }
+        (spec.parse_params (spec.productions depth) (state reader.old)) }
     ensures keeps { OnOk result (KeepsFront reader.old reader.new) }
-    ensures pays { Pays 0 0 reader.old reader.new }
-    ensures leaves { OnOk result (Pays 1 0 reader.old reader.new) }
 {
     if reader.skip_letter(b'v') {
         return Ok(());
@@ -83,19 +77,12 @@ fn read_params(reader: &mut Reader, depth: usize) -> Result<(), Stop>
 // Reads `<type>+`, up to the end of the encoding.
 fn read_some_params(reader: &mut Reader, depth: usize) -> Result<(), Stop>
     ensures reads { GivesFrom result (length reader.old.tables.pending) reader.new
-        (spec.parse_some_params (spec.parse_type depth) (state reader.old)) }
+        (spec.parse_some_params (spec.productions depth) (state reader.old)) }
     ensures keeps { OnOk result (KeepsFront reader.old reader.new) }
-    ensures pays { Pays 0 0 reader.old reader.new }
-    ensures leaves { OnOk result (Pays 2 0 reader.old reader.new) }
 {
-    let from = reader.tables.pending_len();
     let first = tri!(read_type(reader, depth));
     tri!(reader.tables.add(first));
-    while !is_encoding_end(reader.rest) {
-        let t = tri!(read_type(reader, depth));
-        tri!(reader.tables.add(t));
-    }
-    Ok(())
+    read_items(reader, depth, Items::Params)
 }
 
 impl<'a> Reader<'a> {
@@ -104,13 +91,12 @@ impl<'a> Reader<'a> {
         requires ret { IfSome ret (IsNode self.old.tables) }
         requires named { IsNamed self.old.tables name }
         requires within { from ≤ length self.old.tables.pending }
-        ensures reads { Gives result self.new (grammar.make_function (option_map (stands self.old.tables) ret)
+        ensures reads { Gives result self.new (spec.make_function (option_map (stands self.old.tables) ret)
             (named_at self.old.tables name) (map (stands self.old.tables) (drop from self.old.tables.pending))
             (state self.old)) }
         ensures grows { OnOk result (Grows self.old.tables.store self.new.tables.store) }
         ensures pending { OnOk result (self.new.tables.pending ≡ take from self.old.tables.pending) }
         ensures rest { OnOk result (self.new.rest.now ≡ self.old.rest.now) }
-        ensures owes { Owes 1 0 self.old self.new }
     {
         let info = name.info;
         self.tables
@@ -120,9 +106,8 @@ impl<'a> Reader<'a> {
 
 /// Reads `<encoding>`. At most `depth` counted productions may nest, this one included.
 pub fn read_encoding(reader: &mut Reader, depth: usize) -> Result<u32, Stop>
-    ensures reads { Gives result reader.new (spec.parse_encoding depth (state reader.old)) }
+    ensures reads { Gives result reader.new ((spec.productions depth).encoding (state reader.old)) }
     ensures keeps { OnOk result (Keeps reader.old reader.new) }
-    ensures pays { Pays 0 0 reader.old reader.new }
 {
     if depth == 0 {
         return Err(Stop::Unreadable);

@@ -3,8 +3,7 @@
 
 ghost use Rattle.std.specs.Prelude.{◌≡◌, ◌<◌, length, OnOk, option_map};
 ghost use Rattle.cxx_grammar.specs.Leaves as leaves;
-ghost use Rattle.cxx_reader.specs.Outcome.{state, Keeps, Gives, GivesNumber};
-ghost use Rattle.cxx_reader.specs.Cost.{Pays};
+ghost use Rattle.cxx_reader.specs.Outcome.{state, Keeps, Moves, Gives, GivesNumber};
 
 use crate::reader::Reader;
 use crate::stop::Stop;
@@ -15,11 +14,8 @@ impl<'a> Reader<'a> {
     /// Reads `<number> E`. Returns the number as it is written.
     pub fn read_number_end(&mut self) -> Result<&'a [u8], Stop>
         ensures reads { GivesNumber result self.new (leaves.parse_number_end (state self.old)) }
-        ensures keeps { OnOk result (Keeps self.old self.new) }
+        ensures moves { OnOk result (Moves self.old self.new) }
         ensures tables { self.new.tables ≡ self.old.tables }
-        ensures takes { OnOk result (length self.new.rest.now < length self.old.rest.now) }
-        ensures pays { Pays 0 0 self.old self.new }
-        ensures leaves { OnOk result (Pays 4 2 self.old self.new) }
     {
         let Some((number, rest)) = number_text(self.rest) else {
             return Err(Stop::Unreadable);
@@ -36,10 +32,7 @@ impl<'a> Reader<'a> {
     /// Reads `b0E` or `b1E`.
     pub fn read_bool(&mut self) -> Result<u32, Stop>
         ensures reads { Gives result self.new (leaves.parse_bool (state self.old)) }
-        ensures keeps { OnOk result (Keeps self.old self.new) }
-        ensures takes { OnOk result (length self.new.rest.now < length self.old.rest.now) }
-        ensures pays { Pays 0 0 self.old self.new }
-        ensures leaves { OnOk result (Pays 3 2 self.old self.new) }
+        ensures moves { OnOk result (Moves self.old self.new) }
     {
         match self.rest {
             [_, b'0', b'E', rest @ ..] => {
@@ -57,10 +50,7 @@ impl<'a> Reader<'a> {
     /// Reads `DnE` or `Dn0E`.
     pub fn read_null(&mut self) -> Result<u32, Stop>
         ensures reads { Gives result self.new (leaves.parse_null (state self.old)) }
-        ensures keeps { OnOk result (Keeps self.old self.new) }
-        ensures takes { OnOk result (length self.new.rest.now < length self.old.rest.now) }
-        ensures pays { Pays 0 0 self.old self.new }
-        ensures leaves { OnOk result (Pays 3 2 self.old self.new) }
+        ensures moves { OnOk result (Moves self.old self.new) }
     {
         match self.rest {
             [_, _, b'E', rest @ ..] => {
@@ -80,10 +70,7 @@ impl<'a> Reader<'a> {
     /// Reads the letter of an integer type, and `<number> E`.
     pub fn read_integer(&mut self) -> Result<u32, Stop>
         ensures reads { Gives result self.new (leaves.parse_integer (state self.old)) }
-        ensures keeps { OnOk result (Keeps self.old self.new) }
-        ensures takes { OnOk result (length self.new.rest.now < length self.old.rest.now) }
-        ensures pays { Pays 0 0 self.old self.new }
-        ensures leaves { OnOk result (Pays 3 2 self.old self.new) }
+        ensures moves { OnOk result (Moves self.old self.new) }
     {
         let Some((front, after)) = integer_here(self.rest) else {
             return Err(Stop::Unreadable);

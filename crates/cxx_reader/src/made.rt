@@ -17,7 +17,6 @@ use std::alloc::{AllocError, Global};
 #[inline(always)]
 pub fn name(arena: &mut Arena, text: &[u8]) -> Result<u32, PushError>
     ensures makes { Makes result arena.old arena.new (named text.now) }
-    ensures few { size arena.new ≤ size arena.old + 1 }
 {
     arena.push_name(text)
 }
@@ -28,7 +27,6 @@ pub fn name_in(arena: &mut Arena, scope: u32, text: &[u8]) -> Result<u32, PushEr
     requires scope { scope < size arena.old }
     ensures makes { Makes result arena.old arena.new
         (scoped false (tree_at (forest arena.old) scope) (named text.now)) }
-    ensures few { size arena.new ≤ size arena.old + 1 }
 {
     arena.push_scoped_name(scope, text)
 }
@@ -43,7 +41,6 @@ pub fn integer(
 ) -> Result<u32, PushError>
     ensures makes { Makes result arena.old arena.new (leaves.integer front.now (leaves.number_printed number.now)
         after.now) }
-    ensures few { size arena.new ≤ size arena.old + 1 }
 {
     let bytes = joined(alloc, front, number, after)?;
     let text = arena.text(&bytes)?;
@@ -65,7 +62,6 @@ pub fn function(
     ensures makes { Makes result arena.old arena.new (rows.function_encoding
         (option_map (tree_at (forest arena.old)) ret) (tree_at (forest arena.old) n)
         (trees_at (forest arena.old) params.now) None None cv ref_qual) }
-    ensures few { size arena.new ≤ size arena.old + 1 }
 {
     let rest = Rest {
         enable_if: None,
@@ -84,7 +80,6 @@ pub fn typed_number(
     requires t { t < size arena.old }
     ensures makes { Makes result arena.old arena.new (rows.typed_literal (tree_at (forest arena.old) t)
         (leaves.number_printed number.now)) }
-    ensures few { size arena.new ≤ size arena.old + 1 }
 {
     let bytes = printed(alloc, number)?;
     let text = arena.text(&bytes)?;

@@ -1,10 +1,9 @@
 //! Names (Itanium C++ ABI 5.1.2).
-#![tactic(auto, using(crate::proofs::Rules::productions), unfolding(cxx_tree::specs::Stored::tree_of, cxx_tree::specs::Stored::plain_tree, cxx_tree::specs::Stored::IsBelow, cxx_tree::specs::Stored::IsPlainBelow, crate::specs::Table::stands, crate::specs::Outcome::named_at, crate::specs::Outcome::list_trees, crate::specs::Parser::name_as, crate::specs::Heads::head_as, crate::specs::Parser::component_as))]
+#![tactic(auto, using(crate::proofs::Rules::productions), unfolding(cxx_tree::specs::Stored::tree_of, cxx_tree::specs::Stored::plain_tree, cxx_tree::specs::Stored::IsBelow, cxx_tree::specs::Stored::IsPlainBelow, crate::specs::Table::stands, crate::specs::Outcome::named_at, crate::specs::Outcome::list_trees, cxx_grammar::specs::Grammar::name_as, crate::specs::Heads::head_as, cxx_grammar::specs::Grammar::component_as))]
 
 ghost use Rattle.std.specs.Prelude.{◌≡◌, ℕ, ◌<◌, ◌≤◌, ◌∷◌, [], codes, length, true, false, Option, Some, OnOk, IfOk, IfSome, option_map};
 ghost use Rattle.cxx_grammar.specs.State as state_spec;
-ghost use Rattle.cxx_grammar.specs.Grammar as grammar;
-ghost use Rattle.cxx_reader.specs.Parser as spec;
+ghost use Rattle.cxx_grammar.specs.Grammar as spec;
 ghost use Rattle.cxx_reader.specs.Heads as heads;
 ghost use Rattle.cxx_grammar.specs.Leaves as leaves;
 ghost use Rattle.cxx_tree.specs.declared.kinds.RefQual.TheVariants as refqual;
@@ -13,8 +12,7 @@ ghost use Rattle.cxx_tree.specs.Rows as rows;
 ghost use Rattle.cxx_tree.specs.Stored.{forest, size, tree_of, IsBelow, IsText, text_at};
 ghost use Rattle.cxx_grammar.specs.Bases as bases;
 ghost use Rattle.cxx_reader.specs.Outcome as outcome;
-ghost use Rattle.cxx_reader.specs.Outcome.{state, Keeps, Gives, GivesNamed, IsNamed, named_at, info_at};
-ghost use Rattle.cxx_reader.specs.Cost.{Pays, Owes};
+ghost use Rattle.cxx_reader.specs.Outcome.{state, Keeps, Moves, Gives, GivesNamed, IsNamed, named_at, info_at};
 
 use crate::args::read_args;
 use crate::bases::{base_name, is_param, is_with_args, short_std};
@@ -68,11 +66,10 @@ fn plain(node: u32) -> Named
 fn make_named(reader: &mut Reader, node: Node, info: Info) -> Result<Named, Stop>
     requires below { IsBelow reader.old.tables.store.held (size reader.old.tables.store) node }
     requires inherited { IfSome info.inherited (IsNode reader.old.tables) }
-    ensures reads { GivesNamed result reader.new (grammar.make_named (tree_of reader.old.tables.store.held
+    ensures reads { GivesNamed result reader.new (spec.make_named (tree_of reader.old.tables.store.held
         (forest reader.old.tables.store) node) (info_at reader.old.tables info) (state reader.old)) }
     ensures keeps { OnOk result (Keeps reader.old reader.new) }
     ensures rest { OnOk result (reader.new.rest.now ≡ reader.old.rest.now) }
-    ensures owes { Owes 1 0 reader.old reader.new }
 {
     let node = tri!(reader.make(node));
     Ok(Named { node, info })
@@ -82,12 +79,9 @@ fn make_named(reader: &mut Reader, node: Node, info: Info) -> Result<Named, Stop
 #[cycle(reader)]
 fn read_with_args(reader: &mut Reader, depth: usize, name: Named) -> Result<Named, Stop>
     requires named { IsNamed reader.old.tables name }
-    ensures reads { GivesNamed result reader.new (spec.parse_with_args (spec.parse_arg depth)
+    ensures reads { GivesNamed result reader.new (spec.parse_with_args (spec.productions depth)
         (named_at reader.old.tables name) (state reader.old)) }
-    ensures keeps { OnOk result (Keeps reader.old reader.new) }
-    ensures takes { OnOk result (length reader.new.rest.now < length reader.old.rest.now) }
-    ensures pays { Pays 0 0 reader.old reader.new }
-    ensures leaves { OnOk result (Pays 3 2 reader.old reader.new) }
+    ensures moves { OnOk result (Moves reader.old reader.new) }
 {
     let args = tri!(read_args(reader, depth));
     let info = Info {
@@ -101,11 +95,9 @@ fn read_with_args(reader: &mut Reader, depth: usize, name: Named) -> Result<Name
 #[cycle(reader)]
 fn read_unscoped(reader: &mut Reader, depth: usize, node: u32) -> Result<Named, Stop>
     requires node { IsNode reader.old.tables node }
-    ensures reads { GivesNamed result reader.new (spec.parse_unscoped (spec.parse_arg depth)
+    ensures reads { GivesNamed result reader.new (spec.parse_unscoped (spec.productions depth)
         (stands reader.old.tables node) (state reader.old)) }
     ensures keeps { OnOk result (Keeps reader.old reader.new) }
-    ensures owes { Owes 0 1 reader.old reader.new }
-    ensures leaves { OnOk result (Pays 0 0 reader.old reader.new) }
 {
     if !begins(reader.rest, b'I') {
         return Ok(plain(node));
@@ -117,11 +109,8 @@ fn read_unscoped(reader: &mut Reader, depth: usize, node: u32) -> Result<Named, 
 /// Reads `<name>`. At most `depth` counted productions may nest, this one included.
 #[cycle(reader)]
 pub fn read_name(reader: &mut Reader, depth: usize) -> Result<Named, Stop>
-    ensures reads { GivesNamed result reader.new (spec.parse_name depth (state reader.old)) }
-    ensures keeps { OnOk result (Keeps reader.old reader.new) }
-    ensures takes { OnOk result (length reader.new.rest.now < length reader.old.rest.now) }
-    ensures pays { Pays 0 0 reader.old reader.new }
-    ensures leaves { OnOk result (Pays 2 2 reader.old reader.new) }
+    ensures reads { GivesNamed result reader.new ((spec.productions depth).name (state reader.old)) }
+    ensures moves { OnOk result (Moves reader.old reader.new) }
 {
     if depth == 0 {
         return Err(Stop::Unreadable);
@@ -139,11 +128,8 @@ pub fn read_name(reader: &mut Reader, depth: usize) -> Result<Named, Stop>
 #[cycle(reader)]
 fn read_in_std(reader: &mut Reader, depth: usize) -> Result<Named, Stop>
     requires some { 0 < length reader.old.rest.now }
-    ensures reads { GivesNamed result reader.new (spec.parse_in_std (spec.parse_arg depth) (state reader.old)) }
-    ensures keeps { OnOk result (Keeps reader.old reader.new) }
-    ensures takes { OnOk result (length reader.new.rest.now < length reader.old.rest.now) }
-    ensures pays { Pays 0 0 reader.old reader.new }
-    ensures leaves { OnOk result (Pays 2 2 reader.old reader.new) }
+    ensures reads { GivesNamed result reader.new (spec.parse_in_std (spec.productions depth) (state reader.old)) }
+    ensures moves { OnOk result (Moves reader.old reader.new) }
 {
     let node = tri!(reader.read_std_name());
     read_unscoped(reader, depth, node)
@@ -152,11 +138,8 @@ fn read_in_std(reader: &mut Reader, depth: usize) -> Result<Named, Stop>
 // Reads `<substitution> <template-args>`.
 #[cycle(reader)]
 fn read_substituted(reader: &mut Reader, depth: usize) -> Result<Named, Stop>
-    ensures reads { GivesNamed result reader.new (spec.parse_substituted (spec.parse_arg depth) (state reader.old)) }
-    ensures keeps { OnOk result (Keeps reader.old reader.new) }
-    ensures takes { OnOk result (length reader.new.rest.now < length reader.old.rest.now) }
-    ensures pays { Pays 0 0 reader.old reader.new }
-    ensures leaves { OnOk result (Pays 2 2 reader.old reader.new) }
+    ensures reads { GivesNamed result reader.new (spec.parse_substituted (spec.productions depth) (state reader.old)) }
+    ensures moves { OnOk result (Moves reader.old reader.new) }
 {
     let node = tri!(reader.read_substitution());
     if !begins(reader.rest, b'I') {
@@ -168,11 +151,8 @@ fn read_substituted(reader: &mut Reader, depth: usize) -> Result<Named, Stop>
 // Reads `<unqualified-name> [<template-args>]`.
 #[cycle(reader)]
 fn read_unqualified(reader: &mut Reader, depth: usize) -> Result<Named, Stop>
-    ensures reads { GivesNamed result reader.new (spec.parse_unqualified (spec.parse_arg depth) (state reader.old)) }
-    ensures keeps { OnOk result (Keeps reader.old reader.new) }
-    ensures takes { OnOk result (length reader.new.rest.now < length reader.old.rest.now) }
-    ensures pays { Pays 0 0 reader.old reader.new }
-    ensures leaves { OnOk result (Pays 2 2 reader.old reader.new) }
+    ensures reads { GivesNamed result reader.new (spec.parse_unqualified (spec.productions depth) (state reader.old)) }
+    ensures moves { OnOk result (Moves reader.old reader.new) }
 {
     let node = tri!(reader.read_base());
     read_unscoped(reader, depth, node)
@@ -185,12 +165,9 @@ crate::specs::Table::stands, crate::specs::Outcome::named_at))]
 #[cycle(reader)]
 #[inline(always)]
 fn read_nested_name(reader: &mut Reader, depth: usize) -> Result<Named, Stop>
-    ensures reads { GivesNamed result reader.new (spec.parse_nested (spec.parse_arg depth) (spec.parse_name depth)
+    ensures reads { GivesNamed result reader.new (spec.parse_nested (spec.productions depth)
         (state reader.old)) }
-    ensures keeps { OnOk result (Keeps reader.old reader.new) }
-    ensures takes { OnOk result (length reader.new.rest.now < length reader.old.rest.now) }
-    ensures pays { Pays 0 0 reader.old reader.new }
-    ensures leaves { OnOk result (Pays 2 2 reader.old reader.new) }
+    ensures moves { OnOk result (Moves reader.old reader.new) }
 {
     reader.skip(1);
     let info = reader.read_info();
@@ -204,12 +181,9 @@ fn read_nested_name(reader: &mut Reader, depth: usize) -> Result<Named, Stop>
 #[inline(always)]
 fn read_first(reader: &mut Reader, depth: usize, info: Info) -> Result<Named, Stop>
     requires inherited { info.inherited ≡ None }
-    ensures reads { GivesNamed result reader.new (heads.parse_head (spec.parse_arg depth) (spec.parse_name depth)
+    ensures reads { GivesNamed result reader.new (heads.parse_head (spec.productions depth)
         (info_at reader.old.tables info) (state reader.old)) }
-    ensures keeps { OnOk result (Keeps reader.old reader.new) }
-    ensures takes { OnOk result (length reader.new.rest.now < length reader.old.rest.now) }
-    ensures pays { Pays 0 0 reader.old reader.new }
-    ensures leaves { OnOk result (Pays 1 2 reader.old reader.new) }
+    ensures moves { OnOk result (Moves reader.old reader.new) }
 {
     match first_case(reader.rest) {
         FirstCase::Std => read_first_std(reader, depth, info),
@@ -224,12 +198,9 @@ fn read_first(reader: &mut Reader, depth: usize, info: Info) -> Result<Named, St
 fn read_first_std(reader: &mut Reader, depth: usize, info: Info) -> Result<Named, Stop>
     requires some { 0 < length reader.old.rest.now }
     requires inherited { info.inherited ≡ None }
-    ensures reads { GivesNamed result reader.new (spec.parse_component (spec.parse_arg depth) (spec.parse_name depth)
-        (spec.with_info (info_at reader.old.tables info) grammar.std) (state_spec.skip 2 (state reader.old))) }
-    ensures keeps { OnOk result (Keeps reader.old reader.new) }
-    ensures takes { OnOk result (length reader.new.rest.now < length reader.old.rest.now) }
-    ensures pays { Pays 0 0 reader.old reader.new }
-    ensures leaves { OnOk result (Pays 1 2 reader.old reader.new) }
+    ensures reads { GivesNamed result reader.new (spec.parse_component (spec.productions depth)
+        (spec.with_info (info_at reader.old.tables info) spec.std) (state_spec.skip 2 (state reader.old))) }
+    ensures moves { OnOk result (Moves reader.old reader.new) }
 {
     reader.skip(2);
     let node = tri!(reader.make_std());
@@ -240,12 +211,9 @@ fn read_first_std(reader: &mut Reader, depth: usize, info: Info) -> Result<Named
 #[inline(always)]
 fn read_first_substitution(reader: &mut Reader, depth: usize, info: Info) -> Result<Named, Stop>
     requires inherited { info.inherited ≡ None }
-    ensures reads { GivesNamed result reader.new (heads.head_substitution (spec.parse_arg depth)
-        (spec.parse_name depth) (info_at reader.old.tables info) (state reader.old)) }
-    ensures keeps { OnOk result (Keeps reader.old reader.new) }
-    ensures takes { OnOk result (length reader.new.rest.now < length reader.old.rest.now) }
-    ensures pays { Pays 0 0 reader.old reader.new }
-    ensures leaves { OnOk result (Pays 1 2 reader.old reader.new) }
+    ensures reads { GivesNamed result reader.new (heads.head_substitution (spec.productions depth)
+        (info_at reader.old.tables info) (state reader.old)) }
+    ensures moves { OnOk result (Moves reader.old reader.new) }
 {
     let node = tri!(reader.read_substitution());
     read_component(reader, depth, Named { node, info })
@@ -256,10 +224,7 @@ fn read_first_param(reader: &mut Reader, info: Info) -> Result<Named, Stop>
     requires inherited { info.inherited ≡ None }
     ensures reads { GivesNamed result reader.new (heads.head_param (info_at reader.old.tables info)
         (state reader.old)) }
-    ensures keeps { OnOk result (Keeps reader.old reader.new) }
-    ensures takes { OnOk result (length reader.new.rest.now < length reader.old.rest.now) }
-    ensures pays { Pays 0 0 reader.old reader.new }
-    ensures leaves { OnOk result (Pays 1 2 reader.old reader.new) }
+    ensures moves { OnOk result (Moves reader.old reader.new) }
 {
     let node = tri!(reader.read_template_param());
     Ok(Named { node, info })
@@ -270,10 +235,7 @@ fn read_first_base(reader: &mut Reader, info: Info) -> Result<Named, Stop>
     requires inherited { info.inherited ≡ None }
     ensures reads { GivesNamed result reader.new (heads.head_base (info_at reader.old.tables info)
         (state reader.old)) }
-    ensures keeps { OnOk result (Keeps reader.old reader.new) }
-    ensures takes { OnOk result (length reader.new.rest.now < length reader.old.rest.now) }
-    ensures pays { Pays 0 0 reader.old reader.new }
-    ensures leaves { OnOk result (Pays 1 2 reader.old reader.new) }
+    ensures moves { OnOk result (Moves reader.old reader.new) }
 {
     let node = tri!(reader.read_base());
     Ok(Named { node, info })
@@ -284,12 +246,9 @@ fn read_first_base(reader: &mut Reader, info: Info) -> Result<Named, Stop>
 #[inline(always)]
 fn read_components(reader: &mut Reader, depth: usize, name: Named) -> Result<Named, Stop>
     requires named { IsNamed reader.old.tables name }
-    ensures reads { GivesNamed result reader.new (spec.parse_rest (spec.parse_arg depth) (spec.parse_name depth)
+    ensures reads { GivesNamed result reader.new (spec.parse_rest (spec.productions depth)
         (named_at reader.old.tables name) (state reader.old)) }
-    ensures keeps { OnOk result (Keeps reader.old reader.new) }
-    ensures takes { OnOk result (length reader.new.rest.now < length reader.old.rest.now) }
-    ensures owes { Owes 0 1 reader.old reader.new }
-    ensures leaves { OnOk result (Pays 4 2 reader.old reader.new) }
+    ensures moves { OnOk result (Moves reader.old reader.new) }
 {
     // The mark of the initializer of a data member, which prints nothing.
     reader.skip_letter(b'M');
@@ -311,12 +270,9 @@ fn read_components(reader: &mut Reader, depth: usize, name: Named) -> Result<Nam
 #[inline(always)]
 fn read_next(reader: &mut Reader, depth: usize, scope: Named) -> Result<Named, Stop>
     requires named { IsNamed reader.old.tables scope }
-    ensures reads { GivesNamed result reader.new (spec.parse_next (spec.parse_arg depth) (spec.parse_name depth)
+    ensures reads { GivesNamed result reader.new (spec.parse_next (spec.productions depth)
         (named_at reader.old.tables scope) (state reader.old)) }
-    ensures keeps { OnOk result (Keeps reader.old reader.new) }
-    ensures takes { OnOk result (length reader.new.rest.now < length reader.old.rest.now) }
-    ensures owes { Owes 0 1 reader.old reader.new }
-    ensures leaves { OnOk result (Pays 1 1 reader.old reader.new) }
+    ensures moves { OnOk result (Moves reader.old reader.new) }
 {
     tri!(reader.tables.save(scope.node));
     let name = tri!(read_other_component(reader, depth, scope));
@@ -330,12 +286,9 @@ fn read_next(reader: &mut Reader, depth: usize, scope: Named) -> Result<Named, S
 #[inline(always)]
 fn read_component(reader: &mut Reader, depth: usize, scope: Named) -> Result<Named, Stop>
     requires named { IsNamed reader.old.tables scope }
-    ensures reads { GivesNamed result reader.new (spec.parse_component (spec.parse_arg depth) (spec.parse_name depth)
+    ensures reads { GivesNamed result reader.new (spec.parse_component (spec.productions depth)
         (named_at reader.old.tables scope) (state reader.old)) }
-    ensures keeps { OnOk result (Keeps reader.old reader.new) }
-    ensures takes { OnOk result (length reader.new.rest.now < length reader.old.rest.now) }
-    ensures pays { Pays 0 0 reader.old reader.new }
-    ensures leaves { OnOk result (Pays 1 2 reader.old reader.new) }
+    ensures moves { OnOk result (Moves reader.old reader.new) }
 {
     if begins_source(reader.rest) {
         return read_scoped_source(reader, scope);
@@ -349,10 +302,7 @@ fn read_scoped_source(reader: &mut Reader, scope: Named) -> Result<Named, Stop>
     requires named { IsNamed reader.old.tables scope }
     ensures reads { GivesNamed result reader.new (heads.named_in (named_at reader.old.tables scope)
         (state reader.old)) }
-    ensures keeps { OnOk result (Keeps reader.old reader.new) }
-    ensures takes { OnOk result (length reader.new.rest.now < length reader.old.rest.now) }
-    ensures pays { Pays 0 0 reader.old reader.new }
-    ensures leaves { OnOk result (Pays 1 2 reader.old reader.new) }
+    ensures moves { OnOk result (Moves reader.old reader.new) }
 {
     let node = tri!(reader.read_source_name_in(scope.node));
     let info = Info {
@@ -367,12 +317,9 @@ fn read_scoped_source(reader: &mut Reader, scope: Named) -> Result<Named, Stop>
 #[inline(never)]
 fn read_other_component(reader: &mut Reader, depth: usize, scope: Named) -> Result<Named, Stop>
     requires named { IsNamed reader.old.tables scope }
-    ensures reads { GivesNamed result reader.new (spec.parse_component (spec.parse_arg depth) (spec.parse_name depth)
+    ensures reads { GivesNamed result reader.new (spec.parse_component (spec.productions depth)
         (named_at reader.old.tables scope) (state reader.old)) }
-    ensures keeps { OnOk result (Keeps reader.old reader.new) }
-    ensures takes { OnOk result (length reader.new.rest.now < length reader.old.rest.now) }
-    ensures pays { Pays 0 0 reader.old reader.new }
-    ensures leaves { OnOk result (Pays 1 2 reader.old reader.new) }
+    ensures moves { OnOk result (Moves reader.old reader.new) }
 {
     if begins(reader.rest, b'I') {
         return read_more_args(reader, depth, scope);
@@ -391,12 +338,9 @@ fn read_other_component(reader: &mut Reader, depth: usize, scope: Named) -> Resu
 #[cycle(reader)]
 fn read_more_args(reader: &mut Reader, depth: usize, scope: Named) -> Result<Named, Stop>
     requires named { IsNamed reader.old.tables scope }
-    ensures reads { GivesNamed result reader.new (spec.parse_more_args (spec.parse_arg depth)
+    ensures reads { GivesNamed result reader.new (spec.parse_more_args (spec.productions depth)
         (named_at reader.old.tables scope) (state reader.old)) }
-    ensures keeps { OnOk result (Keeps reader.old reader.new) }
-    ensures takes { OnOk result (length reader.new.rest.now < length reader.old.rest.now) }
-    ensures pays { Pays 0 0 reader.old reader.new }
-    ensures leaves { OnOk result (Pays 1 2 reader.old reader.new) }
+    ensures moves { OnOk result (Moves reader.old reader.new) }
 {
     if is_with_args(reader.tables.arena(), scope.node) {
         return Err(Stop::Unreadable);
@@ -409,10 +353,7 @@ fn read_scoped(reader: &mut Reader, scope: Named) -> Result<Named, Stop>
     requires named { IsNamed reader.old.tables scope }
     ensures reads { GivesNamed result reader.new (spec.parse_scoped (named_at reader.old.tables scope)
         (state reader.old)) }
-    ensures keeps { OnOk result (Keeps reader.old reader.new) }
-    ensures takes { OnOk result (length reader.new.rest.now < length reader.old.rest.now) }
-    ensures pays { Pays 0 0 reader.old reader.new }
-    ensures leaves { OnOk result (Pays 1 2 reader.old reader.new) }
+    ensures moves { OnOk result (Moves reader.old reader.new) }
 {
     let base = tri!(reader.read_unmarked_base());
     let info = Info {
@@ -430,12 +371,9 @@ fn read_scoped(reader: &mut Reader, scope: Named) -> Result<Named, Stop>
 fn read_ctor(reader: &mut Reader, scope: Named, is_destructor: bool) -> Result<Named, Stop>
     requires some { 0 < length reader.old.rest.now }
     requires named { IsNamed reader.old.tables scope }
-    ensures reads { GivesNamed result reader.new (grammar.make_ctor (named_at reader.old.tables scope) is_destructor
+    ensures reads { GivesNamed result reader.new (spec.make_ctor (named_at reader.old.tables scope) is_destructor
         (named_at reader.old.tables scope).info.inherited (state_spec.skip 2 (state reader.old))) }
-    ensures keeps { OnOk result (Keeps reader.old reader.new) }
-    ensures takes { OnOk result (length reader.new.rest.now < length reader.old.rest.now) }
-    ensures pays { Pays 0 0 reader.old reader.new }
-    ensures leaves { OnOk result (Pays 1 2 reader.old reader.new) }
+    ensures moves { OnOk result (Moves reader.old reader.new) }
 {
     reader.skip(2);
     make_ctor(reader, scope, is_destructor, scope.info.inherited)
@@ -446,12 +384,9 @@ fn read_ctor(reader: &mut Reader, scope: Named, is_destructor: bool) -> Result<N
 fn read_inherited_ctor(reader: &mut Reader, depth: usize, scope: Named) -> Result<Named, Stop>
     requires some { 0 < length reader.old.rest.now }
     requires named { IsNamed reader.old.tables scope }
-    ensures reads { GivesNamed result reader.new (spec.parse_inherited (spec.parse_name depth)
+    ensures reads { GivesNamed result reader.new (spec.parse_inherited (spec.productions depth)
         (named_at reader.old.tables scope) (state reader.old)) }
-    ensures keeps { OnOk result (Keeps reader.old reader.new) }
-    ensures takes { OnOk result (length reader.new.rest.now < length reader.old.rest.now) }
-    ensures pays { Pays 0 0 reader.old reader.new }
-    ensures leaves { OnOk result (Pays 1 2 reader.old reader.new) }
+    ensures moves { OnOk result (Moves reader.old reader.new) }
 {
     reader.skip(3);
     let from = tri!(read_name(reader, depth));
@@ -467,11 +402,10 @@ fn make_ctor(
 ) -> Result<Named, Stop>
     requires named { IsNamed reader.old.tables scope }
     requires inherited { IfSome inherited (IsNode reader.old.tables) }
-    ensures reads { GivesNamed result reader.new (grammar.make_ctor (named_at reader.old.tables scope) is_destructor
+    ensures reads { GivesNamed result reader.new (spec.make_ctor (named_at reader.old.tables scope) is_destructor
         (option_map (stands reader.old.tables) inherited) (state reader.old)) }
     ensures keeps { OnOk result (Keeps reader.old reader.new) }
     ensures rest { OnOk result (reader.new.rest.now ≡ reader.old.rest.now) }
-    ensures owes { Owes 3 0 reader.old reader.new }
 {
     if is_param(reader.tables.arena(), scope.node) {
         return Err(Stop::Unreadable);
@@ -495,10 +429,7 @@ impl<'a> Reader<'a> {
     fn read_next_source(&mut self, scope: u32) -> Result<u32, Stop>
         requires scope { IsNode self.old.tables scope }
         ensures reads { Gives result self.new (heads.next_source (stands self.old.tables scope) (state self.old)) }
-        ensures keeps { OnOk result (Keeps self.old self.new) }
-        ensures takes { OnOk result (length self.new.rest.now < length self.old.rest.now) }
-        ensures owes { Owes 0 1 self.old self.new }
-        ensures leaves { OnOk result (Pays 1 1 self.old self.new) }
+        ensures moves { OnOk result (Moves self.old self.new) }
     {
         tri!(self.tables.save(scope));
         let node = tri!(self.read_source_name_in(scope));
@@ -510,7 +441,7 @@ impl<'a> Reader<'a> {
     #[tactic(auto, using(crate::proofs::Heads::heads))]
     #[inline(always)]
     fn read_info(&mut self) -> Info
-        ensures value { info_at self.new.tables result ≡ grammar.info_at (state self.old) }
+        ensures value { info_at self.new.tables result ≡ spec.info_at (state self.old) }
         ensures inherited { result.inherited ≡ None }
         ensures state { state self.new ≡ leaves.past_ref (leaves.past_cv (state self.old)) }
         ensures tables { self.new.tables ≡ self.old.tables }
@@ -526,7 +457,7 @@ impl<'a> Reader<'a> {
     // Reads `[<CV-qualifiers>] [<ref-qualifier>]`. Returns what is learned of a name by them.
     #[inline(never)]
     fn read_qualifiers(&mut self) -> Info
-        ensures value { info_at self.new.tables result ≡ grammar.info_at (state self.old) }
+        ensures value { info_at self.new.tables result ≡ spec.info_at (state self.old) }
         ensures inherited { result.inherited ≡ None }
         ensures state { state self.new ≡ leaves.past_ref (leaves.past_cv (state self.old)) }
         ensures tables { self.new.tables ≡ self.old.tables }
@@ -542,10 +473,7 @@ impl<'a> Reader<'a> {
     fn read_std_name(&mut self) -> Result<u32, Stop>
         requires some { 0 < length self.old.rest.now }
         ensures reads { Gives result self.new (spec.parse_std_name (state self.old)) }
-        ensures keeps { OnOk result (Keeps self.old self.new) }
-        ensures takes { OnOk result (length self.new.rest.now < length self.old.rest.now) }
-        ensures pays { Pays 0 0 self.old self.new }
-        ensures leaves { OnOk result (Pays 2 2 self.old self.new) }
+        ensures moves { OnOk result (Moves self.old self.new) }
     {
         self.skip(2);
         if begins_source(self.rest) {
@@ -559,10 +487,9 @@ impl<'a> Reader<'a> {
 
     // Makes the name `std`.
     fn make_std(&mut self) -> Result<u32, Stop>
-        ensures reads { Gives result self.new (Some (grammar.std, state self.old)) }
+        ensures reads { Gives result self.new (Some (spec.std, state self.old)) }
         ensures keeps { OnOk result (Keeps self.old self.new) }
         ensures rest { OnOk result (self.new.rest.now ≡ self.old.rest.now) }
-        ensures owes { Owes 1 0 self.old self.new }
     {
         self.tables.make_fixed(b"std")
     }
@@ -574,7 +501,6 @@ impl<'a> Reader<'a> {
             class) is_destructor) (state self.old)) }
         ensures keeps { OnOk result (Keeps self.old self.new) }
         ensures rest { OnOk result (self.new.rest.now ≡ self.old.rest.now) }
-        ensures owes { Owes 1 0 self.old self.new }
     {
         self.tables.make_ctor_dtor(class, is_destructor)
     }
@@ -585,7 +511,6 @@ impl<'a> Reader<'a> {
         ensures reads { Gives result self.new (Some (bases.expand (stands self.old.tables i), state self.old)) }
         ensures keeps { OnOk result (Keeps self.old self.new) }
         ensures rest { OnOk result (self.new.rest.now ≡ self.old.rest.now) }
-        ensures owes { Owes 1 0 self.old self.new }
     {
         match short_std(self.tables.arena(), i) {
             Some(std) => self.make(Node::Plain(Plain::StdName(std, true))),

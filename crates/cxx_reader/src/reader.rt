@@ -9,8 +9,7 @@ ghost use Rattle.cxx_grammar.specs.State as spec;
 ghost use Rattle.cxx_grammar.specs.Leaves as leaves;
 ghost use Rattle.cxx_reader.specs.Table.{IsNode, stands};
 ghost use Rattle.cxx_reader.specs.Heads as heads;
-ghost use Rattle.cxx_reader.specs.Outcome.{state, Keeps, Gives};
-ghost use Rattle.cxx_reader.specs.Cost.{Pays, Owes};
+ghost use Rattle.cxx_reader.specs.Outcome.{state, Keeps, Moves, Gives};
 
 use crate::cases::{base_case, begins};
 use crate::stop::Stop;
@@ -125,7 +124,6 @@ impl<'a> Reader<'a> {
             self.old.tables.store) node) (state self.old)) }
         ensures keeps { OnOk result (Keeps self.old self.new) }
         ensures rest { OnOk result (self.new.rest.now ≡ self.old.rest.now) }
-        ensures owes { Owes 1 0 self.old self.new }
     {
         self.tables.make(node)
     }
@@ -138,7 +136,6 @@ impl<'a> Reader<'a> {
             self.old.tables.store) node) (state self.old)) }
         ensures keeps { OnOk result (Keeps self.old self.new) }
         ensures rest { OnOk result (self.new.rest.now ≡ self.old.rest.now) }
-        ensures owes { Owes 1 1 self.old self.new }
     {
         let i = tri!(self.tables.make(node));
         tri!(self.tables.save(i));
@@ -149,10 +146,7 @@ impl<'a> Reader<'a> {
     #[inline(always)]
     pub fn read_source_name(&mut self) -> Result<u32, Stop>
         ensures reads { Gives result self.new (leaves.parse_source (state self.old)) }
-        ensures keeps { OnOk result (Keeps self.old self.new) }
-        ensures takes { OnOk result (length self.new.rest.now < length self.old.rest.now) }
-        ensures pays { Pays 0 0 self.old self.new }
-        ensures leaves { OnOk result (Pays 3 2 self.old self.new) }
+        ensures moves { OnOk result (Moves self.old self.new) }
     {
         let Some((name, rest)) = identifier(self.rest) else {
             return Err(Stop::Unreadable);
@@ -166,10 +160,7 @@ impl<'a> Reader<'a> {
     pub fn read_source_name_in(&mut self, scope: u32) -> Result<u32, Stop>
         requires scope { IsNode self.old.tables scope }
         ensures reads { Gives result self.new (heads.source_in (stands self.old.tables scope) (state self.old)) }
-        ensures keeps { OnOk result (Keeps self.old self.new) }
-        ensures takes { OnOk result (length self.new.rest.now < length self.old.rest.now) }
-        ensures pays { Pays 0 0 self.old self.new }
-        ensures leaves { OnOk result (Pays 2 2 self.old self.new) }
+        ensures moves { OnOk result (Moves self.old self.new) }
     {
         let Some((name, rest)) = identifier(self.rest) else {
             return Err(Stop::Unreadable);
@@ -181,10 +172,7 @@ impl<'a> Reader<'a> {
     /// Reads a `<source-name>` after n bytes, and puts a word in front of it.
     fn read_prefixed(&mut self, word: &'static [u8], n: usize) -> Result<u32, Stop>
         ensures reads { Gives result self.new (leaves.parse_prefixed word.now n (state self.old)) }
-        ensures keeps { OnOk result (Keeps self.old self.new) }
-        ensures takes { OnOk result (length self.new.rest.now < length self.old.rest.now) }
-        ensures pays { Pays 0 0 self.old self.new }
-        ensures leaves { OnOk result (Pays 2 2 self.old self.new) }
+        ensures moves { OnOk result (Moves self.old self.new) }
     {
         self.skip(n);
         let name = tri!(self.read_source_name());
@@ -195,10 +183,7 @@ impl<'a> Reader<'a> {
     #[inline(always)]
     pub fn read_unmarked_base(&mut self) -> Result<u32, Stop>
         ensures reads { Gives result self.new (leaves.parse_unmarked_base (state self.old)) }
-        ensures keeps { OnOk result (Keeps self.old self.new) }
-        ensures takes { OnOk result (length self.new.rest.now < length self.old.rest.now) }
-        ensures pays { Pays 0 0 self.old self.new }
-        ensures leaves { OnOk result (Pays 2 2 self.old self.new) }
+        ensures moves { OnOk result (Moves self.old self.new) }
     {
         match base_case(self.rest) {
             BaseCase::Source => self.read_source_name(),
@@ -212,10 +197,7 @@ impl<'a> Reader<'a> {
     #[inline(always)]
     pub fn read_base(&mut self) -> Result<u32, Stop>
         ensures reads { Gives result self.new (leaves.parse_base (state self.old)) }
-        ensures keeps { OnOk result (Keeps self.old self.new) }
-        ensures takes { OnOk result (length self.new.rest.now < length self.old.rest.now) }
-        ensures pays { Pays 0 0 self.old self.new }
-        ensures leaves { OnOk result (Pays 2 2 self.old self.new) }
+        ensures moves { OnOk result (Moves self.old self.new) }
     {
         if begins_source(self.rest) {
             return self.read_source_name();
@@ -227,10 +209,7 @@ impl<'a> Reader<'a> {
     #[inline(never)]
     fn read_other_base(&mut self) -> Result<u32, Stop>
         ensures reads { Gives result self.new (leaves.parse_base (state self.old)) }
-        ensures keeps { OnOk result (Keeps self.old self.new) }
-        ensures takes { OnOk result (length self.new.rest.now < length self.old.rest.now) }
-        ensures pays { Pays 0 0 self.old self.new }
-        ensures leaves { OnOk result (Pays 2 2 self.old self.new) }
+        ensures moves { OnOk result (Moves self.old self.new) }
     {
         self.skip_letter(b'L');
         self.read_unmarked_base()
@@ -239,10 +218,7 @@ impl<'a> Reader<'a> {
     /// Reads `<operator-name>` that is a code of two letters.
     fn read_operator(&mut self) -> Result<u32, Stop>
         ensures reads { Gives result self.new (leaves.parse_operator (state self.old)) }
-        ensures keeps { OnOk result (Keeps self.old self.new) }
-        ensures takes { OnOk result (length self.new.rest.now < length self.old.rest.now) }
-        ensures pays { Pays 0 0 self.old self.new }
-        ensures leaves { OnOk result (Pays 3 2 self.old self.new) }
+        ensures moves { OnOk result (Moves self.old self.new) }
     {
         match self.rest {
             [first, second, rest @ ..] => match operator_of(*first, *second) {
@@ -259,10 +235,7 @@ impl<'a> Reader<'a> {
     /// Reads `<substitution> ::= S [<seq-id>] _ | Sa | Sb | Ss | Si | So | Sd`.
     pub fn read_substitution(&mut self) -> Result<u32, Stop>
         ensures reads { Gives result self.new (leaves.parse_substitution (state self.old)) }
-        ensures keeps { OnOk result (Keeps self.old self.new) }
-        ensures takes { OnOk result (length self.new.rest.now < length self.old.rest.now) }
-        ensures pays { Pays 0 0 self.old self.new }
-        ensures leaves { OnOk result (Pays 3 2 self.old self.new) }
+        ensures moves { OnOk result (Moves self.old self.new) }
     {
         self.skip(1);
         match std_of(self.rest) {
@@ -277,7 +250,6 @@ impl<'a> Reader<'a> {
         ensures reads { Gives result self.new (spec.make (std_name std false) (spec.skip 1 (state self.old))) }
         ensures keeps { OnOk result (Keeps self.old self.new) }
         ensures takes { OnOk result (length self.new.rest.now ≡ length self.old.rest.now - 1) }
-        ensures owes { Owes 1 0 self.old self.new }
     {
         self.skip(1);
         self.make(Node::Plain(Plain::StdName(std, false)))
@@ -286,10 +258,7 @@ impl<'a> Reader<'a> {
     /// Reads `[<seq-id>] _`.
     fn read_saved(&mut self) -> Result<u32, Stop>
         ensures reads { Gives result self.new (leaves.parse_saved (state self.old)) }
-        ensures keeps { OnOk result (Keeps self.old self.new) }
-        ensures takes { OnOk result (length self.new.rest.now < length self.old.rest.now) }
-        ensures pays { Pays 0 0 self.old self.new }
-        ensures leaves { OnOk result (Pays 4 2 self.old self.new) }
+        ensures moves { OnOk result (Moves self.old self.new) }
     {
         let Some((index, rest)) = index_of(Radix::Base36, self.rest) else {
             return Err(Stop::Unreadable);
@@ -304,10 +273,7 @@ impl<'a> Reader<'a> {
     /// Reads `<template-param> ::= T [<number>] _`.
     pub fn read_template_param(&mut self) -> Result<u32, Stop>
         ensures reads { Gives result self.new (leaves.parse_template_param (state self.old)) }
-        ensures keeps { OnOk result (Keeps self.old self.new) }
-        ensures takes { OnOk result (length self.new.rest.now < length self.old.rest.now) }
-        ensures pays { Pays 0 0 self.old self.new }
-        ensures leaves { OnOk result (Pays 3 2 self.old self.new) }
+        ensures moves { OnOk result (Moves self.old self.new) }
     {
         self.skip(1);
         let Some((index, rest)) = index_of(Radix::Decimal, self.rest) else {
@@ -321,10 +287,7 @@ impl<'a> Reader<'a> {
     #[inline(never)]
     pub fn read_builtin(&mut self) -> Result<u32, Stop>
         ensures reads { Gives result self.new (leaves.parse_builtin (state self.old)) }
-        ensures keeps { OnOk result (Keeps self.old self.new) }
-        ensures takes { OnOk result (length self.new.rest.now < length self.old.rest.now) }
-        ensures pays { Pays 0 0 self.old self.new }
-        ensures leaves { OnOk result (Pays 3 2 self.old self.new) }
+        ensures moves { OnOk result (Moves self.old self.new) }
     {
         if self.skip_letter(b'D') {
             return self.read_d_builtin();
@@ -344,10 +307,7 @@ impl<'a> Reader<'a> {
     // Reads `<builtin-type>` after its `D`.
     fn read_d_builtin(&mut self) -> Result<u32, Stop>
         ensures reads { Gives result self.new (leaves.parse_d_builtin (state self.old)) }
-        ensures keeps { OnOk result (Keeps self.old self.new) }
-        ensures takes { OnOk result (length self.new.rest.now < length self.old.rest.now) }
-        ensures pays { Pays 0 0 self.old self.new }
-        ensures leaves { OnOk result (Pays 3 2 self.old self.new) }
+        ensures moves { OnOk result (Moves self.old self.new) }
     {
         if self.skip_letter(b'n') {
             return self

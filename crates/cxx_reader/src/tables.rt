@@ -1,19 +1,18 @@
 //! Nodes, those that are saved, and those of lists that are read.
 #![tactic(auto, using(crate::proofs::Kept::tables), unfolding(crate::specs::Table::stands, crate::specs::Table::saved_trees, cxx_tree::specs::Stored::tree_of, cxx_tree::specs::Stored::plain_tree, cxx_tree::specs::Stored::IsBelow, cxx_tree::specs::Stored::IsPlainBelow, cxx_tree::specs::Counts::Row))]
 
-ghost use Rattle.std.specs.Prelude.{◌≡◌, ℕ, ◌+◌, ◌<◌, ◌≤◌, List, [], ◌∷◌, ◌++◌, length, codes, map, drop, take, nat_eq, IfOk, OnOk, OnErr, IsOkUnless, IfSome, None, MatchOption, false, option_map, slice_get};
+ghost use Rattle.std.specs.Prelude.{◌≡◌, ℕ, ◌+◌, ◌<◌, ◌≤◌, List, [], ◌∷◌, ◌++◌, length, min, codes, map, drop, take, nat_eq, IfOk, OnOk, OnErr, IsOkUnless, IfSome, None, MatchOption, false, option_map, slice_get};
 ghost use Rattle.cxx_tree.specs.Tree.{named, leaf, scoped};
 ghost use Rattle.cxx_tree.specs.Rows as rows;
 ghost use Rattle.cxx_tree.specs.declared.kinds.Prec.TheVariants.{Primary};
 ghost use Rattle.cxx_tree.specs.Grows.{Grows};
-ghost use Rattle.cxx_tree.specs.Stored.{forest, size, tree_of, trees_from_list, list_at, IsBelow, IsText, IsRange, IsListBelow, text_at};
+ghost use Rattle.cxx_tree.specs.Stored.{IsWithin, forest, size, tree_of, trees_from_list, list_at, IsBelow, IsText, IsRange, IsListBelow, text_at};
 ghost use Rattle.cxx_tree.specs.Bind.{bind};
 ghost use Rattle.cxx_tree.specs.Measure.{measure};
 ghost use Rattle.cxx_grammar.specs.Binds.{binding_of};
 ghost use Rattle.cxx_grammar.specs.Leaves as leaves;
 ghost use Rattle.cxx_reader.specs.declared.stop.Stop.TheVariants.{Memory};
 ghost use Rattle.cxx_reader.specs.Table.{IsNode, MakesIn, Stays, stands, saved_trees, taken};
-ghost use Rattle.cxx_reader.specs.Cost.{AddsAtMost};
 
 use crate::made::{function, integer, name, name_in, typed_number};
 use crate::stop::{Stop, stopped};
@@ -48,7 +47,7 @@ impl Model for Tables {
 impl Tables {
     /// Returns tables without nodes. Allocates nothing.
     pub fn new(alloc: Global) -> Self
-        ensures nodes { size result.store ≡ 0 }
+        ensures nodes { IsWithin 0 result.store }
         ensures empty { saved_trees result ≡ [] }
         ensures pending { result.pending ≡ [] }
         ensures saved { result.saved ≡ [] }
@@ -60,14 +59,16 @@ impl Tables {
         }
     }
 
-    /// Drops all nodes, and keeps the memory.
-    pub fn clear(&mut self)
-        ensures nodes { size self.new.store ≡ 0 }
+    /// Drops all nodes, and keeps the memory. From now on there may be so many nodes, items of lists, parts of phrases,
+    /// bytes of texts, saved nodes and nodes of lists that are read, each, at most 4,294,967,295.
+    pub fn clear(&mut self, limit: usize)
+        ensures nodes { IsWithin 0 self.new.store }
+        ensures limit { self.new.store.limit ≡ min limit 4294967295 }
         ensures empty { saved_trees self.new ≡ [] }
         ensures pending { self.new.pending ≡ [] }
         ensures saved { self.new.saved ≡ [] }
     {
-        self.arena.clear();
+        self.arena.clear(limit);
         self.saved.clear();
         self.pending.clear();
     }
@@ -78,6 +79,17 @@ impl Tables {
         ensures value { result.now ≡ self.now.store }
     {
         &self.arena
+    }
+
+    /// Returns the most nodes, items of lists, parts of phrases, bytes of texts, saved nodes and nodes of lists that are
+    /// read that there may be, each.
+    pub fn limit(&self) -> usize
+        ensures value { result ≡ self.now.store.limit }
+        ensures within { IsWithin self.now.store.limit self.now.store }
+        ensures saved { length self.now.saved ≤ self.now.store.limit }
+        ensures pending { length self.now.pending ≤ self.now.store.limit }
+    {
+        self.arena.limit()
     }
 
     /// Returns the node of a list at an index.
@@ -104,7 +116,6 @@ impl Tables {
     pub fn make(&mut self, node: Node) -> Result<u32, Stop>
         requires below { IsBelow self.old.store.held (size self.old.store) node }
         ensures makes { MakesIn result self.old self.new (tree_of self.old.store.held (forest self.old.store) node) }
-        ensures adds { AddsAtMost 1 0 0 self.old self.new }
     {
         stopped(self.arena.push(node))
     }
@@ -112,7 +123,6 @@ impl Tables {
     /// Makes a name whose text is always the same.
     pub fn make_fixed(&mut self, text: &'static [u8]) -> Result<u32, Stop>
         ensures makes { MakesIn result self.old self.new (named text.now) }
-        ensures adds { AddsAtMost 1 0 0 self.old self.new }
     {
         self.make(Node::Plain(Plain::Name(Text::Fixed(text))))
     }
@@ -125,7 +135,6 @@ impl Tables {
         gnu: &'static [u8],
     ) -> Result<u32, Stop>
         ensures makes { MakesIn result self.old self.new (leaf is_simple llvm.now gnu.now) }
-        ensures adds { AddsAtMost 1 0 0 self.old self.new }
     {
         self.make(Node::Plain(Plain::Leaf(is_simple, Text::Fixed(llvm), Text::Fixed(gnu))))
     }
@@ -134,7 +143,6 @@ impl Tables {
     #[inline(always)]
     pub fn make_name(&mut self, text: &[u8]) -> Result<u32, Stop>
         ensures makes { MakesIn result self.old self.new (named text.now) }
-        ensures adds { AddsAtMost 1 0 0 self.old self.new }
     {
         stopped(name(&mut self.arena, text))
     }
@@ -144,7 +152,6 @@ impl Tables {
     pub fn make_name_in(&mut self, scope: u32, text: &[u8]) -> Result<u32, Stop>
         requires scope { IsNode self.old scope }
         ensures makes { MakesIn result self.old self.new (scoped false (stands self.old scope) (named text.now)) }
-        ensures adds { AddsAtMost 1 0 0 self.old self.new }
     {
         stopped(name_in(&mut self.arena, scope, text))
     }
@@ -154,7 +161,6 @@ impl Tables {
         requires name { IsNode self.old name }
         ensures makes { MakesIn result self.old self.new (rows.prefixed word.now word.now (stands self.old name)
             Primary) }
-        ensures adds { AddsAtMost 1 0 0 self.old self.new }
     {
         let word = Text::Fixed(word);
         stopped(prefixed(&mut self.arena, word, word, name, Prec::Primary))
@@ -165,7 +171,6 @@ impl Tables {
         requires class { IsText self.old.store.held class }
         ensures makes { MakesIn result self.old self.new (rows.ctor_dtor (text_at self.old.store.held class)
             is_destructor) }
-        ensures adds { AddsAtMost 1 0 0 self.old self.new }
     {
         stopped(ctor_dtor(&mut self.arena, class, is_destructor))
     }
@@ -180,7 +185,6 @@ impl Tables {
     ) -> Result<u32, Stop>
         ensures makes { MakesIn result self.old self.new (leaves.integer front.now (leaves.number_printed number.now)
             after.now) }
-        ensures adds { AddsAtMost 1 0 0 self.old self.new }
     {
         stopped(integer(&mut self.arena, alloc, front, number, after))
     }
@@ -190,7 +194,6 @@ impl Tables {
         requires t { IsNode self.old t }
         ensures makes { MakesIn result self.old self.new (rows.typed_literal (stands self.old t)
             (leaves.number_printed number.now)) }
-        ensures adds { AddsAtMost 1 0 0 self.old self.new }
     {
         stopped(typed_number(&mut self.arena, alloc, t, number))
     }
@@ -202,8 +205,10 @@ impl Tables {
         ensures store { self.new.store ≡ self.old.store }
         ensures pending { self.new.pending ≡ self.old.pending }
         ensures memory { IsOkUnless result Memory }
-        ensures adds { AddsAtMost 0 1 0 self.old self.new }
     {
+        if self.saved.len() >= self.arena.limit() {
+            return Err(Stop::Memory);
+        }
         match self.saved.push(i) {
             Ok(()) => Ok(()),
             Err(_) => Err(Stop::Memory),
@@ -236,8 +241,10 @@ impl Tables {
         ensures store { self.new.store ≡ self.old.store }
         ensures saved { saved_trees self.new ≡ saved_trees self.old }
         ensures memory { IsOkUnless result Memory }
-        ensures adds { AddsAtMost 0 0 1 self.old self.new }
     {
+        if self.pending.len() >= self.arena.limit() {
+            return Err(Stop::Memory);
+        }
         match self.pending.push(i) {
             Ok(()) => Ok(()),
             Err(_) => Err(Stop::Memory),
@@ -259,7 +266,6 @@ impl Tables {
         ensures makes { MakesIn result (taken from self.old) self.new (rows.function_encoding
             (option_map (stands self.old) ret) (stands self.old n)
             (trees_from_list (map (stands self.old) (drop from self.old.pending))) None None cv ref_qual) }
-        ensures adds { AddsAtMost 1 0 0 self.old self.new }
     {
         let params = nodes_from(&self.pending, from);
         let made = function(&mut self.arena, ret, n, params, cv, ref_qual);
@@ -273,7 +279,6 @@ impl Tables {
         requires within { from ≤ length self.old.pending }
         ensures makes { MakesIn result self.old self.new (bind (binding_of (map (stands self.old)
             (drop from self.old.pending))) (stands self.old i)) }
-        ensures few { size self.new.store ≤ size self.old.store + (measure (stands self.old i)).params }
         ensures saved { self.new.saved ≡ self.old.saved }
         ensures same { self.new.pending ≡ self.old.pending }
     {
@@ -301,7 +306,6 @@ impl Tables {
         ensures saved { saved_trees self.new ≡ saved_trees self.old }
         ensures pending { self.new.pending ≡ take from self.old.pending }
         ensures memory { IsOkUnless result Memory }
-        ensures adds { AddsAtMost 0 0 0 self.old self.new }
     {
         let list = self.arena.list(&self.pending[from..]);
         self.pending.truncate(from);

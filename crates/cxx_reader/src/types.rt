@@ -1,16 +1,15 @@
 //! Types (Itanium C++ ABI 5.1.5).
 //!
 //! The readers of the cases of a type aren't inlined, so that `read_type` only passes on its arguments.
-#![tactic(auto, using(crate::proofs::Rules::productions), unfolding(cxx_tree::specs::Stored::tree_of, cxx_tree::specs::Stored::plain_tree, cxx_tree::specs::Stored::IsBelow, cxx_tree::specs::Stored::IsPlainBelow, crate::specs::Table::stands, crate::specs::Outcome::list_trees, crate::specs::Outcome::named_at, crate::specs::Parser::type_as))]
+#![tactic(auto, using(crate::proofs::Rules::productions), unfolding(cxx_tree::specs::Stored::tree_of, cxx_tree::specs::Stored::plain_tree, cxx_tree::specs::Stored::IsBelow, cxx_tree::specs::Stored::IsPlainBelow, crate::specs::Table::stands, crate::specs::Outcome::list_trees, crate::specs::Outcome::named_at, cxx_grammar::specs::Grammar::type_as))]
 
 ghost use Rattle.std.specs.Prelude.{◌≡◌, ℕ, ◌<◌, ◌≤◌, length, OnOk};
 ghost use Rattle.cxx_tree.specs.Tree.{expansion, pointer};
 ghost use Rattle.cxx_tree.specs.Stored.{forest, size};
 ghost use Rattle.cxx_grammar.specs.Leaves as leaves;
-ghost use Rattle.cxx_reader.specs.Parser as spec;
+ghost use Rattle.cxx_grammar.specs.Grammar as spec;
 ghost use Rattle.cxx_reader.specs.Table.{IsNode, stands};
-ghost use Rattle.cxx_reader.specs.Outcome.{state, Keeps, Gives};
-ghost use Rattle.cxx_reader.specs.Cost.{Pays};
+ghost use Rattle.cxx_reader.specs.Outcome.{state, Keeps, Moves, Gives};
 
 use crate::args::read_args;
 use crate::cases::{begins, type_case};
@@ -23,11 +22,8 @@ use cxx_tree::{Node, Plain};
 /// Reads `<type>`. At most `depth` counted productions may nest, this one included.
 #[cycle(reader)]
 pub fn read_type(reader: &mut Reader, depth: usize) -> Result<u32, Stop>
-    ensures reads { Gives result reader.new (spec.parse_type depth (state reader.old)) }
-    ensures keeps { OnOk result (Keeps reader.old reader.new) }
-    ensures takes { OnOk result (length reader.new.rest.now < length reader.old.rest.now) }
-    ensures pays { Pays 0 0 reader.old reader.new }
-    ensures leaves { OnOk result (Pays 2 1 reader.old reader.new) }
+    ensures reads { Gives result reader.new ((spec.productions depth).type (state reader.old)) }
+    ensures moves { OnOk result (Moves reader.old reader.new) }
 {
     if depth == 0 {
         return Err(Stop::Unreadable);
@@ -50,11 +46,8 @@ pub fn read_type(reader: &mut Reader, depth: usize) -> Result<u32, Stop>
 #[inline(never)]
 fn read_saved_type(reader: &mut Reader, depth: usize) -> Result<u32, Stop>
     requires some { length (leaves.past_cv (state reader.old)).rest < length reader.old.rest.now }
-    ensures reads { Gives result reader.new (spec.parse_saved_type (spec.parse_qualified depth) (state reader.old)) }
-    ensures keeps { OnOk result (Keeps reader.old reader.new) }
-    ensures takes { OnOk result (length reader.new.rest.now < length reader.old.rest.now) }
-    ensures pays { Pays 0 0 reader.old reader.new }
-    ensures leaves { OnOk result (Pays 2 1 reader.old reader.new) }
+    ensures reads { Gives result reader.new (spec.parse_saved_type (spec.productions depth) (state reader.old)) }
+    ensures moves { OnOk result (Moves reader.old reader.new) }
 {
     let t = tri!(read_qualified_type(reader, depth));
     tri!(reader.tables.save(t));
@@ -66,11 +59,8 @@ fn read_saved_type(reader: &mut Reader, depth: usize) -> Result<u32, Stop>
 #[cycle(reader)]
 fn read_qualified_type(reader: &mut Reader, depth: usize) -> Result<u32, Stop>
     requires some { length (leaves.past_cv (state reader.old)).rest < length reader.old.rest.now }
-    ensures reads { Gives result reader.new (spec.parse_qualified depth (state reader.old)) }
-    ensures keeps { OnOk result (Keeps reader.old reader.new) }
-    ensures takes { OnOk result (length reader.new.rest.now < length reader.old.rest.now) }
-    ensures pays { Pays 0 0 reader.old reader.new }
-    ensures leaves { OnOk result (Pays 2 2 reader.old reader.new) }
+    ensures reads { Gives result reader.new ((spec.productions depth).qualified (state reader.old)) }
+    ensures moves { OnOk result (Moves reader.old reader.new) }
 {
     if depth == 0 {
         return Err(Stop::Unreadable);
@@ -82,11 +72,8 @@ fn read_qualified_type(reader: &mut Reader, depth: usize) -> Result<u32, Stop>
 #[cycle(reader)]
 fn read_qualified(reader: &mut Reader, depth: usize) -> Result<u32, Stop>
     requires some { length (leaves.past_cv (state reader.old)).rest < length reader.old.rest.now }
-    ensures reads { Gives result reader.new (spec.qualified_as (spec.parse_type depth) (state reader.old)) }
-    ensures keeps { OnOk result (Keeps reader.old reader.new) }
-    ensures takes { OnOk result (length reader.new.rest.now < length reader.old.rest.now) }
-    ensures pays { Pays 0 0 reader.old reader.new }
-    ensures leaves { OnOk result (Pays 2 2 reader.old reader.new) }
+    ensures reads { Gives result reader.new (spec.qualified_as (spec.productions depth) (state reader.old)) }
+    ensures moves { OnOk result (Moves reader.old reader.new) }
 {
     let cv = reader.read_cv();
     let t = tri!(read_type(reader, depth));
@@ -98,12 +85,9 @@ fn read_qualified(reader: &mut Reader, depth: usize) -> Result<u32, Stop>
 #[inline(never)]
 fn read_expansion(reader: &mut Reader, depth: usize) -> Result<u32, Stop>
     requires some { 0 < length reader.old.rest.now }
-    ensures reads { Gives result reader.new (spec.parse_around (spec.parse_type depth) expansion 2
+    ensures reads { Gives result reader.new (spec.parse_around (spec.productions depth) expansion 2
         (state reader.old)) }
-    ensures keeps { OnOk result (Keeps reader.old reader.new) }
-    ensures takes { OnOk result (length reader.new.rest.now < length reader.old.rest.now) }
-    ensures pays { Pays 0 0 reader.old reader.new }
-    ensures leaves { OnOk result (Pays 2 1 reader.old reader.new) }
+    ensures moves { OnOk result (Moves reader.old reader.new) }
 {
     reader.skip(2);
     let t = tri!(read_type(reader, depth));
@@ -115,12 +99,9 @@ fn read_expansion(reader: &mut Reader, depth: usize) -> Result<u32, Stop>
 #[inline(never)]
 fn read_pointer(reader: &mut Reader, depth: usize) -> Result<u32, Stop>
     requires some { 0 < length reader.old.rest.now }
-    ensures reads { Gives result reader.new (spec.parse_around (spec.parse_type depth) pointer 1
+    ensures reads { Gives result reader.new (spec.parse_around (spec.productions depth) pointer 1
         (state reader.old)) }
-    ensures keeps { OnOk result (Keeps reader.old reader.new) }
-    ensures takes { OnOk result (length reader.new.rest.now < length reader.old.rest.now) }
-    ensures pays { Pays 0 0 reader.old reader.new }
-    ensures leaves { OnOk result (Pays 2 1 reader.old reader.new) }
+    ensures moves { OnOk result (Moves reader.old reader.new) }
 {
     reader.skip(1);
     let t = tri!(read_type(reader, depth));
@@ -132,12 +113,9 @@ fn read_pointer(reader: &mut Reader, depth: usize) -> Result<u32, Stop>
 #[inline(never)]
 fn read_reference(reader: &mut Reader, depth: usize, is_lvalue: bool) -> Result<u32, Stop>
     requires some { 0 < length reader.old.rest.now }
-    ensures reads { Gives result reader.new (spec.parse_around (spec.parse_type depth) (spec.reference_to is_lvalue) 1
+    ensures reads { Gives result reader.new (spec.parse_around (spec.productions depth) (spec.reference_to is_lvalue) 1
         (state reader.old)) }
-    ensures keeps { OnOk result (Keeps reader.old reader.new) }
-    ensures takes { OnOk result (length reader.new.rest.now < length reader.old.rest.now) }
-    ensures pays { Pays 0 0 reader.old reader.new }
-    ensures leaves { OnOk result (Pays 2 1 reader.old reader.new) }
+    ensures moves { OnOk result (Moves reader.old reader.new) }
 {
     reader.skip(1);
     let t = tri!(read_type(reader, depth));
@@ -148,11 +126,8 @@ fn read_reference(reader: &mut Reader, depth: usize, is_lvalue: bool) -> Result<
 #[cycle(reader)]
 #[inline(never)]
 fn read_param_type(reader: &mut Reader, depth: usize) -> Result<u32, Stop>
-    ensures reads { Gives result reader.new (spec.parse_param_type (spec.parse_arg depth) (state reader.old)) }
-    ensures keeps { OnOk result (Keeps reader.old reader.new) }
-    ensures takes { OnOk result (length reader.new.rest.now < length reader.old.rest.now) }
-    ensures pays { Pays 0 0 reader.old reader.new }
-    ensures leaves { OnOk result (Pays 2 1 reader.old reader.new) }
+    ensures reads { Gives result reader.new (spec.parse_param_type (spec.productions depth) (state reader.old)) }
+    ensures moves { OnOk result (Moves reader.old reader.new) }
 {
     let t = tri!(reader.read_template_param());
     tri!(reader.tables.save(t));
@@ -163,11 +138,8 @@ fn read_param_type(reader: &mut Reader, depth: usize) -> Result<u32, Stop>
 #[cycle(reader)]
 #[inline(never)]
 fn read_substituted_type(reader: &mut Reader, depth: usize) -> Result<u32, Stop>
-    ensures reads { Gives result reader.new (spec.parse_substituted_type (spec.parse_arg depth) (state reader.old)) }
-    ensures keeps { OnOk result (Keeps reader.old reader.new) }
-    ensures takes { OnOk result (length reader.new.rest.now < length reader.old.rest.now) }
-    ensures pays { Pays 0 0 reader.old reader.new }
-    ensures leaves { OnOk result (Pays 2 1 reader.old reader.new) }
+    ensures reads { Gives result reader.new (spec.parse_substituted_type (spec.productions depth) (state reader.old)) }
+    ensures moves { OnOk result (Moves reader.old reader.new) }
 {
     let t = tri!(reader.read_substitution());
     read_type_args(reader, depth, t)
@@ -177,10 +149,9 @@ fn read_substituted_type(reader: &mut Reader, depth: usize) -> Result<u32, Stop>
 #[cycle(reader)]
 fn read_type_args(reader: &mut Reader, depth: usize, t: u32) -> Result<u32, Stop>
     requires t { IsNode reader.old.tables t }
-    ensures reads { Gives result reader.new (spec.parse_type_args (spec.parse_arg depth) (stands reader.old.tables t)
+    ensures reads { Gives result reader.new (spec.parse_type_args (spec.productions depth) (stands reader.old.tables t)
         (state reader.old)) }
     ensures keeps { OnOk result (Keeps reader.old reader.new) }
-    ensures pays { Pays 0 0 reader.old reader.new }
 {
     if !begins(reader.rest, b'I') {
         return Ok(t);
@@ -193,11 +164,8 @@ fn read_type_args(reader: &mut Reader, depth: usize, t: u32) -> Result<u32, Stop
 #[cycle(reader)]
 #[inline(never)]
 fn read_class(reader: &mut Reader, depth: usize) -> Result<u32, Stop>
-    ensures reads { Gives result reader.new (spec.parse_class (spec.parse_name depth) (state reader.old)) }
-    ensures keeps { OnOk result (Keeps reader.old reader.new) }
-    ensures takes { OnOk result (length reader.new.rest.now < length reader.old.rest.now) }
-    ensures pays { Pays 0 0 reader.old reader.new }
-    ensures leaves { OnOk result (Pays 2 1 reader.old reader.new) }
+    ensures reads { Gives result reader.new (spec.parse_class (spec.productions depth) (state reader.old)) }
+    ensures moves { OnOk result (Moves reader.old reader.new) }
 {
     let name = tri!(read_name(reader, depth));
     tri!(reader.tables.save(name.node));

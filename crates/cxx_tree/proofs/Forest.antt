@@ -327,17 +327,17 @@ unfolding forest
 length-forest s = omega (arith, length-trees_from s.held [] s.nodes)
 
 -- what is held grows, and no node is new
-pub grown : (s : Store) (g : Held) → Extends s.held g → IsStore s → IsStore (record { nodes = s.nodes; held = g })
+pub grown : (s : Store) (g : Held) → Extends s.held g → IsStore s → IsStore (record { nodes = s.nodes; held = g; limit = s.limit })
 grown s g e i = AreStored-more s.held g e 0 s.nodes i
 
-pub grown-forest : (s : Store) (g : Held) → Extends s.held g → IsStore s → forest (record { nodes = s.nodes; held = g }) ≡ forest s
+pub grown-forest : (s : Store) (g : Held) → Extends s.held g → IsStore s → forest (record { nodes = s.nodes; held = g; limit = s.limit }) ≡ forest s
 unfolding forest
 grown-forest s g e i = trees_from-more s.held g e 0 [] s.nodes i
 
 -- a node is new
-pub pushed-forest : (h : Held) (ns : List Node) (n : Node) → forest (record { nodes = ns ++ n ∷ []; held = h }) ≡ forest (record { nodes = ns; held = h }) ++ tree_of h (forest (record { nodes = ns; held = h })) n ∷ []
+pub pushed-forest : (h : Held) (m : ℕ) (ns : List Node) (n : Node) → forest (record { nodes = ns ++ n ∷ []; held = h; limit = m }) ≡ forest (record { nodes = ns; held = h; limit = m }) ++ tree_of h (forest (record { nodes = ns; held = h; limit = m })) n ∷ []
 unfolding forest
-pushed-forest h ns n = trees_from-push h [] ns n
+pushed-forest h m ns n = trees_from-push h [] ns n
 
 pub Begins-end : (A : Type 0) (xs zs ys : List A) → ys ≡ xs ++ zs → Begins A xs ys
 Begins-end A xs zs ys e = (zs, e)

@@ -28,6 +28,7 @@ Grows-same a b e =
       longer = omega (arith, ap size e);
       same = λ i h. ap (λ (s : Store). tree_at (forest s) i) e;
       extends = Extends-same a.held b.held (ap (λ (s : Store). s.held) e);
+      limit = ap (λ (s : Store). s.limit) e;
     }
 
 pub Grows-trans : (a b c : Store) → Grows a b → Grows b c → Grows a c
@@ -36,20 +37,22 @@ Grows-trans a b c g h =
       longer = omega (arith, g.longer, h.longer);
       same = λ i below. h.same i (omega (arith, g.longer)) ∙ g.same i below;
       extends = Extends-trans a.held b.held c.held g.extends h.extends;
+      limit = h.limit ∙ g.limit;
     }
 
 -- what is held grows alone
-pub Grows-held : (a b : Store) → size b ≡ size a → forest b ≡ forest a → Extends a.held b.held → Grows a b
-Grows-held a b n f e =
-    record { longer = omega (arith, n); same = λ i h. ap (λ (ts : List Tree). tree_at ts i) f; extends = e }
+pub Grows-held : (a b : Store) → size b ≡ size a → forest b ≡ forest a → Extends a.held b.held → b.limit ≡ a.limit → Grows a b
+Grows-held a b n f e m =
+    record { longer = omega (arith, n); same = λ i h. ap (λ (ts : List Tree). tree_at ts i) f; extends = e; limit = m }
 
 -- a node is new
-pub Grows-push : (a b : Store) (t : Tree) → size b ≡ size a + 1 → forest b ≡ forest a ++ t ∷ [] → b.held ≡ a.held → Grows a b
-Grows-push a b t n f e =
+pub Grows-push : (a b : Store) (t : Tree) → size b ≡ size a + 1 → forest b ≡ forest a ++ t ∷ [] → b.held ≡ a.held → b.limit ≡ a.limit → Grows a b
+Grows-push a b t n f e m =
     record {
       longer = omega (arith, n);
       same = λ i h. ap (λ (ts : List Tree). tree_at ts i) f ∙ get_or-append (forest a) (t ∷ []) (named []) i (omega (arith, length-forest a));
       extends = Extends-same a.held b.held e;
+      limit = m;
     }
 
 pub new-tree : (a b : Store) (t : Tree) (i : ℕ) → i ≡ size a → forest b ≡ forest a ++ t ∷ [] → tree_at (forest b) i ≡ t

@@ -12,7 +12,7 @@ use Rattle.cxx_tree.specs.declared.node.Plain.TheVariants as plain
 use Rattle.cxx_tree.specs.declared.node.Node.{Node}
 use Rattle.cxx_tree.specs.declared.node.Node.TheVariants as node
 use Rattle.cxx_tree.specs.Tree.{Tree, named, scoped}
-use Rattle.cxx_tree.specs.Stored.{Held, Store, Extends, forest, size, tree_at, IsBelow, IsPlainBelow, IsRange}
+use Rattle.cxx_tree.specs.Stored.{Held, Store, Extends, IsWithin, forest, size, tree_at, IsBelow, IsPlainBelow}
 use Rattle.cxx_tree.specs.Counts.{AreCounted}
 use Rattle.cxx_tree.specs.Paths.{IsPath, HasPath, HasPlainPath, ArePaths, IsOpen, IsLastOpen, IsPlaced, joined_to}
 use Rattle.cxx_tree.specs.View.{AreStored, IsKept, nodes_of}
@@ -84,12 +84,12 @@ open-last (Some from) s i e h =
     let last : size s - 1 ≡ i = omega (arith, e) in subst (λ (k : ℕ). IsOpen (tree_at (forest s) k) s.held.texts from) last h.1
 
 -- what is held grows, and no node is new
-pub kept-texts : (es : List entry.Entry) (o : Option ℕ) (s : Store) (g : Held) → Extends s.held g → IsKept es o s → IsKept es None (record { nodes = s.nodes; held = g })
-kept-texts es o s g e k =
+pub kept-texts : (es : List entry.Entry) (o : Option ℕ) (s : Store) (g : Held) → Extends s.held g → IsKept es o s → IsWithin s.limit (record { nodes = s.nodes; held = g; limit = s.limit }) → IsKept es None (record { nodes = s.nodes; held = g; limit = s.limit })
+kept-texts es o s g e k w =
     let same = sym (grown-forest s g e k.0) in
-    (grown s g e k.0, subst (AreCounted es) same k.1, subst (ArePaths g s.nodes) same (ArePaths-more s.held g e 0 s.nodes (forest s) k.0 k.2), tt)
+    (grown s g e k.0, subst (AreCounted es) same k.1, subst (ArePaths g s.nodes) same (ArePaths-more s.held g e 0 s.nodes (forest s) k.0 k.2), tt, record { within = w; small = k.4.small })
 
-open-held : (o : Option ℕ) (s : Store) (g : Held) → g.texts ≡ s.held.texts → forest (record { nodes = s.nodes; held = g }) ≡ forest s → IfSome o (IsLastOpen s) → IfSome o (IsLastOpen (record { nodes = s.nodes; held = g }))
+open-held : (o : Option ℕ) (s : Store) (g : Held) → g.texts ≡ s.held.texts → forest (record { nodes = s.nodes; held = g; limit = s.limit }) ≡ forest s → IfSome o (IsLastOpen s) → IfSome o (IsLastOpen (record { nodes = s.nodes; held = g; limit = s.limit }))
 unfolding IsLastOpen
 open-held None s g e f h = tt
 open-held (Some from) s g e f h = (
@@ -98,9 +98,9 @@ open-held (Some from) s g e f h = (
       (subst (λ (x : List ℕ). IsOpen (tree_at (forest s) (size s - 1)) x from) (sym e) h.1),
 )
 
-pub kept-held : (es : List entry.Entry) (o : Option ℕ) (s : Store) (g : Held) → Extends s.held g → g.texts ≡ s.held.texts → IsKept es o s → IsKept es o (record { nodes = s.nodes; held = g })
-kept-held es o s g e f k =
-    let all = kept-texts es o s g e k in (all.0, all.1, all.2, open-held o s g f (grown-forest s g e k.0) k.3)
+pub kept-held : (es : List entry.Entry) (o : Option ℕ) (s : Store) (g : Held) → Extends s.held g → g.texts ≡ s.held.texts → IsKept es o s → IsWithin s.limit (record { nodes = s.nodes; held = g; limit = s.limit }) → IsKept es o (record { nodes = s.nodes; held = g; limit = s.limit })
+kept-held es o s g e f k w =
+    let all = kept-texts es o s g e k w in (all.0, all.1, all.2, open-held o s g f (grown-forest s g e k.0) k.3, all.4)
 
 -- a name
 pub path-name : (t : Tree) (w : List ℕ) → t ≡ named w → IsPath t w
@@ -186,8 +186,13 @@ node-no_path (node.Encoding f) other h t = tt
 node-no_path (node.Pack x) other h t = tt
 
 -- no node
-pub kept-empty : (es : List entry.Entry) (h : Held) → es ≡ [] → IsKept es None (record { nodes = nodes_of es; held = h })
+pub kept-empty : (es : List entry.Entry) (h : Held) (m : ℕ) → es ≡ [] → h.lists ≡ [] → h.parts ≡ [] → h.texts ≡ [] → m ≤ 4294967295 → IsKept es None (record { nodes = nodes_of es; held = h; limit = m })
 unfolding AreCounted forest ArePaths
-kept-empty es h e = rw e (tt, tt, tt, tt)
+kept-empty es h m e l p x small =
+    let s : Store = record { nodes = nodes_of es; held = h; limit = m } in
+    let within : IsWithin m s =
+    record { nodes = omega (arith, ap length (ap nodes_of e)); items = omega (arith, ap length l); parts = omega (arith, ap length p); texts = omega (arith, ap length x) } in
+    let none : AreStored h 0 (nodes_of es) × AreCounted es (forest s) × ArePaths h (nodes_of es) (forest s) = rw e (tt, tt, tt) in
+    (none.0, none.1, none.2, tt, record { within = within; small = small })
 
 pub ruleset placed = (placed-text, placed-within, path-name)

@@ -6,11 +6,12 @@ use Rattle.cxx_tree.specs.Tree.{Tree}
 use Rattle.cxx_tree.specs.Measure.{measure}
 use Rattle.cxx_tree.specs.Stored.{Store, Extends, forest, size, tree_at}
 
--- each node stays, and stands for the same tree; what is held stays
+-- each node stays, and stands for the same tree; what is held stays, and how many nodes there may be
 pub record Grows (old new : Store) : Type 0 where
   pub longer : size old ≤ size new
   pub same : (i : ℕ) → i < size old → tree_at (forest new) i ≡ tree_at (forest old) i
   pub extends : Extends old.held new.held
+  pub limit : new.limit ≡ old.limit
 
 -- a call makes a node that stands for a tree within the limits; or the tree exceeds a limit; or memory is refused
 unfoldable pub Makes : Result ℕ PushError → Store → Store → Tree → Type 0

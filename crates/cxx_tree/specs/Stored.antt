@@ -162,6 +162,7 @@ IsBelow h n (node.Pack items) = IsListBelow h n items
 pub record Store : Type 0 where
   pub nodes : List Node
   pub held : Held
+  pub limit : ℕ  -- the most nodes, items of lists, parts and bytes that it may hold, each
 
 -- the trees of nodes, in order, after the trees before them
 abbrev pub trees_from : Held → List Tree → List Node → List Tree
@@ -174,6 +175,13 @@ forest s = trees_from s.held [] s.nodes
 
 abbrev pub size : Store → ℕ
 size s = length s.nodes
+
+-- at most n nodes, items of lists, parts of phrases and bytes of texts, each
+pub record IsWithin (n : ℕ) (s : Store) : Type 0 where
+  pub nodes : size s ≤ n
+  pub items : length s.held.lists ≤ n
+  pub parts : length s.held.parts ≤ n
+  pub texts : length s.held.texts ≤ n
 
 -- a list that another one begins with
 abbrev pub Begins : (A : Type 0) → List A → List A → Type 0

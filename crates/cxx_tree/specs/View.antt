@@ -1,9 +1,9 @@
 -- What an arena keeps of the nodes that it holds.
-use Rattle.std.specs.Prelude.{ℕ, ◌+◌, List, [], ◌∷◌, map, Option, IfSome}
+use Rattle.std.specs.Prelude.{ℕ, ◌+◌, ◌≤◌, List, [], ◌∷◌, map, Option, IfSome}
 use Rattle.cxx_tree.specs.declared.arena.Arena.TheInside.{Inside}
 use Rattle.cxx_tree.specs.declared.arena.Entry as stored
 use Rattle.cxx_tree.specs.declared.node.Node.{Node}
-use Rattle.cxx_tree.specs.Stored.{Held, Store, IsBelow, forest}
+use Rattle.cxx_tree.specs.Stored.{Held, Store, IsBelow, IsWithin, forest}
 use Rattle.cxx_tree.specs.Counts.{AreCounted}
 use Rattle.cxx_tree.specs.Paths.{ArePaths, IsLastOpen}
 
@@ -15,6 +15,7 @@ abbrev pub store_of : Inside → Store
 store_of a = record {
   nodes = nodes_of a.entries.items;
   held = record { lists = a.lists.items; parts = a.parts.items; texts = a.texts };
+  limit = a.limit;
 }
 
 -- the children of each node stand before it
@@ -25,10 +26,16 @@ AreStored h k (n ∷ ns) = IsBelow h k n × AreStored h (k + 1) ns
 abbrev pub IsStore : Store → Type 0
 IsStore s = AreStored s.held 0 s.nodes
 
--- the nodes with their counts, and the places of their texts
+-- the limit is kept, and all that is below it is a `u32`
+pub record KeepsLimit (s : Store) : Type 0 where
+  pub within : IsWithin s.limit s
+  pub small : s.limit ≤ 4294967295
+
+-- the nodes with their counts, the places of their texts, and the limit
 abbrev pub IsKept : List stored.Entry → Option ℕ → Store → Type 0
 IsKept es start s =
     IsStore s × AreCounted es (forest s) × ArePaths s.held s.nodes (forest s) × IfSome start (IsLastOpen s)
+    × KeepsLimit s
 
 abbrev pub IsConsistent : Inside → Type 0
 IsConsistent a = IsKept a.entries.items a.start (store_of a)

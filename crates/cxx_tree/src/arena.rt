@@ -1,7 +1,7 @@
 //! An arena of nodes, and what they refer to.
 #![tactic(auto, using(crate::proofs::Forest::laws, crate::proofs::Grown::grows), unfolding(crate::specs::Stored::forest, crate::specs::Counts::AreCounted))]
 
-ghost use Rattle.std.specs.Prelude.{◌≡◌, ℕ, ◌+◌, ◌<◌, ◌≤◌, [], ◌∷◌, ◌++◌, codes, drop, length, slice_range, true, false, Some, OnOk, OnErr, IfOk, IfSome, IsErrOf, IsOkUnless};
+ghost use Rattle.std.specs.Prelude.{◌≡◌, ℕ, ◌+◌, ◌<◌, ◌≤◌, [], ◌∷◌, ◌++◌, codes, drop, length, min, slice_range, true, false, Some, OnOk, OnErr, IfOk, IfSome, IsErrOf, IsOkUnless};
 ghost use Rattle.cxx_tree.specs.Measure as spec;
 ghost use Rattle.cxx_tree.specs.Counts.{Row, AreExact};
 ghost use Rattle.cxx_tree.specs.Grows.{Grows, Makes};
@@ -9,7 +9,7 @@ ghost use Rattle.cxx_tree.specs.Paths.{IsPath, HasPath, HasPlainPath, IsOpen, Is
 ghost use Rattle.cxx_tree.specs.Tree.{Tree, named, scoped};
 ghost use Rattle.cxx_tree.specs.declared.arena.PushError.TheVariants as PushError;
 ghost use Rattle.std.specs.List.{AllByRecursion};
-ghost use Rattle.cxx_tree.specs.Stored.{Store, forest, size, tree_of, plain_tree, tree_at, IsBelow, IsPlainBelow, IsText, IsRange, text_at, list_at, parts_at};
+ghost use Rattle.cxx_tree.specs.Stored.{Store, IsWithin, forest, size, tree_of, plain_tree, tree_at, IsBelow, IsPlainBelow, IsText, IsRange, text_at, list_at, parts_at};
 
 use crate::counts::Measure;
 use crate::measuring::{in_scope, of_name, of_node, text_len};
@@ -17,8 +17,8 @@ use crate::node::{List, Node, Part, Parts, Plain, Range, Text};
 use std::alloc::{AllocError, Global};
 use std::marker::Model;
 
-// The greatest index of a node, and of what nodes refer to.
-const MAX_INDEX: usize = 0xffff_fffe;
+// The greatest limit of an arena: all that is below it is a `u32`.
+const MAX_LIMIT: usize = 0xffff_ffff;
 
 /// Why a node wasn't pushed.
 #[derive(Clone, Copy, Drop)]
@@ -45,7 +45,8 @@ pub struct Entry {
     counts: Measure,
 }
 
-/// Nodes, each after its children. Each stands for a tree within the limits.
+/// Nodes, each after its children. Each stands for a tree within the limits. `clear` limits how many nodes, items of
+/// lists, parts of phrases and bytes of texts there may be, each.
 #[derive(Drop)]
 pub struct Arena {
     entries: Vec<Entry>,
@@ -54,6 +55,8 @@ pub struct Arena {
     texts: growing_text::Text,
     // Where the text of the last node begins, if the texts end with it: a name, or a name in scopes.
     start: Option<u32>,
+    // The most nodes, items of lists, parts of phrases and bytes of texts, each.
+    limit: usize,
 }
 
 impl Model for Arena {
@@ -69,10 +72,11 @@ impl Model for Arena {
 }
 
 impl Arena {
-    /// Returns no nodes. Allocates nothing.
+    /// Returns no nodes. The limit is the greatest one. Allocates nothing.
     pub fn new(alloc: Global) -> Self
         ensures empty { forest result ≡ [] }
         ensures size { size result ≡ 0 }
+        ensures limit { result.limit ≡ 4294967295 }
         ensures held { (result.held.lists ≡ []) × (result.held.parts ≡ []) × (result.held.texts ≡ []) }
     {
         Arena {
@@ -81,13 +85,16 @@ impl Arena {
             parts: Vec::new(alloc),
             texts: growing_text::Text::new(alloc),
             start: None,
+            limit: MAX_LIMIT,
         }
     }
 
-    /// Drops all nodes, and keeps the memory.
-    pub fn clear(&mut self)
+    /// Drops all nodes, and keeps the memory. From now on there may be so many nodes, items of lists, parts of phrases
+    /// and bytes of texts, each, at most 4,294,967,295. Past that, a call returns the error of a failed allocation.
+    pub fn clear(&mut self, limit: usize)
         ensures empty { forest self.new ≡ [] }
         ensures size { size self.new ≡ 0 }
+        ensures limit { self.new.limit ≡ min limit 4294967295 }
         ensures held { (self.new.held.lists ≡ []) × (self.new.held.parts ≡ []) × (self.new.held.texts ≡ []) }
     {
         self.entries.clear();
@@ -95,6 +102,7 @@ impl Arena {
         self.parts.clear();
         self.texts.clear();
         self.start = None;
+        self.limit = limit.min(MAX_LIMIT);
     }
 
     /// Returns how many nodes there are.
@@ -102,6 +110,14 @@ impl Arena {
         ensures value { result ≡ size self.now }
     {
         self.entries.len()
+    }
+
+    /// Returns the most nodes, items of lists, parts of phrases and bytes of texts that there may be, each.
+    pub fn limit(&self) -> usize
+        ensures value { result ≡ self.now.limit }
+        ensures within { IsWithin self.now.limit self.now }
+    {
+        self.limit
     }
 
     /// Returns a node.
@@ -303,7 +319,7 @@ impl Arena {
         ensures err { OnErr result (self.new ≡ self.old) }
     {
         let index = self.entries.len();
-        if index > MAX_INDEX {
+        if index >= self.limit {
             return Err(PushError::Memory);
         }
         match self.entries.push(Entry { node, counts }) {
@@ -342,7 +358,7 @@ impl Arena {
         ensures parts { self.new.held.parts ≡ self.old.held.parts }
         ensures err { OnErr result (self.new ≡ self.old) }
     {
-        let range = range_behind(self.texts.len(), bytes.len())?;
+        let range = range_behind(self.texts.len(), bytes.len(), self.limit)?;
         self.texts.add_short(bytes)?;
         self.start = None;
         Ok(range)
@@ -359,7 +375,7 @@ impl Arena {
         ensures parts { self.new.held.parts ≡ self.old.held.parts }
         ensures err { OnErr result (self.new ≡ self.old) }
     {
-        let range = range_behind(self.texts.len(), bytes.len() + 2)?;
+        let range = range_behind(self.texts.len(), bytes.len() + 2, self.limit)?;
         self.texts.add_behind(b"::", bytes)?;
         self.start = None;
         Ok(Range {
@@ -397,7 +413,7 @@ impl Arena {
         ensures parts { self.new.held.parts ≡ self.old.held.parts }
         ensures err { OnErr result (self.new ≡ self.old) }
     {
-        let range = range_behind(self.lists.len(), items.len())?;
+        let range = range_behind(self.lists.len(), items.len(), self.limit)?;
         self.lists.extend_from_slice(items)?;
         Ok(List { range })
     }
@@ -414,18 +430,21 @@ impl Arena {
         ensures lists { self.new.held.lists ≡ self.old.held.lists }
         ensures err { OnErr result (self.new ≡ self.old) }
     {
-        let range = range_behind(self.parts.len(), parts.len())?;
+        let range = range_behind(self.parts.len(), parts.len(), self.limit)?;
         self.parts.extend_from_slice(parts)?;
         Ok(Parts { range })
     }
 }
 
-// The range of `more` items after `len` others.
-fn range_behind(len: usize, more: usize) -> Result<Range, AllocError>
+// The range of `more` items after `len` others, if there may be so many.
+fn range_behind(len: usize, more: usize, limit: usize) -> Result<Range, AllocError>
+    requires len { len ≤ limit }
+    requires limit { limit ≤ 4294967295 }
     ensures from { IfOk result (λ r. r.from ≡ len) }
     ensures to { IfOk result (λ r. r.to ≡ len + more) }
+    ensures within { IfOk result (λ r. r.to ≤ limit) }
 {
-    if len > MAX_INDEX || more > MAX_INDEX - len {
+    if more > limit - len {
         return Err(AllocError);
     }
     Ok(Range {

@@ -5,6 +5,8 @@ const MAX_DEPTH: usize = 512;
 const MAX_HEIGHT: usize = 1024;
 const MAX_WORK: usize = 1 << 20;
 const MAX_REPLACED: usize = 1 << 16;
+/// The empty packs in an argument of which there are many.
+const PACKS: usize = 1000;
 /// The length in bytes of long symbols.
 const LONG: usize = 100_000;
 
@@ -99,6 +101,22 @@ fn replaced_text(n: usize) -> String {
     format!("void f<int>({}", &doubled_text(n)[2..])
 }
 
+/// Arguments with a list of a template parameter and 1,000 empty packs. The list is copied twice: where the arguments are
+/// bound, and where the function is.
+fn replaced_lists(n: usize) -> String {
+    format!("_Z1fIi1AIT_{}E{}Evv", "JE".repeat(PACKS), "S2_".repeat(n - 1))
+}
+
+fn replaced_lists_text(n: usize) -> String {
+    format!("void f<int{}>()", ", A<int>".repeat(n))
+}
+
+/// How many such arguments are within the most work: each has 1, `A` 2, `int` 4 and each pack 1. The function, `void`,
+/// `f`, its name with arguments and `int` have 13.
+fn most_replaced_lists() -> usize {
+    (MAX_WORK - 13) / (PACKS + 7)
+}
+
 /// Packs of twice the one before, over an empty pack.
 fn empty_packs(n: usize) -> String {
     let rest: String =
@@ -131,6 +149,7 @@ pub fn limited() -> Vec<Case> {
     cases.extend(numbered("a chain", chain, MAX_HEIGHT - 2, chain_text));
     cases.extend(numbered("doubled arguments", doubled, most_doubled(), doubled_text));
     cases.extend(numbered("doubled template parameters", replaced, most_replaced(), replaced_text));
+    cases.extend(numbered("replaced lists", replaced_lists, most_replaced_lists(), replaced_lists_text));
     cases.push(("an operator of a vendor", "_Zv23mixii".to_string(), Some("operator mix(int, int)".to_string())));
     cases.push(("an empty pack", "_Z1fIJEDpT_Evv".to_string(), Some("void f<>()".to_string())));
     cases.push(("two empty packs", "_Z1fIJJEJEEEvDpT_".to_string(), Some("void f<>(, )".to_string())));

@@ -33,13 +33,16 @@ const THREAD: usize = 16 << 10;
 /// The most memory in bytes that a symbol of 100,000 bytes may take, and the most time.
 const MEMORY: usize = 16 << 20;
 const TIME: Duration = Duration::from_millis(500);
+/// A limit of what is kept for a symbol, and the most memory in bytes that it allows.
+const LOW_LIMIT: usize = 1000;
+const LOW_MEMORY: usize = 256 * LOW_LIMIT;
 
-const DECLARATION: Printing = Printing { mode: Mode::Declaration, style: Style::Llvm };
+const DECLARATION: Printing = Printing { mode: Mode::Declaration, style: Style::Llvm, limit: None };
 const PRINTINGS: [Printing; 4] = [
-    Printing { mode: Mode::Name, style: Style::Llvm },
-    Printing { mode: Mode::Signature, style: Style::Llvm },
+    Printing { mode: Mode::Name, style: Style::Llvm, limit: None },
+    Printing { mode: Mode::Signature, style: Style::Llvm, limit: None },
     DECLARATION,
-    Printing { mode: Mode::Declaration, style: Style::Gnu },
+    Printing { mode: Mode::Declaration, style: Style::Gnu, limit: None },
 ];
 
 /// What was found so far.
@@ -88,6 +91,47 @@ fn costs(counts: &mut Counts) {
         }
     }
     println!("families of 100,000 bytes: at most {longest:?} and {most} bytes of memory");
+}
+
+/// The default limit of what is kept for a symbol.
+fn default_limit(symbol: &str) -> usize {
+    16 * symbol.len() + 4_194_304
+}
+
+/// No answer depends on the default limit: with half of it each is the same.
+fn defaults(counts: &mut Counts) {
+    let mut demangler = Demangler::new(Global);
+    let limited = limited().into_iter().map(|(what, symbol, _)| (what, symbol));
+    for (what, symbol) in limited.chain(costly()) {
+        let expected = declared(&mut demangler, &symbol);
+        let half = Printing { limit: Some(default_limit(&symbol) / 2), ..DECLARATION };
+        let found = demangler.demangle(Global, &symbol, half);
+        counts.check(&format!("{what} with half of the limit"), found == Ok(expected.as_deref()));
+    }
+}
+
+/// A lower limit bounds the memory, and a symbol that needs more has the error of a failed allocation.
+fn lower_limits(counts: &mut Counts) {
+    let mut failed = 0;
+    for (what, symbol) in costly() {
+        let mut demangler = Demangler::new(Global);
+        let low = Printing { limit: Some(LOW_LIMIT), ..DECLARATION };
+        let (result, bytes) = memory::most(|| demangler.prepare(Global, &symbol, low));
+        if result.is_err() {
+            failed += 1;
+            counts.check(&format!("{what} within a low limit: {bytes} bytes"), bytes <= LOW_MEMORY);
+            counts.check(&format!("{what} has an answer beyond its limit"), demangler.text().is_none());
+        }
+        let again = declared(&mut demangler, "_Z1fi");
+        counts.check(&format!("after {what} with a low limit"), again.as_deref() == Some("f(int)"));
+    }
+    counts.check("long symbols with a low limit", failed > 0);
+    let mut demangler = Demangler::new(Global);
+    for limit in 0..8 {
+        let found = demangler.demangle(Global, "_Z1fi", Printing { limit: Some(limit), ..DECLARATION });
+        // The name, `int` and the function are nodes.
+        counts.check(&format!("the limit {limit}"), found.ok() == (limit >= 3).then_some(Some("f(int)")));
+    }
 }
 
 /// Malformed symbols, and what must not be read.
@@ -164,7 +208,7 @@ fn main() -> ExitCode {
     let mut counts = Counts::default();
     little_stack(&mut counts);
     let counts = with_stack(STACK, move || {
-        for test in [limits, costs, refusals, faults, beginnings] {
+        for test in [limits, costs, defaults, lower_limits, refusals, faults, beginnings] {
             test(&mut counts);
         }
         counts

@@ -191,7 +191,7 @@ fn declared(arena: &mut Arena) -> Result<u32, PushError> {
 
 /// Whether a function is made and printed. The error says whether it was want of memory.
 fn is_declared(arena: &mut Arena, out: &mut Text) -> Result<bool, bool> {
-    arena.clear();
+    arena.clear(usize::MAX);
     out.clear();
     let tree = declared(arena).map_err(|error| matches!(error, PushError::Memory))?;
     let symbol = Symbol { tree, is_block: false, suffix: None };

@@ -89,7 +89,7 @@ impl Printer {
 
     /// Makes the nodes of a tree, and drops all others. A tree may be beyond the limits.
     fn symbol(&mut self, tree: &Value) -> Option<Symbol> {
-        self.arena.clear();
+        self.arena.clear(usize::MAX);
         made(&mut self.arena, tree).ok()
     }
 

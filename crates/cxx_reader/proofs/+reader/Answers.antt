@@ -1,100 +1,97 @@
-use Rattle.std.proofs.Common.{ℕ, ◌≡◌, ◌<◌, List, [], ◌∷◌, ◌++◌, ◌∙◌, length, map, drop, take, sym, ap, subst, arith, rules, refl, Some, length-append}
+use Rattle.std.proofs.Common.{ℕ, ◌≡◌, List, drop, take, ◌∙◌, length, sym, ap, subst, arith, rules, refl, Some}
 use Rattle.std.specs.List.{AllByRecursion}
 use Rattle.cxx_tree.specs.Tree.{Tree}
 use Rattle.cxx_tree.specs.Grows.{Grows}
-use Rattle.cxx_tree.specs.Stored.{Store, forest, size, tree_at}
-use Rattle.cxx_tree.proofs.Grown.{Grows-same, Grows-trans}
 use Rattle.cxx_grammar.specs.Cases.{is_args_end}
 use Rattle.cxx_grammar.specs.State.{State, skip}
 use Rattle.cxx_reader.specs.declared.reader.Reader.{Reader}
-use Rattle.cxx_reader.specs.Parser.{parse_arg, parse_name, parse_list}
+use Rattle.cxx_grammar.specs.Grammar.{productions, parse_list}
+use Rattle.cxx_reader.specs.Items.{ends, item_of}
 use Rattle.cxx_reader.specs.Table.{Table, IsNode, stands}
 use Rattle.cxx_reader.specs.Outcome.{state, IsNamed, named_at, GivesNamed}
 use Rattle.cxx_reader.proofs.Kept.{Keeps-trans}
-use Rattle.cxx_reader.proofs.Costs.{Pays-tables, Pays-trans, Pays-add}
-use Rattle.cxx_reader.proofs.Turns.{ListSoFar, items_more, components_more, components_end}
-use Rattle.cxx_reader.proofs.Lists.{list_start, none-below, take-length, take-push, one-more, one-more-below, args_stop, components_stop, close_gives}
+use Rattle.cxx_reader.proofs.Turns.{ListSoFar, items_more, items_end, components_more, components_end}
+use Rattle.cxx_reader.proofs.Lists.{trees_behind, list_start, none-below, one-more, one-more-below, close_moves, pushed, KeepsFront-same, KeepsFront-push, items_stop, components_stop, close_gives}
 use Rattle.cxx_reader.proofs.Heads.{source_component, source_stop, source_ok, inherited_stays}
 use Rattle.cxx_reader.proofs.+reader.Goals as goal
 
-pub args::read_args-loop-reader-init : goal.args::read_args-loop-reader-init
-args::read_args-loop-reader-init t c =
-    let a = c.skip.new.self.tables in
-    let from = c.pending_len-from.result in
-    let value : from ≡ length a.pending = c.pending_len-from.ensures.value in
-    let same : a ≡ c.args.reader.now.tables = c.skip.ensures.tables in
+pub items::read_items-loop-items-init : goal.items::read_items-loop-items-init
+items::read_items-loop-items-init t c =
+    let r = c.args.reader.now in
+    let a = r.tables in
     record {
-      reads = list_start is_args_end (parse_arg c.args.depth) (skip 1 (state c.args.reader.now)) (state c.skip.new.self) a from c.skip.ensures.state value;
-      from = value ∙ ap (λ (x : Table). length x.pending) same;
-      long = omega (arith, value);
-      below = none-below a from value;
-      pending = ap (λ (n : ℕ). take n a.pending) value ∙ take-length a.pending ∙ ap (λ (x : Table). x.pending) same;
-      grows = Grows-same c.args.reader.now.tables.store a.store (ap (λ (x : Table). x.store) same);
-      taken = omega (arith, c.skip.ensures.takes);
-      pays = Pays-tables c.args.reader.now c.skip.new.self same (omega (arith, c.skip.ensures.takes)) c.skip.ensures.replaced;
+      reads = list_start (ends c.args.items) (item_of c.args.items (productions c.args.depth)) (state r) (state r) a (length a.pending) refl refl;
+      below = none-below a (length a.pending) refl;
+      keeps = KeepsFront-same r;
     }
 
-pub args::read_args-returns-in-Err-clause-reads : goal.args::read_args-returns-in-Err-clause-reads
-args::read_args-returns-in-Err-clause-reads t c =
-    args_stop c.in-Err.error c.read_arg.new.reader (parse_arg c.args.depth) (state c.args.reader.now) c.loop-reader.invariant.reads (search rules) (c.in-Err.ensures {u = tt}).reads
+pub items::read_items-returns-in-Err-clause-reads : goal.items::read_items-returns-in-Err-clause-reads
+items::read_items-returns-in-Err-clause-reads t c =
+    items_stop c.in-Err.error _ c.read_item.new.reader (item_of c.args.items (productions c.args.depth)) c.loop-items.invariant.reads (search rules) (c.in-Err.ensures {u = tt}).reads
 
-pub args::read_args-loop-reader-preserved : goal.args::read_args-loop-reader-preserved
-unfolding stands
-args::read_args-loop-reader-preserved t c =
-    let so_far = c.loop-reader.invariant in
+pub items::read_items-loop-items-preserved : goal.items::read_items-loop-items-preserved
+items::read_items-loop-items-preserved t c =
+    let so_far = c.loop-items.invariant in
     let read = c.in-Ok.ensures {u = tt} in
-    let a = c.loop-reader.reader.tables in
-    let mid = c.read_arg.new.reader in
-    let b = c.add.new.self in
+    let old = c.loop-items.reader in
+    let mid = c.read_item.new.reader in
     let i = c.in-Ok.value in
-    let from = c.pending_len-from.result in
-    let pushed : b.pending ≡ a.pending ++ i ∷ [] = (c.in-Ok-add.ensures {u = tt}).pending ∙ ap (λ (l : List ℕ). l ++ i ∷ []) read.keeps.pending in
-    let grows : Grows a.store b.store = subst (λ (s : Store). Grows a.store s) (sym c.add.ensures.store) read.keeps.grows in
-    let same : stands b i ≡ stands mid.tables i = ap (λ (s : Store). tree_at (forest s) i) c.add.ensures.store in
-    let node : IsNode b i = subst (λ (s : Store). i < size s) (sym c.add.ensures.store) read.reads.0 in
-    let after : Reader = record { rest = mid.rest; tables = b; replaced = mid.replaced; alloc = mid.alloc } in
-    let state-after : state mid ≡ state after = ap (λ (l : List Tree). record { rest = mid.rest.now; saved = l; replaced = mid.replaced }) (sym c.add.ensures.saved) in
-    let parsed : parse_arg c.args.depth (state c.loop-reader.reader) ≡ Some (stands b i, state after) =
-    read.reads.1 ∙ ap (λ (u : Tree). Some (u, state mid)) (sym same) ∙ ap (λ (s : State). Some (stands b i, s)) state-after in
+    let n = length c.args.reader.now.tables.pending in
+    let kept = c.add.ensures in
+    let after : Reader = record { rest = mid.rest; tables = c.add.new.self; replaced = mid.replaced; alloc = mid.alloc } in
+    let added = pushed old mid after i read.moves.keeps kept.store kept.saved (c.in-Ok-add.ensures {u = tt}).pending refl refl read.reads in
     record {
-      reads = subst (λ (ts : List Tree). ListSoFar (parse_list is_args_end (parse_arg c.args.depth) (skip 1 (state c.args.reader.now))) is_args_end (parse_arg c.args.depth) ts (state after))
-          (sym (one-more a b from i grows so_far.below so_far.long pushed)) (items_more so_far.reads (search rules) parsed read.takes);
-      from = so_far.from;
-      long = omega (arith, so_far.long, ap length pushed, length-append a.pending (i ∷ []));
-      below = one-more-below a b from i grows so_far.below so_far.long pushed node;
-      pending = ap (take from) pushed ∙ take-push from a.pending i so_far.long ∙ so_far.pending;
-      grows = Grows-trans c.args.reader.now.tables.store a.store b.store so_far.grows grows;
-      taken = omega (arith, so_far.taken, read.takes);
-      pays = Pays-add c.args.reader.now c.loop-reader.reader mid after so_far.pays read.leaves c.add.ensures.adds refl refl;
+      reads = subst (λ (ts : List Tree). ListSoFar (parse_list (ends c.args.items) (item_of c.args.items (productions c.args.depth)) (state c.args.reader.now)) (ends c.args.items) (item_of c.args.items (productions c.args.depth)) ts (state after))
+          (sym (one-more old.tables after.tables n i added.grows so_far.below so_far.keeps.long added.pending)) (items_more so_far.reads (search rules) added.parsed read.moves.takes);
+      below = one-more-below old.tables after.tables n i added.grows so_far.below so_far.keeps.long added.pending added.node;
+      keeps = KeepsFront-push c.args.reader.now old after i so_far.keeps added.grows added.pending (omega (arith, read.moves.takes));
     }
+
+pub items::read_items-returns-clause-reads : goal.items::read_items-returns-clause-reads
+items::read_items-returns-clause-reads t c =
+    let inv = c.loop-items.invariant in (inv.below, items_end inv.reads (search rules))
 
 pub args::read_args-returns-clause-reads : goal.args::read_args-returns-clause-reads
+unfolding ends item_of
 args::read_args-returns-clause-reads t c =
-    let inv = c.loop-reader.invariant in
+    let mid = c.read_items.new.reader in
     let r = c.skip-2.new.self in
+    let read = (c.in-Ok.ensures {u = tt}).reads in
     let from = c.pending_len-from.result in
+    let value = sym c.pending_len-from.ensures.value in
     let back = sym c.skip-2.ensures.tables in
     let after : Reader = record { rest = r.rest; tables = c.close.new.self; replaced = r.replaced; alloc = r.alloc } in
-    close_gives c.close.result after r.tables from (parse_arg c.args.depth) (state c.args.reader.now) (state c.loop-reader.reader)
-    (subst (λ (x : Table). ListSoFar (parse_list is_args_end (parse_arg c.args.depth) (skip 1 (state c.args.reader.now))) is_args_end (parse_arg c.args.depth) (map (stands x) (drop from x.pending)) (state c.loop-reader.reader)) back inv.reads)
-    (sym c.begins.ensures.value ∙ c.loop-reader-test.false) c.close.ensures.list c.close.ensures.below c.close.ensures.grows
-    (subst (λ (x : Table). AllByRecursion (IsNode x) (drop from x.pending)) back inv.below)
+    let parsed : parse_list is_args_end (productions c.args.depth).arg (skip 1 (state c.args.reader.now)) ≡ Some (trees_behind from r.tables, state mid) =
+    subst (λ (s : State). parse_list is_args_end (productions c.args.depth).arg s ≡ Some (trees_behind from r.tables, state mid)) c.skip.ensures.state
+    (subst (λ (x : Table). parse_list is_args_end (productions c.args.depth).arg (state c.skip.new.self) ≡ Some (trees_behind from x, state mid)) back
+    (subst (λ (n : ℕ). parse_list is_args_end (productions c.args.depth).arg (state c.skip.new.self) ≡ Some (trees_behind n mid.tables, state mid)) value read.1)) in
+    close_gives c.close.result after r.tables from (productions c.args.depth) (state c.args.reader.now) (state mid) parsed c.close.ensures.list c.close.ensures.below c.close.ensures.grows
+    (subst (λ (x : Table). AllByRecursion (IsNode x) (drop from x.pending)) back (subst (λ (n : ℕ). AllByRecursion (IsNode mid.tables) (drop n mid.tables.pending)) value read.0))
     (ap (λ (l : List Tree). record { rest = r.rest.now; saved = l; replaced = r.replaced }) c.close.ensures.saved ∙ c.skip-2.ensures.state)
     c.close.ensures.memory
 
+pub args::read_args-returns-clause-moves : goal.args::read_args-returns-clause-moves
+unfolding ends
+args::read_args-returns-clause-moves t c =
+    let r = c.skip-2.new.self in
+    let read = c.in-Ok.ensures {u = tt} in
+    let from = c.pending_len-from.result in
+    let after : Reader = record { rest = r.rest; tables = c.close.new.self; replaced = r.replaced; alloc = r.alloc } in
+    close_moves c.close.result c.args.reader.now c.skip.new.self c.read_items.new.reader after from c.skip.ensures.tables (omega (arith, c.skip.ensures.takes)) read.keeps c.pending_len-from.ensures.value read.end
+    (subst (λ (x : Table). Grows x.store c.close.new.self.store) c.skip-2.ensures.tables c.close.ensures.grows) (c.close.ensures.pending ∙ ap (λ (x : Table). take from x.pending) c.skip-2.ensures.tables) c.skip-2.ensures.takes
+
 pub names::read_components-returns-in-Err-read_next-clause-reads : goal.names::read_components-returns-in-Err-read_next-clause-reads
 names::read_components-returns-in-Err-read_next-clause-reads t c =
-    components_stop c.in-Err-read_next.error c.read_next.new.reader (parse_arg c.args.depth) (parse_name c.args.depth) c.loop-reader.invariant.reads (search rules) (c.in-Err-read_next.ensures {u = tt}).reads
+    components_stop c.in-Err-read_next.error c.read_next.new.reader (productions c.args.depth) c.loop-reader.invariant.reads (search rules) (c.in-Err-read_next.ensures {u = tt}).reads
 
 pub names::read_components-returns-in-Err-clause-reads : goal.names::read_components-returns-in-Err-clause-reads
 unfolding named_at stands
 names::read_components-returns-in-Err-clause-reads t c =
-    let arg = parse_arg c.args.depth in
-    let name = parse_name c.args.depth in
+    let p = productions c.args.depth in
     let s = state c.loop-reader.reader in
     let last = named_at c.loop-reader.reader.tables c.loop-reader.last in
-    components_stop c.in-Err.error c.read_next_source.new.self arg name c.loop-reader.invariant.reads (search rules)
-    (source_stop c.in-Err.error c.read_next_source.new.self arg name last s (sym c.begins_source.ensures.value ∙ c.if-begins_source.true) (c.in-Err.ensures {u = tt}).reads)
+    components_stop c.in-Err.error c.read_next_source.new.self p c.loop-reader.invariant.reads (search rules)
+    (source_stop c.in-Err.error c.read_next_source.new.self p last s (sym c.begins_source.ensures.value ∙ c.if-begins_source.true) (c.in-Err.ensures {u = tt}).reads)
 
 pub names::read_components-loop-reader-preserved-then-begins_source : goal.names::read_components-loop-reader-preserved-then-begins_source
 unfolding named_at stands
@@ -105,13 +102,12 @@ names::read_components-loop-reader-preserved-then-begins_source t c =
     let read = c.in-Ok.ensures {u = tt} in
     let new = c.read_next_source.new.self in
     let begins = sym c.begins_source.ensures.value ∙ c.if-begins_source.true in
-    let stays = inherited_stays old.tables new.tables last.info.inherited read.keeps.grows so_far.named.1 in
-    let parsed = source_ok (parse_arg c.args.depth) (parse_name c.args.depth) (named_at old.tables last) (state old) (state new) (stands new.tables c.in-Ok.value) begins read.reads.1 in
+    let stays = inherited_stays old.tables new.tables last.info.inherited read.moves.keeps.grows so_far.named.1 in
+    let parsed = source_ok (productions c.args.depth) (named_at old.tables last) (state old) (state new) (stands new.tables c.in-Ok.value) begins read.reads.1 in
     record {
-      reads = components_more so_far.reads (search rules) (rw stays.1 parsed) read.takes;
+      reads = components_more so_far.reads (search rules) (rw stays.1 parsed) read.moves.takes;
       named = (read.reads.0, stays.0);
-      keeps = Keeps-trans c.args.reader.now old new so_far.keeps read.keeps;
-      pays = Pays-trans c.args.reader.now old new so_far.pays read.leaves;
+      keeps = Keeps-trans c.args.reader.now old new so_far.keeps read.moves.keeps;
     }
 
 pub names::read_components-loop-reader-preserved : goal.names::read_components-loop-reader-preserved
@@ -119,10 +115,9 @@ names::read_components-loop-reader-preserved t c =
     let so_far = c.loop-reader.invariant in
     let read = c.in-Ok-read_next.ensures {u = tt} in
     record {
-      reads = components_more so_far.reads (search rules) read.reads.1 read.takes;
+      reads = components_more so_far.reads (search rules) read.reads.1 read.moves.takes;
       named = read.reads.0;
-      keeps = Keeps-trans c.args.reader.now c.loop-reader.reader c.read_next.new.reader so_far.keeps read.keeps;
-      pays = Pays-trans c.args.reader.now c.loop-reader.reader c.read_next.new.reader so_far.pays read.leaves;
+      keeps = Keeps-trans c.args.reader.now c.loop-reader.reader c.read_next.new.reader so_far.keeps read.moves.keeps;
     }
 
 pub names::read_components-returns-clause-reads : goal.names::read_components-returns-clause-reads
@@ -139,5 +134,5 @@ names::read_components-returns-clause-reads t c =
 pub names::read_component-returns-then-begins_source-clause-reads : goal.names::read_component-returns-then-begins_source-clause-reads
 names::read_component-returns-then-begins_source-clause-reads t c =
     let s = state c.args.reader.now in
-    let is = source_component (parse_arg c.args.depth) (parse_name c.args.depth) (named_at c.args.reader.now.tables c.args.scope) s (sym c.begins_source.ensures.value ∙ c.if-begins_source.true) in
+    let is = source_component (productions c.args.depth) (named_at c.args.reader.now.tables c.args.scope) s (sym c.begins_source.ensures.value ∙ c.if-begins_source.true) in
     subst (GivesNamed c.read_scoped_source.result c.read_scoped_source.new.reader) (sym is) c.read_scoped_source.ensures.reads

@@ -1,4 +1,4 @@
-use Rattle.std.proofs.Common.{ℕ, ◌≡◌, ◌≢◌, List, Option, Some, None, Ok, Err, rules, sym, subst, length}
+use Rattle.std.proofs.Common.{◌≡◌, ◌≢◌, Some, Ok, Err, rules, sym, subst, length}
 use Rattle.cxx_reader.specs.Table.{Table, saved_trees}
 use Rattle.cxx_reader.specs.Outcome.{state}
 use Rattle.cxx_demangle.specs.Demangler.{GivesWhole}

@@ -1,8 +1,6 @@
-use Rattle.std.proofs.Common.{ℕ, ◌≡◌, List, Option, Some, None, rules, true, false, Bool}
+use Rattle.std.proofs.Common.{◌≡◌, Some, rules}
 use Rattle.abi_scalars.specs.Symbol.{after_prefix}
 use Rattle.cxx_reader.specs.Table.{stands}
-use Rattle.cxx_demangle.specs.Answer.{IsAnswer, IsText}
-use Rattle.cxx_demangle.specs.Demangler.{answer_of}
 use Rattle.cxx_demangle.proofs.Whole.{one_reading, no_encoding, answered}
 use Rattle.cxx_demangle.proofs.demangler.Demangler.prepare.Goals as goal
 

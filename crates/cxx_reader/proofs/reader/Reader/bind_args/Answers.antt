@@ -1,4 +1,4 @@
-use Rattle.std.proofs.Common.{ℕ, ◌≡◌, ◌+◌, ◌<◌, List, [], ◌∷◌, ◌++◌, ◌∙◌, length, map, drop, take, refl, sym, ap, subst, arith, Some, Ok, length-append}
+use Rattle.std.proofs.Common.{ℕ, ◌≡◌, ◌+◌, ◌<◌, List, [], ◌∷◌, ◌++◌, ◌∙◌, length, map, drop, take, sym, ap, subst, arith, Some, Ok, length-append}
 use Rattle.cxx_tree.specs.Tree.{Tree}
 use Rattle.cxx_tree.specs.Grows.{Grows}
 use Rattle.cxx_tree.specs.Stored.{Store, forest, size, tree_at, trees_from_list}
@@ -11,25 +11,10 @@ use Rattle.cxx_reader.specs.Table.{IsNode, stands}
 use Rattle.cxx_reader.specs.Outcome.{state, GivesFrom, list_trees}
 use Rattle.cxx_reader.proofs.Lists.{take-push, one-more, one-more-below}
 use Rattle.cxx_reader.proofs.Bound.{BoundSoFar, bound_end, bound_more, bound_stop, next_arg, no_arg}
-use Rattle.cxx_reader.proofs.Costs.{spends_more, spends_of, spends_added}
-use Rattle.cxx_reader.proofs.Bound.{one_less}
 use Rattle.cxx_reader.proofs.reader.Reader.bind_args.Goals as goal
 
 pub item-arg-requires-clause-list : goal.item-arg-requires-clause-list
 item-arg-requires-clause-list c = list_below-grows c.args.self.now.tables.store c.loop-k.self.tables.store c.args.args c.loop-k.invariant.grows c.requires.args
-
-pub returns-in-Err-clause-spends : goal.returns-in-Err-clause-spends
-returns-in-Err-clause-spends c =
-    spends_of (spends_more _ _ c.args.self.now c.loop-k.self c.bind_arg.new.self c.loop-k.invariant.spends
-    (one_less c.args.self.now.tables c.loop-k.self.tables c.loop-k.invariant.grows c.args.args c.requires.args c.loop-k.k c.item-arg.result c.item-arg.ensures.value) c.bind_arg.ensures.spends)
-
-pub returns-in-Err-add-clause-spends : goal.returns-in-Err-add-clause-spends
-returns-in-Err-add-clause-spends c =
-    let mid = c.bind_arg.new.self in
-    let after : Reader = record { rest = mid.rest; tables = c.add.new.self; replaced = mid.replaced; alloc = mid.alloc } in
-    let spent = spends_more _ _ c.args.self.now c.loop-k.self c.bind_arg.new.self c.loop-k.invariant.spends
-    (one_less c.args.self.now.tables c.loop-k.self.tables c.loop-k.invariant.grows c.args.args c.requires.args c.loop-k.k c.item-arg.result c.item-arg.ensures.value) c.bind_arg.ensures.spends in
-    spends_of (spends_added c.args.self.now mid after spent c.add.ensures.adds refl)
 
 pub returns-in-Err-clause-reads : goal.returns-in-Err-clause-reads
 returns-in-Err-clause-reads c =
@@ -57,8 +42,6 @@ loop-k-preserved c =
     let pushed : b.pending ≡ a.pending ++ i ∷ [] = (c.in-Ok-add.ensures {u = tt}).pending ∙ ap (λ (l : List ℕ). l ++ i ∷ []) read.keeps.pending in
     let grows : Grows a.store b.store = subst (λ (s : Store). Grows a.store s) (sym kept.store) read.keeps.grows in
     let same : stands b i ≡ stands mid.tables i = ap (λ (s : Store). tree_at (forest s) i) kept.store in
-    let spent = spends_more _ _ c.args.self.now c.loop-k.self c.bind_arg.new.self c.loop-k.invariant.spends
-    (one_less c.args.self.now.tables c.loop-k.self.tables c.loop-k.invariant.grows c.args.args c.requires.args c.loop-k.k c.item-arg.result c.item-arg.ensures.value) c.bind_arg.ensures.spends in
     let node : IsNode b i = subst (λ (s : Store). i < size s) (sym kept.store) read.reads.0 in
     let after : Reader = record { rest = mid.rest; tables = b; replaced = mid.replaced; alloc = mid.alloc } in
     let state-after : state mid ≡ state after = ap (λ (l : List Tree). record { rest = mid.rest.now; saved = l; replaced = mid.replaced }) (sym kept.saved) in
@@ -77,7 +60,6 @@ loop-k-preserved c =
       below = one-more-below a b from i grows inv.below inv.long pushed node;
       pending = ap (take from) pushed ∙ take-push from a.pending i inv.long ∙ inv.pending;
       grows = Grows-trans first.store a.store b.store inv.grows grows;
-      spends = spends_added c.args.self.now mid after spent kept.adds refl;
       rest = read.rest ∙ inv.rest;
     }
 
@@ -90,6 +72,3 @@ returns-clause-reads c =
     let so_far = subst (λ (ts : List Tree). BoundSoFar (bind_args c.args.is_inherited [] (trees_from_list (list_trees first c.args.args)) (state c.args.self.now)) c.args.is_inherited (map (stands r.tables) (drop c.pending_len-from.result r.tables.pending)) ts (state r)) none inv.reads in
     subst (λ (n : ℕ). GivesFrom (Ok tt) n r (bind_args c.args.is_inherited [] (trees_from_list (list_trees first c.args.args)) (state c.args.self.now))) inv.from
     (inv.below, bound_end so_far)
-
-pub returns-clause-spends : goal.returns-clause-spends
-returns-clause-spends c = spends_of c.loop-k.invariant.spends

@@ -1,7 +1,5 @@
 use Rattle.std.proofs.Common.{◌≡◌, ◌≤◌, [], length, map, drop, take}
 use Rattle.std.specs.List.{AllByRecursion}
-use Rattle.cxx_tree.specs.Measure.{measure_each}
-use Rattle.cxx_reader.proofs.Costs.{SpendsSoFar}
 use Rattle.cxx_tree.specs.Grows.{Grows}
 use Rattle.cxx_tree.specs.Stored.{list_at, trees_from_list}
 use Rattle.cxx_grammar.specs.Binds.{bind_args}
@@ -20,7 +18,5 @@ invariant-loop-k l = record {
   below : AllByRecursion (IsNode l.self.tables) (drop l.from l.self.tables.pending);
   pending : take l.from l.self.tables.pending ≡ l.fn.self.tables.pending;
   grows : Grows l.fn.self.tables.store l.self.tables.store;
-  spends : SpendsSoFar l.is_inherited (measure_each (trees_from_list (list_trees l.fn.self.tables l.args))).params
-      (measure_each (trees_from_list (drop l.k (list_trees l.fn.self.tables l.args)))).params l.fn.self l.self;
   rest : l.self.rest.now ≡ l.fn.self.rest.now;
 }

@@ -2,7 +2,7 @@ use Rattle.std.proofs.Common.{◌≡◌, ◌∙◌, sym, subst, true}
 use Rattle.abi_scalars.specs.Texts.{begins_source}
 use Rattle.cxx_grammar.specs.State.{State}
 use Rattle.cxx_reader.specs.Table.{stands}
-use Rattle.cxx_reader.specs.Parser.{base_in_std}
+use Rattle.cxx_grammar.specs.Grammar.{base_in_std}
 use Rattle.cxx_reader.specs.Outcome.{state, Gives}
 use Rattle.cxx_reader.proofs.Heads.{std_then}
 use Rattle.cxx_reader.proofs.reader.Reader.read_std_name.Goals as goal

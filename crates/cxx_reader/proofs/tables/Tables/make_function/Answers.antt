@@ -15,9 +15,9 @@ invariant_of-self c =
     let b : Table = record { store = c.function-made.new.arena; saved = a.saved; pending = c.truncate.new.self.items } in
     IsTable-made c.function-made.result (taken c.args.from a) b _ (IsTable-taken c.args.from a c.self.invariant) c.function-made.ensures.makes refl c.truncate.ensures.items
 
-pub returns-clause-makes : goal.returns-clause-makes
+pub returns : goal.returns
 unfolding stands
-returns-clause-makes c =
+returns c =
     let a = table_of c.self.inside in
     let from = c.args.from in
     let arena = c.self.inside.arena in
@@ -27,5 +27,7 @@ returns-clause-makes c =
     params c.function-made.ensures.makes in
     let stopped = subst (λ (r : Result ℕ Stop). MakesIn r (taken from a) b (function_encoding (option_map (stands a) c.args.ret) (stands a c.args.n) (trees_from_list (map (stands a) (drop from a.pending))) None None c.args.cv c.args.ref_qual))
     (sym c.stopped.ensures.value) (MakesIn-made c.function-made.result (taken from a) b _ (IsTable-taken from a c.self.invariant) made refl c.truncate.ensures.items) in
-    subst (λ (x : Table). MakesIn c.stopped.result (taken from x) b (function_encoding (option_map (stands x) c.args.ret) (stands x c.args.n) (trees_from_list (map (stands x) (drop from x.pending))) None None c.args.cv c.args.ref_qual))
-    c.self.view_is stopped
+    record {
+      makes = subst (λ (x : Table). MakesIn c.stopped.result (taken from x) b (function_encoding (option_map (stands x) c.args.ret) (stands x c.args.n) (trees_from_list (map (stands x) (drop from x.pending))) None None c.args.cv c.args.ref_qual))
+          c.self.view_is stopped;
+    }

@@ -1,5 +1,7 @@
+use Rattle.std.proofs.Common.{arith}
 use Rattle.cxx_tree.proofs.Paths.{kept-empty}
 use Rattle.cxx_tree.proofs.arena.Arena.new.Goals as goal
 
 pub invariant_of-result : goal.invariant_of-result
-invariant_of-result c = kept-empty c.new.result.items _ c.new.ensures.items
+invariant_of-result c =
+    kept-empty c.new.result.items _ _ c.new.ensures.items c.new-2.ensures.items c.new-3.ensures.items c.new-4.ensures.empty (omega arith)

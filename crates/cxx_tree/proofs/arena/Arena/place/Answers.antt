@@ -1,4 +1,4 @@
-use Rattle.std.proofs.Common.{ℕ, ◌∙◌, refl, subst, ap}
+use Rattle.std.proofs.Common.{ℕ, ◌∙◌, refl, subst, ap, arith, length, length-append}
 use Rattle.cxx_tree.specs.declared.node.Part.{Part}
 use Rattle.cxx_tree.specs.Stored.{Store, Held, Extends, forest}
 use Rattle.cxx_tree.specs.Grows.{Grows}
@@ -18,7 +18,9 @@ invariant_of-self-2 c =
       Begins-same Part h.parts h.parts refl,
       Begins-end ℕ h.texts c.args.bytes.now c.add_short.new.self (c.in_ok-add_short.ensures {u = tt}).ok,
     ) in
+    let w = c.self.invariant.4.within in
     kept-texts c.self.inside.entries.items c.self.inside.start s g e c.self.invariant
+    (record { nodes = w.nodes; items = w.items; parts = w.parts; texts = omega (arith, ap length (c.in_ok-add_short.ensures {u = tt}).ok, length-append h.texts c.args.bytes.now, (c.in_ok-range.ensures {u = tt}).to, (c.in_ok-range.ensures {u = tt}).within, c.len.ensures) })
 
 pub returns-clause-forest : goal.returns-clause-forest
 returns-clause-forest c =
@@ -42,5 +44,5 @@ returns-clause-grows c =
       Begins-same Part h.parts h.parts refl,
       Begins-end ℕ h.texts c.args.bytes.now c.add_short.new.self (c.in_ok-add_short.ensures {u = tt}).ok,
     ) in
-    let b : Store = record { nodes = s.nodes; held = g } in
-    subst (λ (r : Store). Grows r b) c.self.view_is (Grows-held s b refl (grown-forest s g e c.self.invariant.0) e)
+    let b : Store = record { nodes = s.nodes; held = g; limit = s.limit } in
+    subst (λ (r : Store). Grows r b) c.self.view_is (Grows-held s b refl (grown-forest s g e c.self.invariant.0) e refl)

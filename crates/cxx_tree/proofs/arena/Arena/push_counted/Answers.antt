@@ -15,16 +15,16 @@ use Rattle.cxx_tree.proofs.Measured.{counted-push, row-fit}
 use Rattle.cxx_tree.proofs.Grown.{Makes-refused, Makes-node, Grows-same, Grows-push, new-tree}
 use Rattle.cxx_tree.proofs.arena.Arena.push_counted.Goals as goal
 
-pub returns-then-index-gt-MAX_INDEX-clause-makes : goal.returns-then-index-gt-MAX_INDEX-clause-makes
-returns-then-index-gt-MAX_INDEX-clause-makes c =
+pub returns-then-index-self-clause-makes : goal.returns-then-index-self-clause-makes
+returns-then-index-self-clause-makes c =
     let a = c.args.self.now in Makes-refused a a (tree_of a.held (forest a) c.args.node) (Grows-same a a refl)
 
 pub returns-in-Err-clause-makes : goal.returns-in-Err-clause-makes
 returns-in-Err-clause-makes c =
     let a = c.args.self.now in
     let h : Held = (store_of c.self.inside).held in
-    let b : Store = record { nodes = nodes_of c.push.new.self.items; held = h } in
-    let same : b ≡ a = ap (λ (es : List entry.Entry). record { nodes = nodes_of es; held = h }) (c.in-Err.ensures {u = tt}).items ∙ c.self.view_is in
+    let b : Store = record { nodes = nodes_of c.push.new.self.items; held = h; limit = (store_of c.self.inside).limit } in
+    let same : b ≡ a = ap (λ (es : List entry.Entry). record { nodes = nodes_of es; held = h; limit = (store_of c.self.inside).limit }) (c.in-Err.ensures {u = tt}).items ∙ c.self.view_is in
     Makes-refused a b (tree_of a.held (forest a) c.args.node) (Grows-same a b same)
 
 pub invariant_of-self-2 : goal.invariant_of-self-2
@@ -43,9 +43,9 @@ invariant_of-self-2 c =
     let items = (c.in-Ok.ensures {u = tt}).items in
     let nodes : nodes_of c.push.new.self.items ≡ s.nodes ++ node ∷ [] =
     ap nodes_of items ∙ map-append (λ (d : entry.Entry). d.node) c.self.inside.entries.items (e ∷ []) in
-    let grown : forest (record { nodes = nodes_of c.push.new.self.items; held = h }) ≡ forest s ++ t ∷ [] =
-    ap (λ (ns : List Node). forest (record { nodes = ns; held = h })) nodes ∙ pushed-forest h s.nodes node in
-    let b : Store = record { nodes = nodes_of c.push.new.self.items; held = h } in
+    let grown : forest (record { nodes = nodes_of c.push.new.self.items; held = h; limit = (store_of c.self.inside).limit }) ≡ forest s ++ t ∷ [] =
+    ap (λ (ns : List Node). forest (record { nodes = ns; held = h; limit = (store_of c.self.inside).limit })) nodes ∙ pushed-forest h s.limit s.nodes node in
+    let b : Store = record { nodes = nodes_of c.push.new.self.items; held = h; limit = (store_of c.self.inside).limit } in
     let long : size b ≡ size s + 1 = ap length nodes ∙ length-append s.nodes (node ∷ []) in
     let last = new-tree s b t (size b - 1) (omega (arith, long)) grown in (
       subst (λ (ns : List Node). AreStored h 0 ns) (sym nodes) (stored-push h s.nodes node (size s) refl c.self.invariant.0 below),
@@ -56,6 +56,16 @@ invariant_of-self-2 c =
           (subst (λ (ns : List Node). ArePaths h ns (forest s ++ t ∷ [])) (sym nodes)
           (paths-push h s.nodes (forest s) node t (length-forest s) c.self.invariant.2 path)),
       last-open c.args.start b t (omega (arith, long)) last start,
+      record {
+        within =
+            record {
+              nodes = omega (arith, long, c.if-index-self.false, c.len-index.ensures, length-map c.self.inside.entries.items (λ (d : entry.Entry). d.node));
+              items = c.self.invariant.4.within.items;
+              parts = c.self.invariant.4.within.parts;
+              texts = c.self.invariant.4.within.texts;
+            };
+        small = c.self.invariant.4.small;
+      },
     )
 
 pub returns-clause-forest : goal.returns-clause-forest
@@ -66,15 +76,15 @@ returns-clause-forest c =
     let items = (c.in-Ok.ensures {u = tt}).items in
     let nodes : nodes_of c.push.new.self.items ≡ s.nodes ++ c.args.node ∷ [] =
     ap nodes_of items ∙ map-append (λ (d : entry.Entry). d.node) c.self.inside.entries.items (e ∷ []) in
-    subst (λ (r : Store). forest (record { nodes = nodes_of c.push.new.self.items; held = h }) ≡ forest r ++ tree_of r.held (forest r) c.args.node ∷ []) c.self.view_is
-    (ap (λ (ns : List Node). forest (record { nodes = ns; held = h })) nodes ∙ pushed-forest h s.nodes c.args.node)
+    subst (λ (r : Store). forest (record { nodes = nodes_of c.push.new.self.items; held = h; limit = (store_of c.self.inside).limit }) ≡ forest r ++ tree_of r.held (forest r) c.args.node ∷ []) c.self.view_is
+    (ap (λ (ns : List Node). forest (record { nodes = ns; held = h; limit = (store_of c.self.inside).limit })) nodes ∙ pushed-forest h s.limit s.nodes c.args.node)
 
 pub returns-clause-makes : goal.returns-clause-makes
 returns-clause-makes c =
     let a = c.args.self.now in
     let s = store_of c.self.inside in
     let h : Held = s.held in
-    let b : Store = record { nodes = nodes_of c.push.new.self.items; held = h } in
+    let b : Store = record { nodes = nodes_of c.push.new.self.items; held = h; limit = (store_of c.self.inside).limit } in
     let t : Tree = tree_of a.held (forest a) c.args.node in
     let e : entry.Entry = record { node = c.args.node; counts = c.args.counts } in
     let items = (c.in-Ok.ensures {u = tt}).items in
@@ -84,5 +94,5 @@ returns-clause-makes c =
     let index : c.len-index.result ≡ size a = omega (arith, c.len-index.ensures, ap size c.self.view_is, length-map c.self.inside.entries.items (λ (d : entry.Entry). d.node), c.self.inside.entries.ok) in
     let made = returns-clause-forest c in
     Makes-node a b t c.len-index.result (omega (arith, long, index)) (new-tree a b t c.len-index.result index made)
-    (Grows-push a b t long made (ap (λ (r : Store). r.held) c.self.view_is))
+    (Grows-push a b t long made (ap (λ (r : Store). r.held) c.self.view_is) (ap (λ (r : Store). r.limit) c.self.view_is))
     (row-fit _ _ c.requires.counts)
