@@ -3,6 +3,5 @@ pub mod Declarators
 pub mod Examples
 pub mod Items
 pub mod Packs
-pub mod Paths
 pub mod Symbols
 pub mod Turns

@@ -65,7 +65,7 @@ pub fn is_simple(arena: &Arena, i: u32) -> bool
             Plain::Leaf(is_simple, _, _) => is_simple,
             Plain::Phrase(phrase, _) => is_simple_role(phrase.role),
             Plain::Scoped(is_friend, _, name) => !is_friend && !has_args(arena, name),
-            Plain::ScopedName(_, _, _) => true,
+            Plain::ScopedName(_, _) => true,
             Plain::Data(name) => is_simple(arena, name),
             _ => false,
         },
@@ -138,7 +138,7 @@ fn is_scoped(arena: &Arena, i: u32) -> bool
 {
     match *arena.node(i) {
         Node::Plain(Plain::Scoped(is_friend, _, _)) => !is_friend,
-        Node::Plain(Plain::ScopedName(_, _, _)) => true,
+        Node::Plain(Plain::ScopedName(_, _)) => true,
         _ => false,
     }
 }

@@ -120,7 +120,7 @@ fn print_base(arena: &Arena, env: Env, i: u32, out: &mut Text) -> Result<(), All
             Plain::InModule(name, _) => print_base(arena, env, name, out),
             Plain::WithArgs(name, _) => print_base(arena, env, name, out),
             Plain::Scoped(_, _, name) => print_base(arena, env, name, out),
-            Plain::ScopedName(_, ref name, _) => write_text(arena, name, out),
+            Plain::ScopedName(_, ref name) => write_text(arena, name, out),
             _ => print_node(arena, env, i, out),
         },
         _ => print_node(arena, env, i, out),
@@ -165,7 +165,7 @@ fn scopes_of_plain(
         Plain::InModule(name, _) => print_scopes(arena, env, is_first, name, out),
         Plain::WithArgs(name, _) => print_scopes(arena, env, is_first, name, out),
         Plain::Scoped(_, scope, name) => print_from_scope(arena, env, is_first, scope, name, out),
-        Plain::ScopedName(scope, _, _) => print_last_scope(arena, env, is_first, scope, out),
+        Plain::ScopedName(scope, _) => print_last_scope(arena, env, is_first, scope, out),
         _ => Ok(()),
     }
 }

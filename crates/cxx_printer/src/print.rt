@@ -4,9 +4,9 @@
 //!
 //! A function that looks at the kind of a node calls the function for that kind last. That call is a jump, so the first
 //! function takes no stack. `#[inline(never)]` keeps the two apart.
-#![tactic(auto, using(crate::proofs::Appended::prints), unfolding(cxx_tree::specs::Stored::tree_of, cxx_tree::specs::Stored::plain_tree, cxx_tree::specs::Stored::declaration_tree, cxx_tree::specs::Stored::IsBelow, cxx_tree::specs::Stored::IsPlainBelow, cxx_tree::specs::Stored::IsDeclarationBelow, cxx_tree::specs::Paths::HasPath, cxx_tree::specs::Paths::HasPlainPath, crate::specs::Printing::print, crate::specs::Asked::text_of_part))]
+#![tactic(auto, using(crate::proofs::Appended::prints), unfolding(cxx_tree::specs::Stored::tree_of, cxx_tree::specs::Stored::plain_tree, cxx_tree::specs::Stored::declaration_tree, cxx_tree::specs::Stored::IsBelow, cxx_tree::specs::Stored::IsPlainBelow, cxx_tree::specs::Stored::IsDeclarationBelow, crate::specs::Printing::print, crate::specs::Asked::text_of_part))]
 
-ghost use Rattle.std.specs.Prelude.{◌≡◌, ℕ, nat_eq, ◌+◌, ◌<◌, ◌≤◌, Bool, true, false, List, [], ◌∷◌, ◌++◌, codes, length, Option, Some, None, if◌then◌else◌, IfOk, IfSome, slice_range};
+ghost use Rattle.std.specs.Prelude.{◌≡◌, ℕ, nat_eq, ◌+◌, ◌<◌, ◌≤◌, Bool, true, false, List, [], ◌∷◌, ◌++◌, codes, length, Option, Some, None, if◌then◌else◌, IfOk};
 ghost use Rattle.std.specs.List.{AllByRecursion};
 ghost use Rattle.cxx_tree.specs.declared.kinds.Listing.TheVariants as listing;
 ghost use Rattle.cxx_tree.specs.declared.kinds.Manner.TheVariants as manner;
@@ -14,8 +14,7 @@ ghost use Rattle.cxx_tree.specs.declared.kinds.Prec.TheVariants as prec;
 ghost use Rattle.cxx_tree.specs.declared.node.Node.TheVariants as node;
 ghost use Rattle.cxx_tree.specs.Tree.{Tree, named, pack, pointer, qualified, reference, scoped, with_args};
 ghost use Rattle.cxx_tree.specs.Measure.{measure};
-ghost use Rattle.cxx_tree.specs.Stored.{forest, size, tree_of, IsBelow, tree_at, trees_at, trees_in, option_at, plain_tree, declaration_tree, parts_in, text_at, IsText, IsListBelow, IsOptionBelow, IsPlainBelow, IsDeclarationBelow, IsPartsBelow, IsPartBelow, IsRange};
-ghost use Rattle.cxx_tree.specs.Paths.{IsPath};
+ghost use Rattle.cxx_tree.specs.Stored.{forest, size, tree_of, IsBelow, tree_at, trees_at, trees_in, option_at, plain_tree, declaration_tree, parts_in, text_at, IsText, IsListBelow, IsOptionBelow, IsPlainBelow, IsDeclarationBelow, IsPartsBelow, IsPartBelow};
 ghost use Rattle.cxx_printer.specs.declared.shapes.Ending.TheVariants as ending;
 ghost use Rattle.cxx_printer.specs.Heads as heads;
 ghost use Rattle.cxx_printer.specs.Printing as spec;
@@ -29,18 +28,18 @@ use crate::operands::{
 };
 use crate::shapes::{
     Ending, element, ending_of, ending_of_list, form_of, has_right, is_closed, is_one_sided,
-    is_plain, is_starred, referent_of,
+    is_plain, is_starred, referent_of, two_names,
 };
 use crate::words::member_opened;
 use crate::writing::{
     styled_bytes, try_separator, write, write_behind, write_blank_unless, write_byte, write_closed,
     write_cv, write_cv_mark, write_equals, write_id, write_item, write_joined, write_mark,
-    write_number, write_opened, write_path, write_ref, write_separator, write_sizeof, write_star,
-    write_std, write_styled, write_text,
+    write_number, write_opened, write_ref, write_separator, write_sizeof, write_star, write_std,
+    write_styled, write_text,
 };
 use cxx_tree::{
     Arena, Cv, Declaration, Encoding, Function, List, Listing, Manner, Node, Part, Parts, Phrase,
-    Plain, Prec, Range,
+    Plain, Prec,
 };
 use growing_text::Text;
 use std::alloc::AllocError;
@@ -53,8 +52,8 @@ pub fn print(arena: &Arena, env: Env, i: u32, out: &mut Text) -> Result<(), Allo
     ensures prints { Prints result out.old out.new (spec.whole (spec.print (tree_at (forest arena.now) i) env)) }
 {
     match *arena.node(i) {
-        Node::Plain(Plain::ScopedName(scope, ref name, path)) => print_scoped_name(
-            arena, env, scope, name, path, out,
+        Node::Plain(Plain::ScopedName(scope, ref name)) => print_scoped_name(
+            arena, env, scope, name, out,
         ),
         _ => print_node(arena, env, i, out),
     }
@@ -68,8 +67,8 @@ pub fn print_node(arena: &Arena, env: Env, i: u32, out: &mut Text) -> Result<(),
     ensures prints { Prints result out.old out.new (spec.whole (spec.print (tree_at (forest arena.now) i) env)) }
 {
     match *arena.node(i) {
-        Node::Plain(Plain::ScopedName(scope, ref name, path)) => print_scoped_name(
-            arena, env, scope, name, path, out,
+        Node::Plain(Plain::ScopedName(scope, ref name)) => print_scoped_name(
+            arena, env, scope, name, out,
         ),
         Node::Plain(Plain::WithArgs(name, args)) => print_with_args(arena, env, i, name, args, out),
         Node::Plain(Plain::Phrase(phrase, parts)) => print_phrase(
@@ -369,7 +368,7 @@ fn right_plain(
             (),
         ),
         Plain::Scoped(is_friend, _, _) => if is_friend { Ok(()) } else { Ok(()) },
-        Plain::ScopedName(_, _, _) => Ok(()),
+        Plain::ScopedName(_, _) => Ok(()),
         Plain::WithArgs(_, _) | Plain::AbiTag(_, _) | Plain::InModule(_, _) | Plain::Data(_) => Ok(
             (),
         ),
@@ -402,9 +401,7 @@ fn print_plain(
         Plain::Scoped(is_friend, scope, name) => print_in_scope(
             arena, env, is_friend, scope, name, out,
         ),
-        Plain::ScopedName(scope, ref name, _) => print_scoped_name(
-            arena, env, scope, name, None, out,
-        ),
+        Plain::ScopedName(scope, ref name) => print_scoped_name(arena, env, scope, name, out),
         Plain::WithArgs(name, args) => print_with_args(arena, env, bound, name, args, out),
         Plain::AbiTag(name, ref tag) => print_abi_tag(arena, env, name, tag, out),
         Plain::InModule(name, owner) => print_in_module(arena, env, name, owner, out),
@@ -437,7 +434,7 @@ fn print_in_scope(
     print_scoped(arena, env, scope, name, out)
 }
 
-// Appends a scope, and a name that is a text. A name that stands in one piece with its scopes is copied at once.
+// Appends a scope, and a name that is a text. Names are copied here, without a call.
 #[inline(never)]
 #[cycle(printer)]
 fn print_scoped_name(
@@ -445,21 +442,14 @@ fn print_scoped_name(
     env: Env,
     scope: u32,
     name: &cxx_tree::Text,
-    path: Option<Range>,
     out: &mut Text,
 ) -> Result<(), AllocError>
     requires scope { scope < size arena.now }
     requires name { IsText arena.now.held name.now }
-    requires piece { IfSome path (IsRange (length arena.now.held.texts)) }
-    requires path { IfSome path (λ r. IsPath (scoped false (tree_at (forest arena.now) scope)
-        (named (text_at arena.now.held name.now))) (slice_range arena.now.held.texts r.from r.to)) }
     ensures prints { Prints result out.old out.new (spec.scope_text env (spec.print (tree_at (forest arena.now) scope)
         env) ++ (codes "::" ++ spec.whole (spec.print (named (text_at arena.now.held name.now)) env))) }
 {
-    match path {
-        Some(range) => write_path(arena.piece(range), out),
-        None => print_scoped_text(arena, env, scope, arena.bytes(*name), out),
-    }
+    print_scoped_text(arena, env, scope, arena.bytes(*name), out)
 }
 
 // Appends what a name in a scope prints.
@@ -496,8 +486,33 @@ fn print_scoped_text(
     ensures prints { Prints result out.old out.new (spec.scope_text env (spec.print (tree_at (forest arena.now) scope)
         env) ++ (codes "::" ++ name.now)) }
 {
-    match arena.path(scope) {
-        Some(path) => write_joined(path, name, out),
+    match *arena.node(scope) {
+        Node::Plain(Plain::Name(text)) => write_joined(arena.bytes(text), name, out),
+        _ => print_path(arena, env, scope, name, out),
+    }
+}
+
+// Appends a scope, and a text after it. A scope that is a name in another one is copied here, without a call.
+#[inline(never)]
+#[cycle(printer)]
+fn print_path(
+    arena: &Arena,
+    env: Env,
+    scope: u32,
+    name: &[u8],
+    out: &mut Text,
+) -> Result<(), AllocError>
+    requires scope { scope < size arena.now }
+    ensures prints { Prints result out.old out.new (spec.scope_text env (spec.print (tree_at (forest arena.now) scope)
+        env) ++ (codes "::" ++ name.now)) }
+{
+    match two_names(arena, scope) {
+        Some((first, second)) => {
+            if !out.try_joined(first, b"::", second) {
+                return print_behind_scope(arena, env, scope, name, out);
+            }
+            write_behind(out, b"::", name)
+        }
         None => print_behind_scope(arena, env, scope, name, out),
     }
 }
@@ -805,8 +820,8 @@ fn print_item(
 {
     let is_first = out.len() == start;
     match *arena.node(t) {
-        Node::Plain(Plain::ScopedName(scope, ref name, path)) => print_scoped_item(
-            arena, env, is_first, t, scope, name, path, out,
+        Node::Plain(Plain::ScopedName(scope, ref name)) => print_scoped_item(
+            arena, env, is_first, t, scope, name, out,
         ),
         Node::Plain(Plain::WithArgs(name, args)) => print_args_item(
             arena, env, is_first, t, name, args, out,
@@ -881,7 +896,6 @@ fn print_scoped_item(
     t: u32,
     scope: u32,
     name: &cxx_tree::Text,
-    path: Option<Range>,
     out: &mut Text,
 ) -> Result<(), AllocError>
     requires within { t < size arena.now }
@@ -889,16 +903,13 @@ fn print_scoped_item(
     requires name { IsText arena.now.held name.now }
     requires tree { tree_at (forest arena.now) t ≡ scoped false (tree_at (forest arena.now) scope)
         (named (text_at arena.now.held name.now)) }
-    requires piece { IfSome path (IsRange (length arena.now.held.texts)) }
-    requires path { IfSome path (λ r. IsPath (tree_at (forest arena.now) t) (slice_range arena.now.held.texts r.from
-        r.to)) }
     ensures prints { Prints result out.old out.new (spec.item_behind is_first (spec.item_text env (item (tree_at
         (forest arena.now) t)))) }
 {
     if !try_separator(is_first, out) {
         return print_any_item(arena, env, is_first, t, out);
     }
-    print_scoped_name(arena, env, scope, name, path, out)
+    print_scoped_name(arena, env, scope, name, out)
 }
 
 #[inline(always)]

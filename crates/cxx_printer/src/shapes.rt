@@ -80,6 +80,33 @@ pub fn is_plain(arena: &Arena, i: u32) -> bool
     }
 }
 
+// Returns the text of a name. Of another node it returns nothing.
+#[inline(always)]
+fn name_of(arena: &Arena, i: u32) -> Option<&[u8]>
+    requires within { i < size arena.now }
+    ensures value { IfSome result (λ w. tree_at (forest arena.now) i ≡ named w.now) }
+{
+    match *arena.node(i) {
+        Node::Plain(Plain::Name(text)) => Some(arena.bytes(text)),
+        _ => None,
+    }
+}
+
+/// Returns the texts of a name and of the name that is its scope. Of another node it returns nothing.
+#[inline(always)]
+pub fn two_names(arena: &Arena, i: u32) -> Option<(&[u8], &[u8])>
+    requires within { i < size arena.now }
+    ensures value { IfSome result (λ p. tree_at (forest arena.now) i ≡ scoped false (named p.0.now) (named p.1.now)) }
+{
+    match *arena.node(i) {
+        Node::Plain(Plain::ScopedName(scope, name)) => match name_of(arena, scope) {
+            Some(first) => Some((first, arena.bytes(name))),
+            None => None,
+        },
+        _ => None,
+    }
+}
+
 /// Returns whether a tree has a right side.
 pub fn has_right(arena: &Arena, env: Env, i: u32) -> bool
     requires within { i < size arena.now }
@@ -270,7 +297,7 @@ fn ending_of_plain(arena: &Arena, env: Env, bound: u32, plain: &Plain) -> Ending
         Plain::StdName(std, is_expanded) => ending_of_text(std_text(env.style, std, is_expanded)),
         Plain::Phrase(phrase, parts) => ending_of_phrase(arena, env, bound, phrase, parts),
         Plain::Scoped(is_friend, _, name) => ending_of_scoped(arena, env, is_friend, name),
-        Plain::ScopedName(_, name, _) => ending_of_text(arena.bytes(name)),
+        Plain::ScopedName(_, name) => ending_of_text(arena.bytes(name)),
         Plain::WithArgs(_, _) => Ending::Greater,
         Plain::AbiTag(_, _) => Ending::Other,
         Plain::InModule(_, owner) => ending_of(arena, env, owner),

@@ -53,14 +53,6 @@ pub fn write_joined(scope: &[u8], name: &[u8], out: &mut Text) -> Result<(), All
     write_long_joined(scope, name, out)
 }
 
-/// Appends a text. One of up to 64 bytes is copied here, without a call.
-#[inline(always)]
-pub fn write_path(text: &[u8], out: &mut Text) -> Result<(), AllocError>
-    ensures prints { Prints result out.old out.new text.now }
-{
-    out.add(text)
-}
-
 // Appends two texts of any length with `::` between them.
 #[inline(never)]
 fn write_long_joined(scope: &[u8], name: &[u8], out: &mut Text) -> Result<(), AllocError>

@@ -52,7 +52,7 @@ pub fn base_name(arena: &Arena, i: u32) -> Text
         Node::Plain(Plain::InModule(name, _)) => base_name(arena, name),
         Node::Plain(Plain::WithArgs(name, _)) => base_name(arena, name),
         Node::Plain(Plain::Scoped(_, _, name)) => base_name(arena, name),
-        Node::Plain(Plain::ScopedName(_, text, _)) => text,
+        Node::Plain(Plain::ScopedName(_, text)) => text,
         _ => Text::Fixed(b""),
     }
 }
@@ -70,7 +70,7 @@ pub fn args_of(arena: &Arena, i: u32) -> Option<List>
             Some(args) => Some(args),
             None => args_of(arena, scope),
         },
-        Node::Plain(Plain::ScopedName(scope, _, _)) => args_of(arena, scope),
+        Node::Plain(Plain::ScopedName(scope, _)) => args_of(arena, scope),
         Node::Plain(Plain::AbiTag(name, _)) => args_of(arena, name),
         Node::Plain(Plain::InModule(name, _)) => args_of(arena, name),
         _ => None,

@@ -18,7 +18,8 @@ use std::alloc::{AllocError, Global};
 pub fn name(arena: &mut Arena, text: &[u8]) -> Result<u32, PushError>
     ensures makes { Makes result arena.old arena.new (named text.now) }
 {
-    arena.push_name(text)
+    let text = arena.text(text)?;
+    arena.push(Node::Plain(Plain::Name(text)))
 }
 
 /// Makes a name in a scope.
@@ -28,7 +29,8 @@ pub fn name_in(arena: &mut Arena, scope: u32, text: &[u8]) -> Result<u32, PushEr
     ensures makes { Makes result arena.old arena.new
         (scoped false (tree_at (forest arena.old) scope) (named text.now)) }
 {
-    arena.push_scoped_name(scope, text)
+    let text = arena.text(text)?;
+    arena.push(Node::Plain(Plain::ScopedName(scope, text)))
 }
 
 /// Makes the literal of an integer: a number, between the texts around it.

@@ -5,6 +5,7 @@ use Rattle.std.proofs.Math.Seq.{get_or-append_seam}
 use Rattle.std.proofs.lemmas.Grind.{common_steps}
 use Rattle.std.proofs.lemmas.List.{append-nil}
 use Rattle.std.specs.List.{AllByRecursion}
+use Rattle.cxx_tree.specs.declared.arena.Entry as entry
 use Rattle.cxx_tree.specs.declared.node.Range.{Range}
 use Rattle.cxx_tree.specs.declared.node.Text.{Text}
 use Rattle.cxx_tree.specs.declared.node.Text.TheVariants.{Fixed, Stored}
@@ -19,8 +20,9 @@ use Rattle.cxx_tree.specs.declared.node.Declaration.TheVariants as declaration
 use Rattle.cxx_tree.specs.declared.node.Node.{Node}
 use Rattle.cxx_tree.specs.declared.node.Node.TheVariants as node
 use Rattle.cxx_tree.specs.Tree.{Tree, named, scoped, phrase, with_args, abi_tag, data_name, objc_protocol, listed, expansion, pack_param, qualified, pointer, reference, array, pack, no_trees, more_trees, text, tree}
-use Rattle.cxx_tree.specs.Stored.{Held, Store, text_at, list_at, parts_at, tree_at, trees_at, trees_in, option_at, parts_of, parts_in, plain_tree, declaration_tree, tree_of, IsRange, IsText, IsListBelow, IsPartBelow, IsPartsBelow, IsOptionBelow, IsPlainBelow, IsDeclarationBelow, IsBelow, trees_from, forest, size, Begins, Extends}
-use Rattle.cxx_tree.specs.View.{AreStored, IsStore}
+use Rattle.cxx_tree.specs.Stored.{Held, Store, text_at, list_at, parts_at, tree_at, trees_at, trees_in, option_at, parts_of, parts_in, plain_tree, declaration_tree, tree_of, IsRange, IsText, IsListBelow, IsPartBelow, IsPartsBelow, IsOptionBelow, IsPlainBelow, IsDeclarationBelow, IsBelow, trees_from, forest, size, Begins, Extends, IsWithin}
+use Rattle.cxx_tree.specs.View.{AreStored, IsStore, IsKept, nodes_of}
+use Rattle.cxx_tree.specs.Counts.{AreCounted}
 
 -- a node at the end
 pub trees_from-push : (h : Held) (ts : List Tree) (ns : List Node) (n : Node) → trees_from h ts (ns ++ n ∷ []) ≡ trees_from h ts ns ++ tree_of h (trees_from h ts ns) n ∷ []
@@ -66,7 +68,7 @@ plain_tree-same h n ts us agree (plain.StdName std expanded) b = refl
 plain_tree-same h n ts us agree (plain.Phrase attributes ps) b =
     ap (phrase attributes) (parts_of-same h n ts us agree (parts_at h ps) b.1)
 plain_tree-same h n ts us agree (plain.Scoped friend scope name) b = let one = agree scope b.0 in let two = agree name b.1 in cc
-plain_tree-same h n ts us agree (plain.ScopedName scope name path) b = ap (λ (t : Tree). scoped false t (named (text_at h name))) (agree scope b.0)
+plain_tree-same h n ts us agree (plain.ScopedName scope name) b = ap (λ (t : Tree). scoped false t (named (text_at h name))) (agree scope b.0)
 plain_tree-same h n ts us agree (plain.WithArgs name args) b =
     let one = agree name b.0 in let rest = trees_at-same n ts us agree (list_at h args) b.1.1 in cc
 plain_tree-same h n ts us agree (plain.AbiTag name tag) b = ap (λ (t : Tree). abi_tag t (text_at h tag)) (agree name b.0)
@@ -187,7 +189,7 @@ plain_tree-more h g e n ts (plain.Leaf simple x y) b = let one = text_at-more h 
 plain_tree-more h g e n ts (plain.StdName std expanded) b = refl
 plain_tree-more h g e n ts (plain.Phrase attributes ps) b = ap (phrase attributes) (parts_in-more h g e n ts ps b)
 plain_tree-more h g e n ts (plain.Scoped friend scope name) b = refl
-plain_tree-more h g e n ts (plain.ScopedName scope name path) b = ap (λ (bytes : List ℕ). scoped false (tree_at ts scope) (named bytes)) (text_at-more h g e name b.1)
+plain_tree-more h g e n ts (plain.ScopedName scope name) b = ap (λ (bytes : List ℕ). scoped false (tree_at ts scope) (named bytes)) (text_at-more h g e name b.1)
 plain_tree-more h g e n ts (plain.WithArgs name args) b = ap (with_args (tree_at ts name)) (trees_in-more h g e n ts args b.1)
 plain_tree-more h g e n ts (plain.AbiTag name tag) b = ap (abi_tag (tree_at ts name)) (text_at-more h g e tag b.1)
 plain_tree-more h g e n ts (plain.InModule name owner) b = refl
@@ -266,9 +268,7 @@ IsPlainBelow-more h g e n m le (plain.Leaf simple x y) b = (IsText-more h g e x 
 IsPlainBelow-more h g e n m le (plain.StdName std expanded) b = b
 IsPlainBelow-more h g e n m le (plain.Phrase attributes ps) b = IsPartsBelow-more h g e n m le ps b
 IsPlainBelow-more h g e n m le (plain.Scoped friend scope name) b = (omega (arith, le, b.0), omega (arith, le, b.1))
-IsPlainBelow-more h g e n m le (plain.ScopedName scope name None) b = (omega (arith, le, b.0), IsText-more h g e name b.1, tt)
-IsPlainBelow-more h g e n m le (plain.ScopedName scope name (Some r)) b =
-    (omega (arith, le, b.0), IsText-more h g e name b.1, IsText-more h g e (Stored r) b.2)
+IsPlainBelow-more h g e n m le (plain.ScopedName scope name) b = (omega (arith, le, b.0), IsText-more h g e name b.1)
 IsPlainBelow-more h g e n m le (plain.WithArgs name args) b = (omega (arith, le, b.0), IsListBelow-more h g e n m le args b.1)
 IsPlainBelow-more h g e n m le (plain.AbiTag name tag) b = (omega (arith, le, b.0), IsText-more h g e tag b.1)
 IsPlainBelow-more h g e n m le (plain.InModule name owner) b = (omega (arith, le, b.0), omega (arith, le, b.1))
@@ -344,5 +344,15 @@ Begins-end A xs zs ys e = (zs, e)
 
 pub Begins-same : (A : Type 0) (xs ys : List A) → ys ≡ xs → Begins A xs ys
 Begins-same A xs ys e = ([], e ∙ sym (append-nil xs))
+
+-- nothing is kept of what is empty
+pub kept-empty : (es : List entry.Entry) (h : Held) (m : ℕ) → es ≡ [] → h.lists ≡ [] → h.parts ≡ [] → h.texts ≡ [] → m ≤ 4294967295 → IsKept es (record { nodes = nodes_of es; held = h; limit = m })
+unfolding AreCounted forest
+kept-empty es h m e l p x small =
+    let s : Store = record { nodes = nodes_of es; held = h; limit = m } in
+    let within : IsWithin m s =
+    record { nodes = omega (arith, ap length (ap nodes_of e)); items = omega (arith, ap length l); parts = omega (arith, ap length p); texts = omega (arith, ap length x) } in
+    let none : AreStored h 0 (nodes_of es) × AreCounted es (forest s) = rw e (tt, tt) in
+    (none.0, none.1, record { within = within; small = small })
 
 pub ruleset laws = (AreStored-more, stored-push)

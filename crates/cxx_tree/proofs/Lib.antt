@@ -4,5 +4,4 @@ pub mod Grown
 pub mod InScope
 pub mod Making
 pub mod Measured
-pub mod Paths
 pub mod Replaced

@@ -2,7 +2,6 @@ pub mod Tree
 pub mod Measure
 pub mod Stored
 pub mod Counts
-pub mod Paths
 pub mod Grows
 pub mod View
 pub mod Rows

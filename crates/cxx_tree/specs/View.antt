@@ -1,11 +1,10 @@
 -- What an arena keeps of the nodes that it holds.
-use Rattle.std.specs.Prelude.{ℕ, ◌+◌, ◌≤◌, List, [], ◌∷◌, map, Option, IfSome}
+use Rattle.std.specs.Prelude.{ℕ, ◌+◌, ◌≤◌, List, [], ◌∷◌, map}
 use Rattle.cxx_tree.specs.declared.arena.Arena.TheInside.{Inside}
 use Rattle.cxx_tree.specs.declared.arena.Entry as stored
 use Rattle.cxx_tree.specs.declared.node.Node.{Node}
 use Rattle.cxx_tree.specs.Stored.{Held, Store, IsBelow, IsWithin, forest}
 use Rattle.cxx_tree.specs.Counts.{AreCounted}
-use Rattle.cxx_tree.specs.Paths.{ArePaths, IsLastOpen}
 
 -- the nodes that entries hold
 abbrev pub nodes_of : List stored.Entry → List Node
@@ -31,11 +30,9 @@ pub record KeepsLimit (s : Store) : Type 0 where
   pub within : IsWithin s.limit s
   pub small : s.limit ≤ 4294967295
 
--- the nodes with their counts, the places of their texts, and the limit
-abbrev pub IsKept : List stored.Entry → Option ℕ → Store → Type 0
-IsKept es start s =
-    IsStore s × AreCounted es (forest s) × ArePaths s.held s.nodes (forest s) × IfSome start (IsLastOpen s)
-    × KeepsLimit s
+-- the nodes with their counts, and the limit
+abbrev pub IsKept : List stored.Entry → Store → Type 0
+IsKept es s = IsStore s × AreCounted es (forest s) × KeepsLimit s
 
 abbrev pub IsConsistent : Inside → Type 0
-IsConsistent a = IsKept a.entries.items a.start (store_of a)
+IsConsistent a = IsKept a.entries.items (store_of a)

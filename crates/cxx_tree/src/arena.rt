@@ -1,18 +1,16 @@
 //! An arena of nodes, and what they refer to.
 #![tactic(auto, using(crate::proofs::Forest::laws, crate::proofs::Grown::grows), unfolding(crate::specs::Stored::forest, crate::specs::Counts::AreCounted))]
 
-ghost use Rattle.std.specs.Prelude.{◌≡◌, ℕ, ◌+◌, ◌<◌, ◌≤◌, [], ◌∷◌, ◌++◌, codes, drop, length, min, slice_range, true, false, Some, OnOk, OnErr, IfOk, IfSome, IsErrOf, IsOkUnless};
+ghost use Rattle.std.specs.Prelude.{◌≡◌, ℕ, ◌+◌, ◌<◌, ◌≤◌, [], ◌∷◌, ◌++◌, length, min, true, false, OnOk, OnErr, IfOk, IsErrOf, IsOkUnless};
 ghost use Rattle.cxx_tree.specs.Measure as spec;
 ghost use Rattle.cxx_tree.specs.Counts.{Row, AreExact};
 ghost use Rattle.cxx_tree.specs.Grows.{Grows, Makes};
-ghost use Rattle.cxx_tree.specs.Paths.{IsPath, HasPath, HasPlainPath, IsOpen, IsPlaced, joined_to};
-ghost use Rattle.cxx_tree.specs.Tree.{Tree, named, scoped};
 ghost use Rattle.cxx_tree.specs.declared.arena.PushError.TheVariants as PushError;
 ghost use Rattle.std.specs.List.{AllByRecursion};
-ghost use Rattle.cxx_tree.specs.Stored.{Store, IsWithin, forest, size, tree_of, plain_tree, tree_at, IsBelow, IsPlainBelow, IsText, IsRange, text_at, list_at, parts_at};
+ghost use Rattle.cxx_tree.specs.Stored.{Store, IsWithin, forest, size, tree_of, tree_at, IsBelow, IsText, IsRange, text_at, list_at, parts_at};
 
 use crate::counts::Measure;
-use crate::measuring::{in_scope, of_name, of_node, text_len};
+use crate::measuring::of_node;
 use crate::node::{List, Node, Part, Parts, Plain, Range, Text};
 use std::alloc::{AllocError, Global};
 use std::marker::Model;
@@ -53,8 +51,6 @@ pub struct Arena {
     lists: Vec<u32>,
     parts: Vec<Part>,
     texts: growing_text::Text,
-    // Where the text of the last node begins, if the texts end with it: a name, or a name in scopes.
-    start: Option<u32>,
     // The most nodes, items of lists, parts of phrases and bytes of texts, each.
     limit: usize,
 }
@@ -84,7 +80,6 @@ impl Arena {
             lists: Vec::new(alloc),
             parts: Vec::new(alloc),
             texts: growing_text::Text::new(alloc),
-            start: None,
             limit: MAX_LIMIT,
         }
     }
@@ -101,7 +96,6 @@ impl Arena {
         self.lists.clear();
         self.parts.clear();
         self.texts.clear();
-        self.start = None;
         self.limit = limit.min(MAX_LIMIT);
     }
 
@@ -126,7 +120,6 @@ impl Arena {
         requires within { i < size self.now }
         ensures tree { tree_at (forest self.now) i ≡ tree_of self.now.held (forest self.now) result.now }
         ensures below { IsBelow self.now.held i result.now }
-        ensures path { HasPath self.now.held result.now (tree_at (forest self.now) i) }
         ensures fits { (spec.measure (tree_at (forest self.now) i)).fits ≡ true }
     {
         &self.entries[i as usize].node
@@ -200,115 +193,15 @@ impl Arena {
             Some(counts) => counts,
             None => return Err(PushError::Limit),
         };
-        self.push_counted(without_path(node), counts, None)
+        self.push_counted(node, counts)
     }
 
-    /// Appends a name, and returns its index.
-    #[tactic(auto, using(
-    // How an arena grows, and what is copied to it.
-    crate::proofs::Making::making, crate::proofs::Grown::grows, crate::proofs::Paths::placed), unfolding(
-    // The tree of a node, and what it refers to.
-    crate::specs::Stored::tree_of, crate::specs::Stored::plain_tree, crate::specs::Stored::IsBelow, crate::specs::Stored::IsPlainBelow, crate::specs::Paths::HasPath, crate::specs::Paths::HasPlainPath))]
+    // Appends a node with its counts, and returns its index.
     #[inline(always)]
-    pub fn push_name(&mut self, name: &[u8]) -> Result<u32, PushError>
-        ensures makes { Makes result self.old self.new (named name.now) }
-        ensures few { size self.new ≤ size self.old + 1 }
-        ensures memory { length self.new.held.texts ≤ length self.old.held.texts + length name.now }
-        ensures lists { self.new.held.lists ≡ self.old.held.lists }
-        ensures parts { self.new.held.parts ≡ self.old.held.parts }
-    {
-        let range = self.place(name)?;
-        let text = Text::Stored(range);
-        let Some(counts) = of_name(text_len(self, text)) else {
-            return Err(PushError::Limit);
-        };
-        self.push_counted(Node::Plain(Plain::Name(text)), counts, Some(range.from))
-    }
-
-    /// Appends a name in a scope that stands here, and returns its index. If the texts end with that of the scope, they
-    /// go on with `::` and the name.
-    #[tactic(auto, using(
-    // How an arena grows, and what is copied to it.
-    crate::proofs::Making::making, crate::proofs::Grown::grows, crate::proofs::Paths::placed), unfolding(
-    // The tree of a node, and what it refers to.
-    crate::specs::Stored::tree_of, crate::specs::Stored::plain_tree, crate::specs::Stored::IsBelow, crate::specs::Stored::IsPlainBelow, crate::specs::Paths::HasPath, crate::specs::Paths::HasPlainPath))]
-    #[inline(always)]
-    pub fn push_scoped_name(&mut self, scope: u32, name: &[u8]) -> Result<u32, PushError>
-        requires scope { scope < size self.old }
-        ensures makes { Makes result self.old self.new
-            (scoped false (tree_at (forest self.old) scope) (named name.now)) }
-        ensures few { size self.new ≤ size self.old + 1 }
-        ensures memory { length self.new.held.texts ≤ length self.old.held.texts + length name.now + 2 }
-        ensures lists { self.new.held.lists ≡ self.old.held.lists }
-        ensures parts { self.new.held.parts ≡ self.old.held.parts }
-    {
-        let start = self.start_of(scope);
-        let range = self.place_in(start, name)?;
-        let text = Text::Stored(range);
-        let Some(counts) = in_scope(self, scope, text) else {
-            return Err(PushError::Limit);
-        };
-        let path = range_from(start, range.to);
-        self.push_counted(
-            Node::Plain(Plain::ScopedName(scope, text, path)),
-            counts,
-            start,
-        )
-    }
-
-    // Where the text of a node begins, if it is the last one and the texts end with its text.
-    #[inline(always)]
-    fn start_of(&self, i: u32) -> Option<u32>
-        requires within { i < size self.now }
-        ensures start { IfSome result (IsOpen (tree_at (forest self.now) i) self.now.held.texts) }
-    {
-        if i as usize + 1 != self.entries.len() {
-            return None;
-        }
-        self.start
-    }
-
-    /// Returns the text of a name, or of a name in scopes, if it stands in one piece.
-    #[tactic(auto, using(
-    // How an arena grows, and what is copied to it.
-    crate::proofs::Making::making, crate::proofs::Grown::grows, crate::proofs::Paths::placed), unfolding(
-    // The tree of a node, and what it refers to.
-    crate::specs::Stored::tree_of, crate::specs::Stored::plain_tree, crate::specs::Stored::IsBelow, crate::specs::Stored::IsPlainBelow, crate::specs::Paths::HasPath, crate::specs::Paths::HasPlainPath))]
-    #[inline(always)]
-    pub fn path(&self, i: u32) -> Option<&[u8]>
-        requires within { i < size self.now }
-        ensures value { IfSome result (λ w. IsPath (tree_at (forest self.now) i) w.now) }
-    {
-        match *self.node(i) {
-            Node::Plain(Plain::Name(text)) => Some(self.bytes(text)),
-            Node::Plain(Plain::ScopedName(_, _, Some(range))) => Some(self.piece(range)),
-            _ => None,
-        }
-    }
-
-    /// Returns the bytes of a range of the texts.
-    #[inline(always)]
-    pub fn piece(&self, range: Range) -> &[u8]
-        requires within { IsRange (length self.now.held.texts) range }
-        ensures value { result.now ≡ slice_range self.now.held.texts range.from range.to }
-    {
-        self.texts.part(range.from as usize, range.to as usize)
-    }
-
-    // Appends a node with its counts, and returns its index. If the texts end with its text, it is given where that
-    // begins.
-    #[inline(always)]
-    fn push_counted(
-        &mut self,
-        node: Node,
-        counts: Measure,
-        start: Option<u32>,
-    ) -> Result<u32, PushError>
+    fn push_counted(&mut self, node: Node, counts: Measure) -> Result<u32, PushError>
         requires below { IsBelow self.old.held (size self.old) node }
         requires counts { Row counts (spec.measure (tree_of self.old.held (forest self.old) node)) }
         requires exact { AreExact (spec.measure (tree_of self.old.held (forest self.old) node)) }
-        requires path { HasPath self.old.held node (tree_of self.old.held (forest self.old) node) }
-        requires start { IfSome start (IsOpen (tree_of self.old.held (forest self.old) node) self.old.held.texts) }
         ensures index { IfOk result (λ i. i ≡ size self.old) }
         ensures size { OnOk result (size self.new ≡ size self.old + 1) }
         ensures forest { OnOk result (forest self.new ≡ forest self.old ++ tree_of self.old.held (forest self.old)
@@ -326,7 +219,6 @@ impl Arena {
             Ok(()) => {}
             Err(_) => return Err(PushError::Memory),
         }
-        self.start = start;
         Ok(index as u32)
     }
 
@@ -343,62 +235,9 @@ impl Arena {
         ensures parts { self.new.held.parts ≡ self.old.held.parts }
         ensures err { OnErr result (self.new ≡ self.old) }
     {
-        let range = self.place(bytes)?;
-        Ok(Text::Stored(range))
-    }
-
-    // Copies a text. Returns where it stands.
-    #[inline(always)]
-    fn place(&mut self, bytes: &[u8]) -> Result<Range, AllocError>
-        ensures ok { IfOk result (λ r. IsPlaced self.old.held.texts bytes.now r self.new.held.texts) }
-        ensures nodes { self.new.nodes ≡ self.old.nodes }
-        ensures forest { forest self.new ≡ forest self.old }
-        ensures grows { Grows self.old self.new }
-        ensures lists { self.new.held.lists ≡ self.old.held.lists }
-        ensures parts { self.new.held.parts ≡ self.old.held.parts }
-        ensures err { OnErr result (self.new ≡ self.old) }
-    {
         let range = range_behind(self.texts.len(), bytes.len(), self.limit)?;
         self.texts.add_short(bytes)?;
-        self.start = None;
-        Ok(range)
-    }
-
-    // Copies `::` and a text. Returns where the text stands.
-    #[inline(always)]
-    fn place_joined(&mut self, bytes: &[u8]) -> Result<Range, AllocError>
-        ensures ok { IfOk result (λ r. IsPlaced (self.old.held.texts ++ codes "::") bytes.now r self.new.held.texts) }
-        ensures nodes { self.new.nodes ≡ self.old.nodes }
-        ensures forest { forest self.new ≡ forest self.old }
-        ensures grows { Grows self.old self.new }
-        ensures lists { self.new.held.lists ≡ self.old.held.lists }
-        ensures parts { self.new.held.parts ≡ self.old.held.parts }
-        ensures err { OnErr result (self.new ≡ self.old) }
-    {
-        let range = range_behind(self.texts.len(), bytes.len() + 2, self.limit)?;
-        self.texts.add_behind(b"::", bytes)?;
-        self.start = None;
-        Ok(Range {
-            from: range.from + 2,
-            to: range.to,
-        })
-    }
-
-    // Copies a name, after `::` if the text of its scope begins somewhere. Returns where the name stands.
-    #[inline(always)]
-    fn place_in(&mut self, start: Option<u32>, name: &[u8]) -> Result<Range, AllocError>
-        ensures ok { IfOk result (λ r. IsPlaced (joined_to start self.old.held.texts) name.now r self.new.held.texts) }
-        ensures nodes { self.new.nodes ≡ self.old.nodes }
-        ensures forest { forest self.new ≡ forest self.old }
-        ensures grows { Grows self.old self.new }
-        ensures lists { self.new.held.lists ≡ self.old.held.lists }
-        ensures parts { self.new.held.parts ≡ self.old.held.parts }
-        ensures err { OnErr result (self.new ≡ self.old) }
-    {
-        match start {
-            Some(_) => self.place_joined(name),
-            None => self.place(name),
-        }
+        Ok(Text::Stored(range))
     }
 
     /// Copies a list of nodes.
@@ -451,44 +290,4 @@ fn range_behind(len: usize, more: usize, limit: usize) -> Result<Range, AllocErr
         from: len as u32,
         to: (len + more) as u32,
     })
-}
-
-// The range from a place on, if there is one.
-#[inline(always)]
-fn range_from(start: Option<u32>, to: u32) -> Option<Range>
-    ensures value { IfSome result (λ r. (start ≡ Some r.from) × (r.to ≡ to)) }
-{
-    match start {
-        Some(from) => Some(Range { from, to }),
-        None => None,
-    }
-}
-
-// The node without the place of its text.
-#[tactic(auto, unfolding(crate::specs::Stored::tree_of, crate::specs::Stored::IsBelow, crate::specs::Paths::HasPath))]
-#[inline(always)]
-fn without_path(node: Node) -> Node
-    ensures tree { (s : Store) → tree_of s.held (forest s) result ≡ tree_of s.held (forest s) node }
-    ensures below { (s : Store) (n : ℕ) → IsBelow s.held n node → IsBelow s.held n result }
-    ensures path { (s : Store) (t : Tree) → HasPath s.held result t }
-{
-    match node {
-        Node::Plain(plain) => Node::Plain(plain_without_path(plain)),
-        _ => node,
-    }
-}
-
-#[tactic(auto, unfolding(
-// The tree of a node, and what it refers to.
-crate::specs::Stored::plain_tree, crate::specs::Stored::IsPlainBelow, crate::specs::Paths::HasPlainPath))]
-#[inline(always)]
-fn plain_without_path(plain: Plain) -> Plain
-    ensures tree { (s : Store) → plain_tree s.held (forest s) result ≡ plain_tree s.held (forest s) plain }
-    ensures below { (s : Store) (n : ℕ) → IsPlainBelow s.held n plain → IsPlainBelow s.held n result }
-    ensures path { (s : Store) (t : Tree) → HasPlainPath s.held result t }
-{
-    match plain {
-        Plain::ScopedName(scope, name, _) => Plain::ScopedName(scope, name, None),
-        _ => plain,
-    }
 }

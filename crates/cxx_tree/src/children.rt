@@ -332,9 +332,9 @@ fn bind_plain(
             let (scope, name) = tri!(bind_pair(arena, alloc, binding, i, scope, name));
             Ok(Plain::Scoped(friend, scope, name))
         }
-        Plain::ScopedName(scope, text, path) => {
+        Plain::ScopedName(scope, text) => {
             let scope = tri!(bind(arena, alloc, binding, scope));
-            Ok(Plain::ScopedName(scope, text, path))
+            Ok(Plain::ScopedName(scope, text))
         }
         Plain::WithArgs(name, args) => {
             let (name, args) = tri!(bind_with_list(arena, alloc, binding, i, name, args));

@@ -104,9 +104,9 @@ fn and_parts(arena: &Arena, before: Measure, parts: Parts) -> Measure
     join(before, of_parts(arena, false, parts))
 }
 
-/// Returns the number of bytes of a text.
+// The number of bytes of a text.
 #[inline(always)]
-pub fn text_len(arena: &Arena, text: Text) -> usize
+fn text_len(arena: &Arena, text: Text) -> usize
     requires within { IsText arena.now.held text }
     ensures value { result ≡ length (text_at arena.now.held text) }
     ensures small { result < 9223372036854775808 }
@@ -162,20 +162,20 @@ pub fn of_name(len: usize) -> Option<Measure>
     })
 }
 
-/// Returns the counts of a text as a name in a scope, or `None` if it isn't within the limits.
+// The counts of a text as a name in a scope, or `None` if it isn't within the limits.
 #[tactic(auto, using(crate::proofs::InScope::in_scope), unfolding(crate::specs::Measure::measure))]
 #[inline(always)]
-pub fn in_scope(arena: &Arena, scope: u32, name: Text) -> Option<Measure>
+fn in_scope(arena: &Arena, scope: u32, name: Text) -> Option<Measure>
     requires scope { scope < size arena.now }
     requires name { IsText arena.now.held name }
     ensures counts { Tallied result (spec.measure (scoped false (tree_at (forest arena.now) scope)
         (named (text_at arena.now.held name)))) }
 {
-    let long = text_len(arena, name);
-    if long >= MAX_WORK as usize {
+    let len = text_len(arena, name);
+    if len >= MAX_WORK as usize {
         return None;
     }
-    around(1, with_name(arena.measure(scope), long))
+    around(1, with_name(arena.measure(scope), len))
 }
 
 // The counts of a scope, and of a name of so many bytes after it.
@@ -212,7 +212,7 @@ fn of_plain(arena: &Arena, plain: Plain) -> Option<Measure>
             of_parts(arena, phrase.is_reversed, parts),
         ),
         Plain::Scoped(_, scope, name) => around(1, pair(arena, scope, name)),
-        Plain::ScopedName(scope, name, _) => in_scope(arena, scope, name),
+        Plain::ScopedName(scope, name) => in_scope(arena, scope, name),
         Plain::WithArgs(name, args) => with_list(arena, name, args),
         Plain::AbiTag(name, tag) => around(1 + text_len(arena, tag), arena.measure(name)),
         Plain::InModule(name, owner) => around(1, pair(arena, name, owner)),
@@ -252,7 +252,7 @@ pub fn of_node(arena: &Arena, node: Node) -> Option<Measure>
         Node::Plain(Plain::Name(text)) => of_name(text_len(arena, text)),
         Node::Plain(Plain::StdName(_, _)) => around(1, nothing()),
         Node::Plain(Plain::Scoped(_, scope, name)) => around(1, pair(arena, scope, name)),
-        Node::Plain(Plain::ScopedName(scope, name, _)) => in_scope(arena, scope, name),
+        Node::Plain(Plain::ScopedName(scope, name)) => in_scope(arena, scope, name),
         Node::Plain(Plain::WithArgs(name, args)) => with_list(arena, name, args),
         Node::Plain(Plain::Param(_, _)) => param(),
         Node::Qualified(t, _) | Node::Pointer(t) | Node::Reference(t, _) => around(

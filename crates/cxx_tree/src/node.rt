@@ -49,9 +49,8 @@ pub enum Plain {
     Phrase(Phrase, Parts),
     /// A scope and a name. The flag says that the name is a friend's.
     Scoped(bool, u32, u32),
-    /// A scope, and the text of a name in it: one node for two trees. If the scopes' names and this one stand in one
-    /// piece, with `::` between, the range is the place of that text.
-    ScopedName(u32, Text, Option<Range>),
+    /// A scope, and the text of a name in it: one node for two trees.
+    ScopedName(u32, Text),
     WithArgs(u32, List),
     AbiTag(u32, Text),
     /// A name, and the module that it is in.

@@ -157,7 +157,8 @@ impl Maker<'_> {
     fn name(&mut self, name: &str, fields: &[Value]) -> Result<Option<u32>, PushError> {
         Ok(Some(match (name, fields) {
             ("Name", [text]) => {
-                self.arena.push_name(text.bytes())?
+                let text = self.text(text)?;
+                rows::name(self.arena, text)?
             }
             ("Word", [llvm, gnu]) => {
                 let (llvm, gnu) = (self.text(llvm)?, self.text(gnu)?);
@@ -177,13 +178,11 @@ impl Maker<'_> {
             }
             ("Nested", [scope, n]) => {
                 let scope = self.tree(scope)?;
-                match (n.name(), n.fields()) {
-                    ("Name", [text]) => self.arena.push_scoped_name(scope, text.bytes())?,
-                    _ => {
-                        let node = Plain::Scoped(false, scope, self.tree(n)?);
-                        self.plain(node)?
-                    }
-                }
+                let node = match (n.name(), n.fields()) {
+                    ("Name", [text]) => Plain::ScopedName(scope, self.text(text)?),
+                    _ => Plain::Scoped(false, scope, self.tree(n)?),
+                };
+                self.plain(node)?
             }
             ("Friend", [scope, n]) => {
                 let node = Plain::Scoped(true, self.tree(scope)?, self.tree(n)?);

@@ -2,11 +2,7 @@ use Rattle.std.proofs.Common.{length, nat_eq, ℕ, ◌++◌, true, List, sym, su
 use Rattle.cxx_tree.specs.Stored.{forest, tree_at, trees_at, parts_of}
 use Rattle.cxx_printer.specs.Asked.{item}
 use Rattle.cxx_printer.specs.Printing.{items_of, print, print_parts, sequence, separated, declared, head, repeated}
-use Rattle.cxx_tree.specs.Tree.{named, scoped}
-use Rattle.cxx_tree.specs.Paths.{IsPath}
-use Rattle.cxx_tree.specs.declared.node.Range.{Range}
-use Rattle.std.specs.Prelude.{Option, IfSome, slice_range, codes, false}
-use Rattle.cxx_printer.proofs.Paths.{path-text, path-scope}
+use Rattle.cxx_tree.specs.Tree.{named}
 use Rattle.cxx_tree.specs.Stored.{tree_of, plain_tree, text_at, trees_in}
 use Rattle.cxx_printer.specs.Words.{cv_text}
 use Rattle.cxx_printer.proofs.Appended.{prints_then}
@@ -28,25 +24,6 @@ print_items-loop-t-preserved t c =
 pub print_items-returns : goal.print_items-returns
 print_items-returns t c =
     record { prints = so_far_end c.args.out.now c.loop-t.out _ _ c.loop-t.invariant.0 (list_end (forest c.args.arena.now) c.args.items.now c.args.env (nat_eq (length c.loop-t.out) (length c.args.out.now)) c.loop-t.t-index (omega (arith, c.loop-t-test.false))) }
-
-pub print_scoped_name-returns-in-Some : goal.print_scoped_name-returns-in-Some
-print_scoped_name-returns-in-Some t c =
-    let a = c.args.arena.now in
-    let q = tree_at (forest a) c.args.scope in
-    let w = text_at a.held c.args.name.now in
-    let path = subst (λ (o : Option Range). IfSome o (λ r. IsPath (scoped false q (named w)) (slice_range a.held.texts r.from r.to))) c.in-Some.is c.requires.path in
-    record {
-      prints = subst (λ (x : List ℕ). Prints c.write_path.result c.args.out.now c.write_path.new.out x)
-          (c.piece.ensures.value ∙ path-text path c.args.env) c.write_path.ensures.prints;
-    }
-
-pub print_scoped_text-returns-in-Some : goal.print_scoped_text-returns-in-Some
-print_scoped_text-returns-in-Some t c =
-    let scope = path-scope (c.in-Some.ensures {u = tt}).value c.args.env in
-    record {
-      prints = subst (λ (x : List ℕ). Prints c.write_joined.result c.args.out.now c.write_joined.new.out (x ++ (codes "::" ++ c.args.name.now)))
-          (sym scope) c.write_joined.ensures.prints;
-    }
 
 pub print_scoped_item-returns : goal.print_scoped_item-returns
 print_scoped_item-returns t c =

@@ -310,6 +310,9 @@ decreases-print_scoped_name l = 64 * l.scope + 46
 abbrev pub decreases-print_scoped_text : goal.decreases-print_scoped_text
 decreases-print_scoped_text l = 64 * l.scope + 45
 
+abbrev pub decreases-print_path : goal.decreases-print_path
+decreases-print_path l = 64 * l.scope + 44
+
 abbrev pub decreases-print_behind_scope : goal.decreases-print_behind_scope
 decreases-print_behind_scope l = 64 * l.scope + 43
 

@@ -1,5 +1,5 @@
 use Rattle.std.proofs.Common.{arith}
-use Rattle.cxx_tree.proofs.Paths.{kept-empty}
+use Rattle.cxx_tree.proofs.Forest.{kept-empty}
 use Rattle.cxx_tree.proofs.arena.Arena.clear.Goals as goal
 
 pub invariant_of-self : goal.invariant_of-self

@@ -8,8 +8,6 @@ use Rattle.cxx_tree.specs.View.{store_of, nodes_of}
 use Rattle.cxx_tree.specs.Measure.{measure}
 use Rattle.cxx_tree.specs.Stored.{size}
 use Rattle.cxx_tree.proofs.Forest.{forest-at, stored-at, length-forest}
-use Rattle.cxx_tree.specs.Paths.{HasPath}
-use Rattle.cxx_tree.proofs.Paths.{paths-at}
 use Rattle.cxx_tree.proofs.Measured.{counted-at, row-fit}
 use Rattle.cxx_tree.proofs.arena.Arena.node.Goals as goal
 
@@ -44,15 +42,3 @@ returns-clause-fits c =
     let small : c.args.i < length (forest s) = omega (arith, c.requires.within, ap size c.self.view_is, length-forest s) in
     subst (λ (r : Store). (measure (tree_at (forest r) c.args.i)).fits ≡ true) c.self.view_is
     (row-fit _ _ (counted-at c.self.inside.entries.items (forest s) c.self.invariant.1 c.args.i c.index.result.now small).0)
-
-pub returns-clause-path : goal.returns-clause-path
-returns-clause-path c =
-    let es = c.self.inside.entries.items in
-    let s = store_of c.self.inside in
-    let n = c.index.result.now.node in
-    let small : c.args.i < length (nodes_of es) = omega (arith, c.requires.within, ap (λ (r : Store). length r.nodes) c.self.view_is) in
-    let same : get_or (nodes_of es) c.args.i n ≡ n =
-    get_or-map (λ (e : entry.Entry). e.node) es c.args.i c.index.result.now n (omega (arith, small, length-map es (λ (e : entry.Entry). e.node)))
-    ∙ ap (λ (e : entry.Entry). e.node) (sym c.index.ensures) in
-    subst (λ (r : Store). HasPath r.held n (tree_at (forest r) c.args.i)) c.self.view_is
-    (subst (λ (m : Node). HasPath s.held m (tree_at (forest s) c.args.i)) same (paths-at s.held (nodes_of es) (forest s) c.self.invariant.2 c.args.i n small))

@@ -1,10 +1,10 @@
-use Rattle.std.proofs.Common.{ℕ, refl, subst, ap, ◌∙◌, arith, length, length-append}
+use Rattle.std.proofs.Common.{ℕ, refl, sym, subst, ap, ◌∙◌, arith, length, length-append}
 use Rattle.cxx_tree.specs.declared.node.Part.{Part}
 use Rattle.cxx_tree.specs.Stored.{Store, Held, Extends, forest}
+use Rattle.cxx_tree.specs.Counts.{AreCounted}
 use Rattle.cxx_tree.specs.Grows.{Grows}
 use Rattle.cxx_tree.specs.View.{store_of}
-use Rattle.cxx_tree.proofs.Forest.{grown-forest, Begins-end, Begins-same}
-use Rattle.cxx_tree.proofs.Paths.{kept-held}
+use Rattle.cxx_tree.proofs.Forest.{grown, grown-forest, Begins-end, Begins-same}
 use Rattle.cxx_tree.proofs.Grown.{Grows-held}
 use Rattle.cxx_tree.proofs.arena.Arena.parts.Goals as goal
 
@@ -18,9 +18,14 @@ invariant_of-self-2 c =
       Begins-end Part h.parts c.args.parts.now c.extend_from_slice.new.self.items (c.in_ok-extend_from_slice.ensures {u = tt}).items,
       Begins-same ℕ h.texts h.texts refl,
     ) in
-    let w = c.self.invariant.4.within in
-    kept-held c.self.inside.entries.items c.self.inside.start s g e refl c.self.invariant
-    (record { nodes = w.nodes; items = w.items; parts = omega (arith, ap length (c.in_ok-extend_from_slice.ensures {u = tt}).items, length-append h.parts c.args.parts.now, (c.in_ok-range.ensures {u = tt}).to, (c.in_ok-range.ensures {u = tt}).within, c.len.ensures); texts = w.texts })
+    let w = c.self.invariant.2.within in (
+      grown s g e c.self.invariant.0,
+      subst (AreCounted c.self.inside.entries.items) (sym (grown-forest s g e c.self.invariant.0)) c.self.invariant.1,
+      record {
+        within = record { nodes = w.nodes; items = w.items; parts = omega (arith, ap length (c.in_ok-extend_from_slice.ensures {u = tt}).items, length-append h.parts c.args.parts.now, (c.in_ok-range.ensures {u = tt}).to, (c.in_ok-range.ensures {u = tt}).within, c.len.ensures); texts = w.texts };
+        small = c.self.invariant.2.small;
+      },
+    )
 
 pub returns-clause-forest : goal.returns-clause-forest
 returns-clause-forest c =

@@ -7,10 +7,7 @@ use Rattle.cxx_tree.specs.Measure.{measure}
 use Rattle.cxx_tree.specs.Counts.{AreCounted, Row, AreExact}
 use Rattle.cxx_tree.specs.Stored.{Store, Held, forest, size, tree_of, IsBelow}
 use Rattle.cxx_tree.specs.View.{store_of, nodes_of, AreStored}
-use Rattle.cxx_tree.specs.Paths.{ArePaths, HasPath, IsOpen}
-use Rattle.std.specs.Prelude.{◌-◌, IfSome}
-use Rattle.cxx_tree.proofs.Forest.{pushed-forest, stored-push, length-forest}
-use Rattle.cxx_tree.proofs.Paths.{paths-push, last-open}
+use Rattle.cxx_tree.proofs.Forest.{pushed-forest, stored-push}
 use Rattle.cxx_tree.proofs.Measured.{counted-push, row-fit}
 use Rattle.cxx_tree.proofs.Grown.{Makes-refused, Makes-node, Grows-same, Grows-push, new-tree}
 use Rattle.cxx_tree.proofs.arena.Arena.push_counted.Goals as goal
@@ -37,34 +34,27 @@ invariant_of-self-2 c =
     let kept : Row c.args.counts (measure t) × AreExact (measure t) =
     subst (λ (r : Store). Row c.args.counts (measure (tree_of r.held (forest r) node)) × AreExact (measure (tree_of r.held (forest r) node))) (sym c.self.view_is)
     (c.requires.counts, c.requires.exact) in
-    let path = subst (λ (r : Store). HasPath r.held node (tree_of r.held (forest r) node)) (sym c.self.view_is) c.requires.path in
-    let start = subst (λ (r : Store). IfSome c.args.start (IsOpen (tree_of r.held (forest r) node) r.held.texts)) (sym c.self.view_is) c.requires.start in
     let e : entry.Entry = record { node = node; counts = c.args.counts } in
     let items = (c.in-Ok.ensures {u = tt}).items in
     let nodes : nodes_of c.push.new.self.items ≡ s.nodes ++ node ∷ [] =
     ap nodes_of items ∙ map-append (λ (d : entry.Entry). d.node) c.self.inside.entries.items (e ∷ []) in
-    let grown : forest (record { nodes = nodes_of c.push.new.self.items; held = h; limit = (store_of c.self.inside).limit }) ≡ forest s ++ t ∷ [] =
-    ap (λ (ns : List Node). forest (record { nodes = ns; held = h; limit = (store_of c.self.inside).limit })) nodes ∙ pushed-forest h s.limit s.nodes node in
-    let b : Store = record { nodes = nodes_of c.push.new.self.items; held = h; limit = (store_of c.self.inside).limit } in
-    let long : size b ≡ size s + 1 = ap length nodes ∙ length-append s.nodes (node ∷ []) in
-    let last = new-tree s b t (size b - 1) (omega (arith, long)) grown in (
+    let grown : forest (record { nodes = nodes_of c.push.new.self.items; held = h; limit = s.limit }) ≡ forest s ++ t ∷ [] =
+    ap (λ (ns : List Node). forest (record { nodes = ns; held = h; limit = s.limit })) nodes ∙ pushed-forest h s.limit s.nodes node in
+    let b : Store = record { nodes = nodes_of c.push.new.self.items; held = h; limit = s.limit } in
+    let long : size b ≡ size s + 1 = ap length nodes ∙ length-append s.nodes (node ∷ []) in (
       subst (λ (ns : List Node). AreStored h 0 ns) (sym nodes) (stored-push h s.nodes node (size s) refl c.self.invariant.0 below),
       subst (λ (ts : List Tree). AreCounted c.push.new.self.items ts) (sym grown)
           (subst (λ (es : List entry.Entry). AreCounted es (forest s ++ t ∷ [])) (sym items)
           (counted-push c.self.inside.entries.items (forest s) e t c.self.invariant.1 kept.0 kept.1)),
-      subst (λ (ts : List Tree). ArePaths h (nodes_of c.push.new.self.items) ts) (sym grown)
-          (subst (λ (ns : List Node). ArePaths h ns (forest s ++ t ∷ [])) (sym nodes)
-          (paths-push h s.nodes (forest s) node t (length-forest s) c.self.invariant.2 path)),
-      last-open c.args.start b t (omega (arith, long)) last start,
       record {
         within =
             record {
               nodes = omega (arith, long, c.if-index-self.false, c.len-index.ensures, length-map c.self.inside.entries.items (λ (d : entry.Entry). d.node));
-              items = c.self.invariant.4.within.items;
-              parts = c.self.invariant.4.within.parts;
-              texts = c.self.invariant.4.within.texts;
+              items = c.self.invariant.2.within.items;
+              parts = c.self.invariant.2.within.parts;
+              texts = c.self.invariant.2.within.texts;
             };
-        small = c.self.invariant.4.small;
+        small = c.self.invariant.2.small;
       },
     )
 

@@ -1,12 +1,12 @@
-use Rattle.std.proofs.Common.{ℕ, ◌∙◌, refl, subst, ap, arith, length, length-append}
+use Rattle.std.proofs.Common.{ℕ, refl, sym, subst, ap, ◌∙◌, arith, length, length-append}
 use Rattle.cxx_tree.specs.declared.node.Part.{Part}
 use Rattle.cxx_tree.specs.Stored.{Store, Held, Extends, forest}
+use Rattle.cxx_tree.specs.Counts.{AreCounted}
 use Rattle.cxx_tree.specs.Grows.{Grows}
 use Rattle.cxx_tree.specs.View.{store_of}
-use Rattle.cxx_tree.proofs.Forest.{grown-forest, Begins-end, Begins-same}
+use Rattle.cxx_tree.proofs.Forest.{grown, grown-forest, Begins-end, Begins-same}
 use Rattle.cxx_tree.proofs.Grown.{Grows-held}
-use Rattle.cxx_tree.proofs.Paths.{kept-texts}
-use Rattle.cxx_tree.proofs.arena.Arena.place.Goals as goal
+use Rattle.cxx_tree.proofs.arena.Arena.text.Goals as goal
 
 pub invariant_of-self-2 : goal.invariant_of-self-2
 invariant_of-self-2 c =
@@ -18,9 +18,14 @@ invariant_of-self-2 c =
       Begins-same Part h.parts h.parts refl,
       Begins-end ℕ h.texts c.args.bytes.now c.add_short.new.self (c.in_ok-add_short.ensures {u = tt}).ok,
     ) in
-    let w = c.self.invariant.4.within in
-    kept-texts c.self.inside.entries.items c.self.inside.start s g e c.self.invariant
-    (record { nodes = w.nodes; items = w.items; parts = w.parts; texts = omega (arith, ap length (c.in_ok-add_short.ensures {u = tt}).ok, length-append h.texts c.args.bytes.now, (c.in_ok-range.ensures {u = tt}).to, (c.in_ok-range.ensures {u = tt}).within, c.len.ensures) })
+    let w = c.self.invariant.2.within in (
+      grown s g e c.self.invariant.0,
+      subst (AreCounted c.self.inside.entries.items) (sym (grown-forest s g e c.self.invariant.0)) c.self.invariant.1,
+      record {
+        within = record { nodes = w.nodes; items = w.items; parts = w.parts; texts = omega (arith, ap length (c.in_ok-add_short.ensures {u = tt}).ok, length-append h.texts c.args.bytes.now, (c.in_ok-range.ensures {u = tt}).to, (c.in_ok-range.ensures {u = tt}).within, c.len.ensures) };
+        small = c.self.invariant.2.small;
+      },
+    )
 
 pub returns-clause-forest : goal.returns-clause-forest
 returns-clause-forest c =
