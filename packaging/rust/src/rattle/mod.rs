@@ -44,6 +44,13 @@ macro_rules! vec {
     };
 }
 
+/// `prove!(condition)`: the prover has shown the condition. A build without optimization tests it.
+macro_rules! prove {
+    ($($condition:tt)*) => {
+        std::debug_assert!($($condition)*)
+    };
+}
+
 /// `eprintln!(rt; "..")`
 macro_rules! eprintln {
     ($rt:expr; $($text:tt)*) => {
