@@ -93,11 +93,11 @@ pub bounds_of : (printing : Printing) (symbol : List ℕ) (store : Store) (saved
     → HasBounds printing symbol store saved
 bounds_of printing symbol store saved limit e w l =
     let small : limit ≤ limit_of printing.limit (length symbol) = omega (arith, e) in
-    record { store = within_more limit (limit_of printing.limit (length symbol)) store small w; saved = omega (arith, small, l) }
+    record { within = within_more limit (limit_of printing.limit (length symbol)) store small w; few_saved = omega (arith, small, l) }
 
 -- what was cleared keeps nothing
 pub bounds_none : (printing : Printing) (symbol : List ℕ) (store : Store) (saved : List ℕ) → IsWithin 0 store → saved ≡ [] → HasBounds printing symbol store (length saved)
 bounds_none printing symbol store saved w e =
-    record { store = within_more 0 (limit_of printing.limit (length symbol)) store (omega arith) w; saved = omega (arith, ap length e) }
+    record { within = within_more 0 (limit_of printing.limit (length symbol)) store (omega arith) w; few_saved = omega (arith, ap length e) }
 
 pub ruleset answers = (bounds_of, bounds_none)

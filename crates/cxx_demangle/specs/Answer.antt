@@ -70,5 +70,5 @@ limit_of None n = 16 * n + 4194304
 
 -- what is kept of a symbol is within its limit: nodes and what they refer to, and saved trees
 pub record HasBounds (printing : Printing) (symbol : List ℕ) (store : Store) (saved : ℕ) : Type 0 where
-  pub store : IsWithin (limit_of printing.limit (length symbol)) store
-  pub saved : saved ≤ limit_of printing.limit (length symbol)
+  pub within : IsWithin (limit_of printing.limit (length symbol)) store
+  pub few_saved : saved ≤ limit_of printing.limit (length symbol)
