@@ -1,6 +1,6 @@
 //! Tests the demangler of declarations at its limits: symbols at and past each limit, families of long symbols with
-//! what they cost, malformed symbols, allocations that fail, and the stack. Standard input has symbols, one per line,
-//! which are read with little stack. The last line is `N passed, M failed`.
+//! what they cost, the limit of memory, malformed symbols, allocations that fail, and the stack. Standard input has
+//! symbols, one per line, which are read with little stack. The last line is `N passed, M failed`.
 //!
 //! usage: declarations
 
