@@ -1,8 +1,9 @@
 -- What is printed for an argument that is a symbol.
 use Rattle.std.specs.Prelude.{ℕ, List, ◌++◌, Bool, ◌&&◌, IsUtf8, Some, None, codes, take, drop, if◌then◌else◌}
 use Rattle.abi_scalars.specs.Bytes.{begins}
-use Rattle.symfilter_engine.specs.declared.symbols.ReplaceOptions.{ReplaceOptions}
-use Rattle.symfilter_engine.specs.Printed.{IsPrintedAs}
+use Rattle.text_filter.specs.declared.symbols.ReplaceOptions.{ReplaceOptions}
+use Rattle.cosvigle.specs.declared.symbols.Printing.{Printing}
+use Rattle.cosvigle.specs.Printed.{IsPrintedAs}
 
 -- the byte that ends a line
 abbrev pub line_feed : ℕ
@@ -25,7 +26,7 @@ abbrev pub symbol_of : Bool → List ℕ → List ℕ
 symbol_of strip argument = stripped strip (drop (import_len argument) argument)
 
 -- an argument, and what is printed for it
-pub data IsArgumentAnswer (options : ReplaceOptions) (argument : List ℕ) : List ℕ → Type 0 where
+pub data IsArgumentAnswer (options : ReplaceOptions Printing) (argument : List ℕ) : List ℕ → Type 0 where
   -- what stands in front of its symbol, and what is printed for that
   answered : {text : List ℕ} → IsUtf8 (symbol_of options.strip argument)
       → IsPrintedAs options.printing (symbol_of options.strip argument) (Some text)

@@ -15,8 +15,8 @@ use Rattle.cosvigle.specs.declared.options.Kind.{Kind}
 use Rattle.cosvigle.specs.declared.options.Kind.TheVariants.{End, Name, Letters, Symbol}
 use Rattle.cosvigle.specs.declared.options.Request.{Request}
 use Rattle.cosvigle.specs.declared.options.Request.TheVariants.{Symbols, Stopped}
-use Rattle.symfilter_engine.specs.declared.symbols.Printing.{Printing}
-use Rattle.symfilter_engine.specs.declared.symbols.Printing.TheVariants.{Names, Signatures, Declarations}
+use Rattle.cosvigle.specs.declared.symbols.Printing.{Printing}
+use Rattle.cosvigle.specs.declared.symbols.Printing.TheVariants.{Names, Signatures, Declarations}
 use Rattle.cxx_printer.specs.declared.symbol.Mode.{Mode}
 use Rattle.cxx_printer.specs.declared.symbol.Mode.TheVariants as mode
 use Rattle.cxx_printer.specs.declared.env.Style.{Style}

@@ -3,8 +3,8 @@ use Rattle.std.specs.Prelude.{◌≡◌, Bool, Option, Some, None, Result, Ok, E
 use Rattle.std.specs.IoError.{error_kind}
 use Rattle.std.specs.declared.io.Error.{Error}
 use Rattle.std.specs.declared.io.ErrorKind.TheVariants.{BrokenPipe}
-use Rattle.symfilter_engine.specs.declared.fault.FilterFault.{FilterFault}
-use Rattle.symfilter_engine.specs.declared.fault.FilterFault.TheVariants.{Read, Write, Memory}
+use Rattle.text_filter.specs.declared.fault.FilterFault.{FilterFault}
+use Rattle.text_filter.specs.declared.fault.FilterFault.TheVariants.{Read, Write, Memory}
 use Rattle.cosvigle.specs.declared.output.Output.{Output}
 
 -- the writer

@@ -3,10 +3,11 @@ ghost use Rattle.std.specs.Prelude.{◌≡◌, [], ◌∷◌, ◌++◌, ◌≤�
 ghost use Rattle.cosvigle.specs.Arguments as spec;
 ghost use Rattle.cosvigle.specs.Arguments.{IsArgumentAnswer};
 
+use super::symbols::{Demanglers, Printing};
 use itanium_demangle::is_utf8;
 use std::alloc::{AllocError, Global};
 use std::str;
-use symfilter_engine::{Demanglers, ReplaceOptions, read_as};
+use text_filter::{ReplaceOptions, SymbolReader};
 
 /// Returns how many bytes are in front of the symbol in an argument: 6 for `__imp_`, and otherwise 0. They are printed
 /// unchanged.
@@ -46,7 +47,7 @@ pub struct Printed<'a> {
 pub fn answer_of<'a>(
     alloc: Global,
     demanglers: &'a mut Demanglers,
-    options: ReplaceOptions,
+    options: ReplaceOptions<Printing>,
     argument: &'a [u8],
 ) -> Result<Printed<'a>, AllocError>
     ensures answer { IfOk result (λ printed.
@@ -61,7 +62,7 @@ pub fn answer_of<'a>(
         });
     }
     let symbol = unsafe { str::from_utf8_unchecked(symbol) };
-    read_as(alloc, demanglers, options.printing, symbol)?;
+    demanglers.read(alloc, options.printing, symbol)?;
     match demanglers.text() {
         Some(answer) => Ok(Printed {
             front: &argument[..len],

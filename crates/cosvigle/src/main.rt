@@ -6,7 +6,7 @@
 //! standard output. In both cases standard error says what failed. If the reader of standard output has gone, the
 //! status is 0 and nothing more is written.
 //!
-//! `symfilter_engine` replaces the symbols in a text, and reads each symbol that is an argument. Begin with
+//! `text_filter` replaces the symbols in a text, and reads each symbol that is an argument. Begin with
 //! `main` below, and with `options.rt`: `specs/Options` defines what each command line means.
 #![tactic(auto)]
 
@@ -19,6 +19,7 @@ mod help;
 mod option_names;
 mod options;
 mod output;
+mod symbols;
 
 use arguments::{Printed, answer_of, set_line};
 use files::{file_name, has_no_nul, words_in};
@@ -30,7 +31,8 @@ use std::env::{Env, FillError};
 use std::io::{ErrorKind, Read, Stdout, Write};
 use std::process::ExitCode;
 use std::{fs, str};
-use symfilter_engine::{Demanglers, FilterFault, ReplaceOptions, Tally, filter_with, replace};
+use symbols::{Demanglers, Printing};
+use text_filter::{FilterFault, ReplaceOptions, Tally, filter_with, replace};
 
 /// The exit status if the arguments can't be read, and nothing is done.
 const USAGE_ERROR: u8 = 2;
@@ -53,7 +55,7 @@ fn put(output: &mut Output<Stdout>, bytes: &[u8]) -> Result<(), FilterFault> {
 }
 
 /// Returns how the flags say that symbols are replaced.
-fn replacement(flags: Flags) -> ReplaceOptions
+fn replacement(flags: Flags) -> ReplaceOptions<Printing>
     ensures strip { result.strip ≡ flags.strip }
     ensures printing { result.printing ≡ spec.printing_of flags }
 {
@@ -125,10 +127,23 @@ fn replace_input(
     // Neither the source nor the sink has a buffer: the engine reads and writes whole chunks.
     let mut source = Tally::new(rt.stdin());
     let mut sink = Tally::new(output);
+    let mut demanglers = Demanglers::new(rt.alloc());
     if flags.lines {
-        return filter_with(rt.alloc(), printing_of(flags), &mut source, &mut sink);
+        return filter_with(
+            rt.alloc(),
+            &mut demanglers,
+            printing_of(flags),
+            &mut source,
+            &mut sink,
+        );
     }
-    replace(rt.alloc(), replacement(flags), &mut source, &mut sink)
+    replace(
+        rt.alloc(),
+        &mut demanglers,
+        replacement(flags),
+        &mut source,
+        &mut sink,
+    )
 }
 
 /// Writes to standard error why nothing is done, and the help. Returns the exit status.

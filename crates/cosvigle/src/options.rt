@@ -4,9 +4,9 @@ ghost use Rattle.cosvigle.specs.Options as spec;
 ghost use Rattle.cosvigle.specs.Options.{reading, texts, AsksFor, IsRequest};
 
 use super::option_names::{Found, LongOption, find_long_option, find_option};
+use super::symbols::Printing;
 use cxx_demangle::{Mode, Style};
 use std::alloc::{AllocError, Global};
-use symfilter_engine::Printing;
 
 /// What `-P` and `-p` say of the parameters of functions. The last of them counts.
 #[derive(Clone, Copy)]

@@ -7,7 +7,7 @@ ghost use Rattle.cosvigle.specs.Output.{IsBroken};
 
 use std::io;
 use std::io::{ErrorKind, Write};
-use symfilter_engine::FilterFault;
+use text_filter::FilterFault;
 
 /// A writer, and whether a write to it has failed because its reader has gone.
 #[derive(Drop)]

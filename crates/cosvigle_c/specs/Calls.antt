@@ -3,10 +3,9 @@ use Rattle.std.specs.Prelude.{ℕ, List, Bool, Option, Some}
 use Rattle.itanium_grammar.specs.Answer.{IsAnswer, IsSignatureOrName}
 use Rattle.cosvigle_c.specs.declared.kept.Asked.{Asked}
 use Rattle.cosvigle_c.specs.declared.kept.Asked.TheVariants.{Names, Signatures}
-use Rattle.symfilter_engine.specs.declared.symbols.Printing.TheVariants as printing
-use Rattle.symfilter_engine.specs.declared.symbols.ReplaceOptions.{ReplaceOptions}
-use Rattle.symfilter_engine.specs.Filtered.{IsAnswered}
-use Rattle.symfilter_engine.specs.Replaced.{IsReplaced}
+use Rattle.text_filter.specs.Printed.{ReplaceOptions}
+use Rattle.text_filter.specs.Filtered.{IsAnswered}
+use Rattle.text_filter.specs.Replaced.{IsReplaced}
 use Rattle.cosvigle_c.specs.Capacity.{Fills, IsShort}
 
 -- the demangled name of a symbol; or its signature, and where it has none its demangled name
@@ -16,7 +15,7 @@ IsNameOrSignature Signatures symbol answer = (signature : Bool) × IsSignatureOr
 
 -- symbols in words are replaced by their demangled names
 abbrev pub by_names : Bool → ReplaceOptions
-by_names strip = record { strip = strip; printing = printing.Names }
+by_names strip = record { strip = strip; printing = IsAnswer }
 
 -- what was asked of the symbol is written
 pub record WritesAnswer (asked : Asked) (symbol old new : List ℕ) (needed : ℕ) : Type 0 where
@@ -33,13 +32,13 @@ pub record LacksCapacity (asked : Asked) (symbol old new : List ℕ) (needed : �
 -- the filtered text of the lines is written
 pub record WritesLines (lines old new : List ℕ) (needed : ℕ) : Type 0 where
   pub text : List ℕ
-  pub filtered : IsAnswered printing.Names lines text
+  pub filtered : IsAnswered IsAnswer lines text
   pub fills : Fills text old new needed
 
 -- the capacity is too small for the filtered text of the lines
 pub record LacksLines (lines old new : List ℕ) (needed : ℕ) : Type 0 where
   pub text : List ℕ
-  pub filtered : IsAnswered printing.Names lines text
+  pub filtered : IsAnswered IsAnswer lines text
   pub short : IsShort text old new needed
 
 -- the replaced text of the bytes is written
@@ -50,7 +49,7 @@ pub record WritesWords (strip : Bool) (bytes old new : List ℕ) (needed : ℕ) 
 
 -- the capacity is too small for the filtered text of the lines, which is kept
 pub record KeepsLines (lines old new : List ℕ) (needed : ℕ) (kept : List ℕ) : Type 0 where
-  pub filtered : IsAnswered printing.Names lines kept
+  pub filtered : IsAnswered IsAnswer lines kept
   pub short : IsShort kept old new needed
 
 -- the capacity is too small for the replaced text of the bytes, which is kept

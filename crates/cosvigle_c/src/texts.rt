@@ -1,9 +1,9 @@
 //! The functions for whole texts: the filter, the replacement, and the one that writes a text that a handle keeps
 //! because the capacity was too small.
 ghost use Rattle.std.specs.Prelude.{◌≡◌, ◌≢◌, ◌↔◌, [], pos, Some, None, IfOk, OnErr};
-ghost use Rattle.symfilter_engine.specs.declared.symbols.Printing.TheVariants.{Names};
-ghost use Rattle.symfilter_engine.specs.Filtered.{IsAnswered};
-ghost use Rattle.symfilter_engine.specs.Replaced.{IsReplaced};
+ghost use Rattle.itanium_grammar.specs.Answer.{IsAnswer};
+ghost use Rattle.text_filter.specs.Filtered.{IsAnswered};
+ghost use Rattle.text_filter.specs.Replaced.{IsReplaced};
 ghost use Rattle.cosvigle_c.specs.Capacity.{Fills, IsShort};
 ghost use Rattle.cosvigle_c.specs.Kept.{result_of, text_of};
 ghost use Rattle.cosvigle_c.specs.Calls.{by_names, WritesLines, LacksLines, KeepsLines, WritesWords, KeepsWords};
@@ -14,7 +14,7 @@ use crate::status::{NO_ANSWER, NO_MEMORY, NO_ROOM, WRITTEN, write_if_fits};
 use std::alloc::{AllocError, Global};
 use std::mem;
 use symfilter_engine::{
-    Failed, FilterFault, Printing, ReplaceOptions, Sink, Tally, filter, replace,
+    Failed, FilterFault, NameReader, Printing, ReplaceOptions, Sink, Tally, filter, replace,
 };
 
 /// A sink in memory. A call fails if an allocation fails.
@@ -47,7 +47,7 @@ impl Sink for Gathered {
 /// Returns the filtered text of a block of lines. A fault means that an allocation failed: neither the source nor the
 /// sink can fail in another way, since both are in memory.
 fn filtered(alloc: Global, lines: &[u8]) -> Result<Vec<u8>, FilterFault>
-    ensures text { IfOk result (λ text. IsAnswered Names lines.now text.items) }
+    ensures text { IfOk result (λ text. IsAnswered IsAnswer lines.now text.items) }
 {
     let mut source = Tally::new(lines);
     let mut sink = Gathered {
@@ -71,7 +71,13 @@ fn replaced(alloc: Global, strip: bool, bytes: &[u8]) -> Result<Vec<u8>, FilterF
         strip,
         printing: Printing::Names,
     };
-    replace(alloc, options, &mut source, &mut sink)?;
+    replace(
+        alloc,
+        &mut NameReader::new(),
+        options,
+        &mut source,
+        &mut sink,
+    )?;
     Ok(sink.text)
 }
 

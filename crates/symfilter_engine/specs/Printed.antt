@@ -1,20 +1,31 @@
 -- What is printed for a symbol.
-use Rattle.std.specs.Prelude.{ℕ, List, Bool, Option}
-use Rattle.itanium_grammar.specs.Answer.{IsAnswer, IsSignatureOrName}
-use Rattle.cxx_demangle.specs.declared.demangler.Printing as parts
-use Rattle.cxx_demangle.specs.Answer as declarations
+use Rattle.std.specs.Prelude.{◌≡◌, ℕ, List, Bool, true, false, Option, None}
+use Rattle.std.proofs.Common.{sym, ◌∙◌}
+use Rattle.abi_scalars.specs.Symbol.{after_prefix}
+use Rattle.itanium_grammar.specs.Answer.{IsAnswer, IsAnswerOf, IsSignatureOrName}
+use Rattle.itanium_demangle.proofs.Answered.{each_answered, each_signed}
+use Rattle.text_filter.specs.Printed.{AnswersEach}
 use Rattle.symfilter_engine.specs.declared.symbols.Printing.{Printing}
-use Rattle.symfilter_engine.specs.declared.symbols.Printing.TheVariants.{Names, Signatures, Declarations}
+use Rattle.symfilter_engine.specs.declared.symbols.Printing.TheVariants.{Names, Signatures}
+
+-- its signature, and where it has none its demangled name: the truth value says which
+abbrev pub IsSigned : List ℕ → Option (List ℕ) → Type 0
+IsSigned symbol answer = (signature : Bool) × IsSignatureOrName signature symbol answer
 
 -- what is printed for a symbol, or that it stays as it is
-pub data IsPrintedAs : Printing → List ℕ → Option (List ℕ) → Type 0 where
-  -- its demangled name
-  name_printed : {symbol : List ℕ} {answer : Option (List ℕ)} → IsAnswer symbol answer → IsPrintedAs Names symbol answer
-  -- its signature, and where it has none its demangled name: the truth value says which
-  signature_printed : {symbol : List ℕ} {answer : Option (List ℕ)} (signature : Bool)
-      → IsSignatureOrName signature symbol answer
-      → IsPrintedAs Signatures symbol answer
-  -- the part of its declaration that is asked for
-  declaration_printed : {part : parts.Printing} {symbol : List ℕ} {answer : Option (List ℕ)}
-      → declarations.IsAnswer part symbol answer
-      → IsPrintedAs (Declarations part) symbol answer
+abbrev pub prints : Printing → List ℕ → Option (List ℕ) → Type 0
+prints Names = IsAnswer
+prints Signatures = IsSigned
+
+-- no reading without a prefix
+not_read : (signature : Bool) (line : List ℕ) → after_prefix line ≡ None → IsAnswerOf signature line None
+not_read signature line prefix = λ tree next cost reading deep utf8. let e = sym prefix ∙ reading.prefix in cc
+
+-- something is printed for each symbol, or it stays
+pub prints_each : (printing : Printing) → AnswersEach (prints printing)
+prints_each Names = record { each = each_answered; unprefixed = not_read false }
+prints_each Signatures =
+    record {
+      each = λ symbol. let found = each_signed symbol in (found.1.0, (found.0, found.1.1));
+      unprefixed = λ line prefix. (false, (not_read true line prefix, not_read false line prefix));
+    }

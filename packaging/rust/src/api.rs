@@ -2,7 +2,7 @@
 
 use crate::extracted::itanium_demangle as inner;
 use crate::extracted::symfilter_engine::{
-    self as engine, Failed, FilterFault, Sink, Tally, filter_with, replace as replace_words,
+    self as engine, Failed, FilterFault, NameReader, Sink, Tally, filter_with, replace as replace_words,
 };
 use crate::rattle::alloc::{AllocError, Global};
 use crate::rattle::{string, vec};
@@ -213,7 +213,7 @@ pub fn replace(text: &[u8], options: ReplaceOptions) -> Vec<u8> {
 pub fn try_replace(text: &[u8], options: ReplaceOptions) -> Result<Vec<u8>, AllocError> {
     let mut made = Made::default();
     let options = engine::ReplaceOptions { strip: options.strip, printing: options.printing.into() };
-    replace_words(Global, options, &mut Tally::new(text), &mut made)?;
+    replace_words(Global, &mut NameReader::new(), options, &mut Tally::new(text), &mut made)?;
     Ok(made.bytes.into_std())
 }
 
@@ -242,7 +242,7 @@ pub fn filter(lines: &[u8], printing: Printing) -> Vec<u8> {
 /// If an allocation fails.
 pub fn try_filter(lines: &[u8], printing: Printing) -> Result<Vec<u8>, AllocError> {
     let mut made = Made::default();
-    filter_with(Global, printing.into(), &mut Tally::new(lines), &mut made)?;
+    filter_with(Global, &mut NameReader::new(), printing.into(), &mut Tally::new(lines), &mut made)?;
     Ok(made.bytes.into_std())
 }
 

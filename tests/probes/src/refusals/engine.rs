@@ -1,10 +1,10 @@
 //! The two functions of the engine.
 
-use crate::extracted::symfilter_engine::{FilterFault, Printing, ReplaceOptions, Sink, Source, filter, replace};
+use crate::extracted::symfilter_engine::{FilterFault, NameReader, Printing, ReplaceOptions, Sink, Source, filter, replace};
 use crate::rattle::alloc::Global;
 
 /// Symbols in words are replaced by their names.
-const IN_WORDS: ReplaceOptions = ReplaceOptions { strip: false, printing: Printing::Names };
+const IN_WORDS: ReplaceOptions<Printing> = ReplaceOptions { strip: false, printing: Printing::Names };
 
 /// The functions of the engine.
 #[derive(Clone, Copy)]
@@ -28,7 +28,7 @@ impl Engine {
     pub fn run<R: Source, W: Sink>(self, alloc: Global, source: &mut R, sink: &mut W) -> Result<(), FilterFault> {
         match self {
             Engine::Filter => filter(alloc, source, sink),
-            Engine::Replace => replace(alloc, IN_WORDS, source, sink),
+            Engine::Replace => replace(alloc, &mut NameReader::new(), IN_WORDS, source, sink),
         }
     }
 }

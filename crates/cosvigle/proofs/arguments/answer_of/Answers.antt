@@ -1,6 +1,6 @@
 use Rattle.std.proofs.Common.{drop, sym, subst, ap, ◌∙◌}
 use Rattle.std.proofs.lemmas.List.{take_rest}
-use Rattle.symfilter_engine.specs.Printed.{IsPrintedAs}
+use Rattle.cosvigle.specs.Printed.{IsPrintedAs}
 use Rattle.cosvigle.specs.Arguments.{stripped}
 use Rattle.cosvigle.proofs.ArgumentTexts.{no_text, with_name, without_name}
 use Rattle.cosvigle.proofs.arguments.answer_of.Goals as goal
@@ -20,7 +20,7 @@ returns-in-Some c =
       answer =
           with_name (λ s. s.now) c.args.options argument c.from_utf8_unchecked-symbol.result.now _ c.import_len-len.result c.text.result c.in-Some.answer (same ∙ symbol_is)
           c.import_len-len.ensures.value c.from_utf8_unchecked-symbol.utf8
-          (subst (IsPrintedAs c.args.options.printing c.from_utf8_unchecked-symbol.result.now) (sym c.text.ensures.value) c.in_ok-read_as.ensures.printed) c.in-Some.is c.as_bytes.ensures.value;
+          (subst (IsPrintedAs c.args.options.printing c.from_utf8_unchecked-symbol.result.now) (sym c.text.ensures.value) c.in_ok-read.ensures.printed) c.in-Some.is c.as_bytes.ensures.value;
     }
 
 pub returns-in-None : goal.returns-in-None
@@ -31,5 +31,5 @@ returns-in-None c =
     record {
       answer =
           without_name (λ s. s.now) c.args.options argument c.from_utf8_unchecked-symbol.result.now c.text.result (same ∙ symbol_is) c.from_utf8_unchecked-symbol.utf8
-          (subst (IsPrintedAs c.args.options.printing c.from_utf8_unchecked-symbol.result.now) (sym c.text.ensures.value) c.in_ok-read_as.ensures.printed) c.in-None.is;
+          (subst (IsPrintedAs c.args.options.printing c.from_utf8_unchecked-symbol.result.now) (sym c.text.ensures.value) c.in_ok-read.ensures.printed) c.in-None.is;
     }

@@ -1,5 +1,0 @@
-use Rattle.symfilter_engine.specs.Progress.{AreWordBytes}
-use Rattle.symfilter_engine.proofs.word_bounds.word_end_from.Given as goal
-
-abbrev pub invariant-loop-end : goal.invariant-loop-end
-invariant-loop-end l = AreWordBytes l.text l.place l.end

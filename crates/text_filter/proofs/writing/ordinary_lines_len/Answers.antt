@@ -1,0 +1,14 @@
+use Rattle.std.proofs.Common.{arith}
+use Rattle.text_filter.specs.Filtered.{no_line}
+use Rattle.text_filter.proofs.LineEnds.{more_inside, more_ordinary}
+use Rattle.text_filter.proofs.writing.ordinary_lines_len.Goals as goal
+
+pub loop-len-init : goal.loop-len-init
+loop-len-init g c = record { inside = omega arith; ordinary = λ printing. no_line }
+
+pub loop-len-preserved : goal.loop-len-preserved
+loop-len-preserved g c =
+    record {
+      inside = more_inside c.args.lines.now c.loop-len.len c.in-Some.end c.in-Some.ensures.found;
+      ordinary = λ printing. more_ordinary (g.S.SymbolReader.prints printing) (g.met.S.SymbolReader.answers printing) c.args.lines.now c.loop-len.len c.in-Some.end (c.loop-len.invariant.ordinary printing) c.in-Some.ensures.found c.if-lines-len-ne-UNDERSCORE.true;
+    }
