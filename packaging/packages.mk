@@ -22,7 +22,7 @@ distribution = cosvigle-$(VERSION)-$(triplet)
 epoch = $(or $(SOURCE_DATE_EPOCH),$(shell git log -1 --format=%ct 2>/dev/null),315532800)
 tree = $(PACKAGES)/tree
 guides = README.md examples/c/names.c examples/cpp/names.cc \
-    $(addprefix docs/,USE.md MIGRATING.md LIMITS.md PROOF.md PROMISES.md BELIEVE.md) \
+    $(addprefix docs/,USE.md MIGRATING.md LIMITS.md GRAMMAR.md PROOF.md PROMISES.md BELIEVE.md) \
     $(addprefix docs/port/,GRAMMAR.md DIFFERENCES.md PROMISES.md)
 
 # The commands that a kind of package needs, each with the package of Debian that brings it.
