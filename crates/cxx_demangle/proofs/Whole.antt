@@ -1,13 +1,13 @@
 -- The parser gives the one encoding that all of the bytes are read as.
-use Rattle.std.proofs.Common.{ℕ, ◌≡◌, ◌≢◌, List, [], ◌∷◌, ◌∙◌, refl, sym, ap, subst, arith, length, Option, Some, None, Bool, true, false, Result, Ok, Err}
+use Rattle.std.proofs.Common.{ℕ, ◌≡◌, ◌≢◌, List, [], ◌∷◌, ◌∙◌, refl, sym, ap, subst, arith, length, map, Option, Some, None, Bool, true, false, Result, Ok, Err}
 use Rattle.cxx_reader.specs.declared.reader.Reader.{Reader}
-use Rattle.cxx_reader.specs.declared.stop.Stop.{Stop}
-use Rattle.cxx_reader.specs.declared.stop.Stop.TheVariants.{Unreadable, Memory}
+use Rattle.cxx_tree.specs.declared.arena.Stop.{Stop}
+use Rattle.cxx_tree.specs.declared.arena.Stop.TheVariants.{Unreadable, Memory}
 use Rattle.cxx_reader.specs.Outcome.{Gives}
 use Rattle.std.specs.Prelude.{min, ◌≤◌}
 use Rattle.abi_scalars.specs.Symbol.{after_prefix}
 use Rattle.cxx_tree.specs.Tree.{Tree}
-use Rattle.cxx_tree.specs.Stored.{Store, IsWithin}
+use Rattle.cxx_tree.specs.Stored.{Store, IsWithin, size, saved_trees, stands}
 use Rattle.cxx_grammar.specs.State.{State}
 use Rattle.cxx_grammar.specs.Grammar.{parse_encoding}
 use Rattle.cxx_reader.proofs.Options.{some_same}
@@ -86,18 +86,38 @@ refused (Err Memory) after x g e = absurd cc
 -- less is within a limit too
 within_more : (m n : ℕ) (store : Store) → m ≤ n → IsWithin m store → IsWithin n store
 within_more m n store l w =
-    record { nodes = omega (arith, l, w.nodes); items = omega (arith, l, w.items); parts = omega (arith, l, w.parts); texts = omega (arith, l, w.texts) }
+    record {
+      nodes = omega (arith, l, w.nodes);
+      items = omega (arith, l, w.items);
+      parts = omega (arith, l, w.parts);
+      texts = omega (arith, l, w.texts);
+      saved = omega (arith, l, w.saved);
+      pending = omega (arith, l, w.pending);
+    }
 
 -- what is kept is within the limit
-pub bounds_of : (printing : Printing) (symbol : List ℕ) (store : Store) (saved limit : ℕ) → limit ≡ min (limit_of printing.limit (length symbol)) 4294967295 → IsWithin limit store → saved ≤ limit
-    → HasBounds printing symbol store saved
-bounds_of printing symbol store saved limit e w l =
-    let small : limit ≤ limit_of printing.limit (length symbol) = omega (arith, e) in
-    record { within = within_more limit (limit_of printing.limit (length symbol)) store small w; few_saved = omega (arith, small, l) }
+pub bounds_of : (printing : Printing) (symbol : List ℕ) (store : Store) (limit : ℕ) → limit ≡ min (limit_of printing.limit (length symbol)) 4294967295 → IsWithin limit store → HasBounds printing symbol store
+bounds_of printing symbol store limit e w =
+    record { within = within_more limit (limit_of printing.limit (length symbol)) store (omega (arith, e)) w }
 
 -- what was cleared keeps nothing
-pub bounds_none : (printing : Printing) (symbol : List ℕ) (store : Store) (saved : List ℕ) → IsWithin 0 store → saved ≡ [] → HasBounds printing symbol store (length saved)
-bounds_none printing symbol store saved w e =
-    record { within = within_more 0 (limit_of printing.limit (length symbol)) store (omega arith) w; few_saved = omega (arith, ap length e) }
+pub within_none : (store : Store) → size store ≡ 0 → (store.held.lists ≡ []) × (store.held.parts ≡ []) × (store.held.texts ≡ []) → (store.saved ≡ []) × (store.pending ≡ []) → IsWithin 0 store
+within_none store n h l =
+    record {
+      nodes = omega (arith, n);
+      items = omega (arith, ap length h.0);
+      parts = omega (arith, ap length h.1);
+      texts = omega (arith, ap length h.2);
+      saved = omega (arith, ap length l.0);
+      pending = omega (arith, ap length l.1);
+    }
 
-pub ruleset answers = (bounds_of, bounds_none)
+pub bounds_none : (printing : Printing) (symbol : List ℕ) (store : Store) → IsWithin 0 store → HasBounds printing symbol store
+bounds_none printing symbol store w = record { within = within_more 0 (limit_of printing.limit (length symbol)) store (omega arith) w }
+
+-- nothing is saved
+pub none_saved : (store : Store) → store.saved ≡ [] → saved_trees store ≡ []
+unfolding saved_trees
+none_saved store e = ap (map (stands store)) e
+
+pub ruleset answers = (bounds_of, bounds_none, within_none, none_saved)

@@ -68,7 +68,7 @@ abbrev pub limit_of : Option ℕ → ℕ → ℕ
 limit_of (Some limit) n = limit
 limit_of None n = 16 * n + 4194304
 
--- what is kept of a symbol is within its limit: nodes and what they refer to, and saved trees
-pub record HasBounds (printing : Printing) (symbol : List ℕ) (store : Store) (saved : ℕ) : Type 0 where
+-- what is kept of a symbol is within its limit: nodes and what they refer to, substitution candidates, and nodes of
+-- lists that are read
+pub record HasBounds (printing : Printing) (symbol : List ℕ) (store : Store) : Type 0 where
   pub within : IsWithin (limit_of printing.limit (length symbol)) store
-  pub few_saved : saved ≤ limit_of printing.limit (length symbol)

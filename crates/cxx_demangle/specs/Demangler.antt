@@ -1,10 +1,10 @@
 -- What a demangler keeps between calls.
-use Rattle.std.specs.Prelude.{ℕ, List, Bool, true, false, Option, Some, None, Result, Ok, Err, length}
+use Rattle.std.specs.Prelude.{ℕ, List, Bool, true, false, Option, Some, None, Result, Ok, Err}
 use Rattle.std.specs.Str.{IsUtf8}
 use Rattle.std.specs.declared.alloc.AllocError.{AllocError}
 use Rattle.cxx_tree.specs.Tree.{Tree}
-use Rattle.cxx_tree.specs.Stored.{Store}
-use Rattle.cxx_reader.specs.Table.{Table, IsNode, stands}
+use Rattle.cxx_tree.specs.Stored.{Store, stands}
+use Rattle.cxx_tree.specs.Kept.{IsNode}
 use Rattle.cxx_demangle.specs.declared.demangler.Demangler.TheInside.{Inside}
 use Rattle.cxx_demangle.specs.Answer.{IsWhole}
 
@@ -16,15 +16,13 @@ answer_of false text = None
 -- what is left of the last symbol
 pub record LastAnswer : Type 0 where
   pub text : Option (List ℕ)  -- its answer, if there is one
-  pub store : Store  -- its nodes, and what they refer to
-  pub saved : ℕ  -- how many substitution candidates it saved
+  pub store : Store  -- its nodes, what they refer to, and its substitution candidates
 
 -- what the fields mean
 abbrev pub last_answer : Inside → LastAnswer
 last_answer d = record {
   text = answer_of d.is_answered d.text;
-  store = d.tables.store;
-  saved = length d.tables.saved;
+  store = d.arena;
 }
 
 -- a text, where there is one, is UTF-8
@@ -37,7 +35,7 @@ abbrev pub KeepsAnswer : Inside → Type 0
 KeepsAnswer d = IsOptionUtf8 (answer_of d.is_answered d.text)
 
 -- the node of the encoding that all of the bytes are read as; or there is no such encoding
-abbrev pub GivesWhole : Result (Option ℕ) AllocError → Table → List ℕ → Type 0
+abbrev pub GivesWhole : Result (Option ℕ) AllocError → Store → List ℕ → Type 0
 GivesWhole (Ok (Some i)) after bytes = IsNode after i × IsWhole bytes (stands after i)
 GivesWhole (Ok None) after bytes = (t : Tree) → IsWhole bytes t → ⊥
 GivesWhole (Err e) after bytes = Unit {0}

@@ -1,12 +1,13 @@
 //! `Demangler`, which demangles symbol after symbol.
-#![tactic(auto, using(crate::proofs::Whole::answers), unfolding(cxx_reader::specs::Table::stands))]
+#![tactic(auto, using(crate::proofs::Whole::answers), unfolding(cxx_tree::specs::Stored::stands))]
 
 ghost use Rattle.std.specs.Prelude.{◌≡◌, ◌≤◌, length, min, IfOk, OnOk, OnErr, MatchResult, ⊤, option_map, is_some, true, false, Ok, None};
 ghost use Rattle.std.specs.Borrow.{sem};
 ghost use Rattle.std.specs.Str.{IsUtf8};
 ghost use Rattle.abi_scalars.specs.Symbol as symbols;
 ghost use Rattle.cxx_tree.specs.Stored.{IsWithin};
-ghost use Rattle.cxx_reader.specs.Table.{IsNode, stands};
+ghost use Rattle.cxx_tree.specs.Stored.{stands};
+ghost use Rattle.cxx_tree.specs.Kept.{IsNode};
 ghost use Rattle.cxx_demangle.specs.Answer as spec;
 ghost use Rattle.cxx_demangle.specs.Answer.{IsAnswer, HasAtMostOneReading, HasBounds, IsText, text_of};
 ghost use Rattle.cxx_demangle.specs.Demangler.{GivesWhole};
@@ -14,7 +15,8 @@ ghost use Rattle.cxx_demangle.specs.Demangler.{GivesWhole};
 use abi_scalars::symbol::after_prefix;
 use abi_scalars::utf8::is_utf8;
 use cxx_printer::{Mode, Style, Symbol, print_symbol};
-use cxx_reader::{Reader, Stop, Tables, read_encoding};
+use cxx_reader::{Reader, read_encoding};
+use cxx_tree::{Arena, Stop};
 use growing_text::Text;
 use std::alloc::{AllocError, Global};
 use std::fmt::{self, Debug, Formatter, Write};
@@ -51,7 +53,7 @@ pub struct Demangler {
     is_answered: bool,
     text: Text,
     // Where symbols are read. Its memory stays.
-    tables: Tables,
+    arena: Arena,
 }
 
 impl Model for Demangler {
@@ -77,48 +79,47 @@ fn limit_of(limit: Option<usize>, len: usize) -> usize
 // Reads all of the bytes as an encoding, and keeps at most `limit` of each kind. Returns its node, or `None` if there is
 // no such encoding within the limits of the grammar.
 fn read(
-    tables: &mut Tables,
+    arena: &mut Arena,
     alloc: Global,
     bytes: &[u8],
     limit: usize,
 ) -> Result<Option<u32>, AllocError>
-    ensures gives { GivesWhole result tables.new bytes.now }
-    ensures within { IsWithin limit tables.new.store }
-    ensures saved { length tables.new.saved ≤ limit }
+    ensures gives { GivesWhole result arena.new bytes.now }
+    ensures within { IsWithin limit arena.new }
 {
-    // The reader owns the tables while it reads.
-    let mut cleared = replace(tables, Tables::new(alloc));
+    // The reader owns the arena while it reads.
+    let mut cleared = replace(arena, Arena::new(alloc));
     cleared.clear(limit);
     let mut reader = Reader {
         rest: bytes,
-        tables: cleared,
+        arena: cleared,
         replaced: 0,
         alloc,
     };
     let read = read_encoding(&mut reader, MAX_DEPTH);
     let is_whole = reader.rest.is_empty();
-    swap(tables, &mut reader.tables);
+    swap(arena, &mut reader.arena);
     // Its clauses say that the limit is kept.
-    tables.limit();
+    arena.limit();
     match read {
         Ok(tree) if is_whole => Ok(Some(tree)),
         Ok(_) => Ok(None),
         // What wasn't read to its end leaves nothing.
         Err(Stop::Unreadable) => {
-            tables.clear(limit);
+            arena.clear(limit);
             Ok(None)
         }
         Err(Stop::Memory) => {
-            tables.clear(limit);
+            arena.clear(limit);
             Err(AllocError)
         }
     }
 }
 
 // Makes the text the printing of a tree.
-fn print(tables: &Tables, tree: u32, printing: Printing, text: &mut Text) -> Result<(), AllocError>
-    requires within { IsNode tables.now tree }
-    ensures text { OnOk result (text.new ≡ text_of printing (stands tables.now tree)) }
+fn print(arena: &Arena, tree: u32, printing: Printing, text: &mut Text) -> Result<(), AllocError>
+    requires within { IsNode arena.now tree }
+    ensures text { OnOk result (text.new ≡ text_of printing (stands arena.now tree)) }
 {
     text.clear();
     // Neither blocks nor suffixes are read so far.
@@ -127,7 +128,7 @@ fn print(tables: &Tables, tree: u32, printing: Printing, text: &mut Text) -> Res
         is_block: false,
         suffix: None,
     };
-    print_symbol(tables.arena(), symbol, printing.mode, printing.style, text)
+    print_symbol(arena, symbol, printing.mode, printing.style, text)
 }
 
 // Returns whether a text may be an answer.
@@ -146,12 +147,12 @@ impl Demangler {
     /// Returns a value that has read no symbol. Allocates nothing.
     pub fn new(alloc: Global) -> Self
         ensures empty { result.text ≡ None }
-        ensures nothing { IsWithin 0 result.store × (result.saved ≡ 0) }
+        ensures nothing { IsWithin 0 result.store }
     {
         Demangler {
             is_answered: false,
             text: Text::new(alloc),
-            tables: Tables::new(alloc),
+            arena: Arena::new(alloc),
         }
     }
 
@@ -179,18 +180,18 @@ impl Demangler {
         ensures one { HasAtMostOneReading symbol.now }
         ensures no_prefix { symbols.after_prefix symbol.now ≡ None → (result ≡ Ok false) × (self.new.text ≡ None) }
         ensures err { OnErr result (self.new.text ≡ None) }
-        ensures bounds { HasBounds printing symbol.now self.new.store self.new.saved }
+        ensures bounds { HasBounds printing symbol.now self.new.store }
     {
         self.is_answered = false;
         let limit = limit_of(printing.limit, symbol.len());
         let Some(bytes) = after_prefix(symbol.as_bytes()) else {
-            self.tables.clear(limit);
+            self.arena.clear(limit);
             return Ok(false);
         };
-        let Some(tree) = read(&mut self.tables, alloc, bytes, limit)? else {
+        let Some(tree) = read(&mut self.arena, alloc, bytes, limit)? else {
             return Ok(false);
         };
-        print(&self.tables, tree, printing, &mut self.text)?;
+        print(&self.arena, tree, printing, &mut self.text)?;
         let is_answered = is_answer(self.text.as_slice());
         self.is_answered = is_answered;
         Ok(is_answered)
@@ -223,8 +224,8 @@ impl Demangler {
         ensures* kept { sem 𝓛 (follows_so the_row the_row self.entry.ghost_name none (λ _ _. ⊤)
             (λ last. MatchResult result
             (λ found. (last.text ≡ option_map (λ text. text.now) found)
-            × HasBounds printing symbol.now last.store last.saved)
-            (λ _. (last.text ≡ None) × HasBounds printing symbol.now last.store last.saved))) }
+            × HasBounds printing symbol.now last.store)
+            (λ _. (last.text ≡ None) × HasBounds printing symbol.now last.store))) }
     {
         self.prepare(alloc, symbol, printing)?;
         Ok(self.text())

@@ -8,6 +8,7 @@ use Rattle.cxx_tree.specs.declared.kinds.Std.{Std}
 use Rattle.cxx_tree.specs.declared.kinds.Std.TheVariants as std
 use Rattle.cxx_tree.specs.Tree.{Tree, named, std_name, param}
 use Rattle.cxx_tree.specs.Rows.{word, literal, prefixed}
+use Rattle.cxx_tree.specs.Texts.{number_printed}
 use Rattle.abi_scalars.specs.Bytes.{begins}
 use Rattle.abi_scalars.specs.Scalars.{index_of, source_text}
 use Rattle.abi_scalars.specs.Texts.{identifier, number_text}
@@ -121,10 +122,6 @@ abbrev pub parse_builtin : Parses Tree
 parse_builtin s =
     if begins (codes "D") s.rest then parse_d_builtin (skip 1 s)
     else builtin_word (at_letter builtin_of s.rest) (skip 1 s)
-
--- what is printed of a number: its n is a minus
-abbrev pub number_printed : List ℕ → List ℕ
-number_printed bytes = if begins (codes "n") bytes then codes "-" ++ drop 1 bytes else bytes
 
 abbrev pub before_e : {A : Type 0} → A → Parses A
 before_e value s = if begins (codes "E") s.rest then Some (value, skip 1 s) else None

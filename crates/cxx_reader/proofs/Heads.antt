@@ -16,12 +16,12 @@ use Rattle.cxx_grammar.specs.Cases.{case_of_component}
 use Rattle.cxx_grammar.specs.Leaves.{parse_source, parse_base, base_as, parse_substitution, parse_template_param, past_cv, past_ref}
 use Rattle.cxx_grammar.specs.Grammar.{info_at, make_scoped, std}
 use Rattle.cxx_grammar.specs.Grammar.{Productions, base_in_std, parse_component, parse_next, component_as, parse_rest, first_as, with_info}
-use Rattle.cxx_tree.specs.Grows.{Grows}
+use Rattle.cxx_tree.specs.Kept.{KeepsNodes, IsNode}
 use Rattle.std.specs.Prelude.{IfSome, option_map}
 use Rattle.cxx_reader.specs.declared.reader.Reader.{Reader}
-use Rattle.cxx_reader.specs.declared.stop.Stop.{Stop}
-use Rattle.cxx_reader.specs.declared.stop.Stop.TheVariants.{Unreadable, Memory}
-use Rattle.cxx_reader.specs.Table.{Table, IsNode, stands}
+use Rattle.cxx_tree.specs.declared.arena.Stop.{Stop}
+use Rattle.cxx_tree.specs.declared.arena.Stop.TheVariants.{Unreadable, Memory}
+use Rattle.cxx_tree.specs.Stored.{Store, stands}
 use Rattle.cxx_reader.specs.Outcome.{Gives, GivesNamed}
 use Rattle.cxx_reader.proofs.Rules.{productions}
 use Rattle.cxx_reader.specs.Heads.{next_source, source_in, named_in, head_as, begins_name}
@@ -118,7 +118,7 @@ pub source_ok : (p : Productions) (q : Named) (s after : State) (t : Tree) → b
 source_ok p q s after t b read = source_next p q s b ∙ rw read refl
 
 -- the name after `CI` stays
-pub inherited_stays : (a b : Table) (o : Option ℕ) → Grows a.store b.store → IfSome o (IsNode a)
+pub inherited_stays : (a b : Store) (o : Option ℕ) → KeepsNodes a b → IfSome o (IsNode a)
     → IfSome o (IsNode b) × (option_map (stands b) o ≡ option_map (stands a) o)
 unfolding stands
 inherited_stays a b None g h = (tt, refl)

@@ -1,4 +1,4 @@
-pub mod Table
+pub mod Store
 pub mod View
 pub mod Outcome
 pub mod Unbound

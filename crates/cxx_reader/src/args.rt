@@ -1,22 +1,22 @@
 //! Template arguments (Itanium C++ ABI 5.1.5.4, 5.1.6).
-#![tactic(auto, using(crate::proofs::Rules::productions), unfolding(cxx_tree::specs::Stored::tree_of, cxx_tree::specs::Stored::plain_tree, cxx_tree::specs::Stored::IsBelow, cxx_tree::specs::Stored::IsPlainBelow, crate::specs::Table::stands, crate::specs::Outcome::list_trees, crate::specs::Items::ends, crate::specs::Items::item_of, cxx_grammar::specs::Grammar::arg_as, cxx_grammar::specs::Grammar::literal_as))]
+#![tactic(auto, using(crate::proofs::Rules::productions), unfolding(cxx_tree::specs::Stored::tree_of, cxx_tree::specs::Stored::plain_tree, cxx_tree::specs::Stored::IsBelow, cxx_tree::specs::Stored::IsPlainBelow, cxx_tree::specs::Stored::stands, crate::specs::Outcome::list_trees, crate::specs::Items::ends, crate::specs::Items::item_of, cxx_grammar::specs::Grammar::arg_as, cxx_grammar::specs::Grammar::literal_as))]
 
 ghost use Rattle.std.specs.Prelude.{◌≡◌, ℕ, ◌<◌, ◌≤◌, length, OnOk, Some};
 ghost use Rattle.cxx_tree.specs.Rows as rows;
-ghost use Rattle.cxx_tree.specs.Stored.{forest, size};
+ghost use Rattle.cxx_tree.specs.Texts.{number_printed};
+ghost use Rattle.cxx_tree.specs.Stored.{forest, size, stands};
+ghost use Rattle.cxx_tree.specs.Kept.{IsNode};
 ghost use Rattle.cxx_grammar.specs.State as state_spec;
 ghost use Rattle.cxx_grammar.specs.Leaves as leaves;
 ghost use Rattle.cxx_grammar.specs.Grammar as spec;
-ghost use Rattle.cxx_reader.specs.Table.{IsNode, stands};
 ghost use Rattle.cxx_reader.specs.Outcome.{state, Keeps, Moves, Gives, GivesList};
 
 use crate::cases::{arg_case, literal_case};
 use crate::items::{Items, read_items};
 use crate::reader::Reader;
-use crate::stop::Stop;
 use crate::types::read_type;
 use cxx_grammar::cases::{ArgCase, LiteralCase};
-use cxx_tree::{List, Node, Plain};
+use cxx_tree::{List, Node, Plain, Stop};
 
 /// Reads `<template-arg>* E`, after a letter.
 #[cycle(reader)]
@@ -26,10 +26,10 @@ pub fn read_args(reader: &mut Reader, depth: usize) -> Result<List, Stop>
     ensures moves { OnOk result (Moves reader.old reader.new) }
 {
     reader.skip(1);
-    let from = reader.tables.pending_len();
+    let from = reader.arena.pending_len();
     tri!(read_items(reader, depth, Items::Args));
     reader.skip(1);
-    reader.tables.close(from)
+    reader.arena.list_from(from)
 }
 
 /// Reads `<template-arg>`. At most `depth` counted productions may nest, this one included.
@@ -89,12 +89,12 @@ fn read_typed(reader: &mut Reader, depth: usize) -> Result<u32, Stop>
 impl<'a> Reader<'a> {
     // Makes a literal of a type with a number.
     fn make_typed_literal(&mut self, t: u32, number: &[u8]) -> Result<u32, Stop>
-        requires t { IsNode self.old.tables t }
-        ensures reads { Gives result self.new (state_spec.make (rows.typed_literal (stands self.old.tables t)
-            (leaves.number_printed number.now)) (state self.old)) }
+        requires t { IsNode self.old.arena t }
+        ensures reads { Gives result self.new (state_spec.make (rows.typed_literal (stands self.old.arena t)
+            (number_printed number.now)) (state self.old)) }
         ensures keeps { OnOk result (Keeps self.old self.new) }
         ensures rest { OnOk result (self.new.rest.now ≡ self.old.rest.now) }
     {
-        self.tables.make_typed_literal(self.alloc, t, number)
+        self.arena.make_typed_literal(t, number)
     }
 }

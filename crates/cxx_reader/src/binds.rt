@@ -1,22 +1,21 @@
 //! What becomes of the template parameters of an encoding.
-#![tactic(auto, using(crate::proofs::Rules::productions), unfolding(crate::specs::Table::stands, crate::specs::Table::saved_trees, crate::specs::Outcome::named_at, crate::specs::Outcome::list_trees, cxx_tree::specs::Counts::Row))]
+#![tactic(auto, using(crate::proofs::Rules::productions), unfolding(cxx_tree::specs::Stored::stands, cxx_tree::specs::Stored::saved_trees, crate::specs::Outcome::named_at, crate::specs::Outcome::list_trees, cxx_tree::specs::Counts::Row))]
 
 ghost use Rattle.std.specs.Prelude.{◌≡◌, ℕ, ◌+◌, ◌*◌, ◌<◌, ◌≤◌, [], length, map, drop, take, OnOk, IfSome, option_map, Option, true};
-ghost use Rattle.cxx_tree.specs.Grows.{Grows};
+ghost use Rattle.cxx_tree.specs.Kept.{KeepsNodes, IsNode};
 ghost use Rattle.cxx_tree.specs.Bind.{bind};
 ghost use Rattle.cxx_tree.specs.Measure.{measure, measure_each};
-ghost use Rattle.cxx_tree.specs.Stored.{forest, size, trees_in, trees_from_list, IsListBelow};
+ghost use Rattle.cxx_tree.specs.Stored.{forest, size, trees_in, trees_from_list, IsListBelow, stands};
 ghost use Rattle.cxx_grammar.specs.State as grammar;
 ghost use Rattle.cxx_grammar.specs.Bases as bases;
 ghost use Rattle.cxx_grammar.specs.Binds as spec;
-ghost use Rattle.cxx_reader.specs.Table.{IsNode, stands};
 ghost use Rattle.cxx_reader.specs.Unbound.{IsUnbound, bind_counted};
 ghost use Rattle.cxx_reader.specs.Outcome.{state, Keeps, KeepsFront, Gives, GivesFrom, GivesCount, IsNamed, named_at, list_trees};
 
 use crate::bases::args_of;
 use crate::reader::{Named, Reader};
-use crate::stop::Stop;
-use cxx_tree::List;
+use cxx_tree::bind::{Binding, Rest, bind};
+use cxx_tree::{List, Stop};
 
 // The most nodes of a symbol that may be replaced.
 const MAX_REPLACED: usize = 65_536;
@@ -24,12 +23,12 @@ const MAX_REPLACED: usize = 65_536;
 impl<'a> Reader<'a> {
     // Counts the nodes of a tree that are or contain a template parameter.
     fn count_replaced(&mut self, i: u32) -> Result<(), Stop>
-        requires node { IsNode self.old.tables i }
-        ensures reads { GivesCount result self.new (spec.count_replaced (stands self.old.tables i) (state self.old)) }
-        ensures tables { self.new.tables ≡ self.old.tables }
+        requires node { IsNode self.old.arena i }
+        ensures reads { GivesCount result self.new (spec.count_replaced (stands self.old.arena i) (state self.old)) }
+        ensures arena { self.new.arena ≡ self.old.arena }
         ensures rest { self.new.rest.now ≡ self.old.rest.now }
     {
-        let params = self.tables.arena().measure(i).params as usize;
+        let params = self.arena.measure(i).params as usize;
         if self.replaced.saturating_add(params) > MAX_REPLACED {
             return Err(Stop::Unreadable);
         }
@@ -39,22 +38,29 @@ impl<'a> Reader<'a> {
 
     // Binds a node: the nodes from `from` on of the list that is read stand for its template parameters.
     fn bind_one(&mut self, from: usize, i: u32) -> Result<u32, Stop>
-        requires node { IsNode self.old.tables i }
-        requires within { from ≤ length self.old.tables.pending }
-        ensures reads { Gives result self.new (grammar.make (bind (spec.binding_of (map (stands self.old.tables)
-            (drop from self.old.tables.pending))) (stands self.old.tables i)) (state self.old)) }
+        requires node { IsNode self.old.arena i }
+        requires within { from ≤ length self.old.arena.pending }
+        ensures reads { Gives result self.new (grammar.make (bind (spec.binding_of (map (stands self.old.arena)
+            (drop from self.old.arena.pending))) (stands self.old.arena i)) (state self.old)) }
         ensures keeps { OnOk result (Keeps self.old self.new) }
         ensures rest { self.new.rest.now ≡ self.old.rest.now }
     {
-        self.tables.bind(self.alloc, from, i)
+        // Its clauses say that these are nodes.
+        self.arena.pending(from);
+        let binding = Binding {
+            level: 0,
+            from,
+            rest: Rest::Keep,
+        };
+        bind(&mut self.arena, self.alloc, &binding, i)
     }
 
     // Binds an argument.
     fn bind_arg(&mut self, is_inherited: bool, from: usize, i: u32) -> Result<u32, Stop>
-        requires node { IsNode self.old.tables i }
-        requires within { from ≤ length self.old.tables.pending }
-        ensures reads { Gives result self.new (spec.bind_arg is_inherited (map (stands self.old.tables)
-            (drop from self.old.tables.pending)) (stands self.old.tables i) (state self.old)) }
+        requires node { IsNode self.old.arena i }
+        requires within { from ≤ length self.old.arena.pending }
+        ensures reads { Gives result self.new (spec.bind_arg is_inherited (map (stands self.old.arena)
+            (drop from self.old.arena.pending)) (stands self.old.arena i) (state self.old)) }
         ensures keeps { OnOk result (Keeps self.old self.new) }
         ensures rest { self.new.rest.now ≡ self.old.rest.now }
     {
@@ -67,43 +73,43 @@ impl<'a> Reader<'a> {
     // Binds arguments, each with those before it in the place of its template parameters. Appends them to the list
     // that is read.
     fn bind_args(&mut self, is_inherited: bool, args: List) -> Result<(), Stop>
-        requires args { IsListBelow self.old.tables.store.held (size self.old.tables.store) args }
-        ensures reads { GivesFrom result (length self.old.tables.pending) self.new (spec.bind_args is_inherited []
-            (trees_from_list (list_trees self.old.tables args)) (state self.old)) }
+        requires args { IsListBelow self.old.arena.held (size self.old.arena) args }
+        ensures reads { GivesFrom result (length self.old.arena.pending) self.new (spec.bind_args is_inherited []
+            (trees_from_list (list_trees self.old.arena args)) (state self.old)) }
         ensures keeps { OnOk result (KeepsFront self.old self.new) }
         ensures rest { self.new.rest.now ≡ self.old.rest.now }
     {
-        let from = self.tables.pending_len();
-        let len = self.tables.arena().items(args).len();
+        let from = self.arena.pending_len();
+        let len = self.arena.items(args).len();
         for k in 0..len {
-            let arg = self.tables.item(args, k);
+            let arg = self.arena.item(args, k);
             let bound = tri!(self.bind_arg(is_inherited, from, arg));
-            tri!(self.tables.add(bound));
+            tri!(self.arena.add(bound));
         }
         Ok(())
     }
 
     // Returns the arguments of the name after `CI`, unless the name ends with its own.
     fn inherited_args(&self, name: Named) -> Option<List>
-        requires named { IsNamed self.now.tables name }
-        ensures value { option_map (λ l. trees_from_list (list_trees self.now.tables l)) result
-            ≡ spec.inherited_args (named_at self.now.tables name) }
-        ensures below { IfSome result (IsListBelow self.now.tables.store.held (size self.now.tables.store)) }
+        requires named { IsNamed self.now.arena name }
+        ensures value { option_map (λ l. trees_from_list (list_trees self.now.arena l)) result
+            ≡ spec.inherited_args (named_at self.now.arena name) }
+        ensures below { IfSome result (IsListBelow self.now.arena.held (size self.now.arena)) }
     {
         if name.info.ends_with_args {
             return None;
         }
         match name.info.inherited {
-            Some(from) => args_of(self.tables.arena(), from),
+            Some(from) => args_of(&self.arena, from),
             None => None,
         }
     }
 
     // Binds the arguments of an encoding, if its name has some.
     fn bind_arguments(&mut self, name: Named) -> Result<(), Stop>
-        requires named { IsNamed self.old.tables name }
-        ensures reads { GivesFrom result (length self.old.tables.pending) self.new (spec.bind_first
-            (spec.inherited_args (named_at self.old.tables name)) (bases.args_of (stands self.old.tables name.node))
+        requires named { IsNamed self.old.arena name }
+        ensures reads { GivesFrom result (length self.old.arena.pending) self.new (spec.bind_first
+            (spec.inherited_args (named_at self.old.arena name)) (bases.args_of (stands self.old.arena name.node))
             (state self.old)) }
         ensures keeps { OnOk result (KeepsFront self.old self.new) }
         ensures rest { self.new.rest.now ≡ self.old.rest.now }
@@ -111,7 +117,7 @@ impl<'a> Reader<'a> {
         if let Some(args) = self.inherited_args(name) {
             return self.bind_args(true, args);
         }
-        match args_of(self.tables.arena(), name.node) {
+        match args_of(&self.arena, name.node) {
             Some(args) => self.bind_args(false, args),
             None => Ok(()),
         }
@@ -119,10 +125,10 @@ impl<'a> Reader<'a> {
 
     // Refuses a node whose tree holds a template parameter.
     fn closed(&self, i: u32) -> Result<u32, Stop>
-        requires node { IsNode self.now.tables i }
-        ensures reads { Gives result self.now (spec.closed (stands self.now.tables i) (state self.now)) }
+        requires node { IsNode self.now.arena i }
+        ensures reads { Gives result self.now (spec.closed (stands self.now.arena i) (state self.now)) }
     {
-        if !self.tables.is_closed(i) {
+        if !self.arena.is_closed(i) {
             return Err(Stop::Unreadable);
         }
         Ok(i)
@@ -130,48 +136,48 @@ impl<'a> Reader<'a> {
 
     // Binds the tree of an encoding to the nodes from `from` on, which leave the list that is read.
     fn bind_tree(&mut self, from: usize, i: u32) -> Result<u32, Stop>
-        requires node { IsNode self.old.tables i }
-        requires within { from ≤ length self.old.tables.pending }
-        ensures reads { Gives result self.new (spec.bind_tree (map (stands self.old.tables)
-            (drop from self.old.tables.pending)) (stands self.old.tables i) (state self.old)) }
-        ensures grows { OnOk result (Grows self.old.tables.store self.new.tables.store) }
-        ensures pending { OnOk result (self.new.tables.pending ≡ take from self.old.tables.pending) }
+        requires node { IsNode self.old.arena i }
+        requires within { from ≤ length self.old.arena.pending }
+        ensures reads { Gives result self.new (spec.bind_tree (map (stands self.old.arena)
+            (drop from self.old.arena.pending)) (stands self.old.arena i) (state self.old)) }
+        ensures grows { OnOk result (KeepsNodes self.old.arena self.new.arena) }
+        ensures pending { OnOk result (self.new.arena.pending ≡ take from self.old.arena.pending) }
         ensures rest { self.new.rest.now ≡ self.old.rest.now }
     {
         let bound = self.bind_one(from, i);
-        self.tables.truncate(from);
+        self.arena.cut(from);
         self.closed(tri!(bound))
     }
 
     // Returns whether the tree of an encoding stays as it is, since neither it nor its name holds a template parameter.
-    #[tactic(auto, using(crate::proofs::Unbound::unbound), unfolding(crate::specs::Table::stands, crate::specs::Outcome::named_at, cxx_tree::specs::Counts::Row))]
+    #[tactic(auto, using(crate::proofs::Unbound::unbound), unfolding(cxx_tree::specs::Stored::stands, crate::specs::Outcome::named_at, cxx_tree::specs::Counts::Row))]
     fn is_unbound(&self, name: Named, i: u32) -> bool
-        requires named { IsNamed self.now.tables name }
-        requires node { IsNode self.now.tables i }
-        ensures stays { result ≡ true → IsUnbound (named_at self.now.tables name) (stands self.now.tables i) }
+        requires named { IsNamed self.now.arena name }
+        requires node { IsNode self.now.arena i }
+        ensures stays { result ≡ true → IsUnbound (named_at self.now.arena name) (stands self.now.arena i) }
     {
         if name.info.inherited.is_some() {
             return false;
         }
-        let named = self.tables.arena().measure(name.node);
-        let tree = self.tables.arena().measure(i);
+        let named = self.arena.measure(name.node);
+        let tree = self.arena.measure(i);
         named.params == 0 && tree.params == 0
     }
 
     // Binds the arguments of the name of an encoding, and then its tree, whose template parameters are counted.
     fn bind_counted(&mut self, name: Named, i: u32) -> Result<u32, Stop>
-        requires named { IsNamed self.old.tables name }
-        requires node { IsNode self.old.tables i }
-        ensures reads { Gives result self.new (bind_counted (named_at self.old.tables name) (stands self.old.tables i)
+        requires named { IsNamed self.old.arena name }
+        requires node { IsNode self.old.arena i }
+        ensures reads { Gives result self.new (bind_counted (named_at self.old.arena name) (stands self.old.arena i)
             (state self.old)) }
         ensures keeps { OnOk result (Keeps self.old self.new) }
         ensures rest { self.new.rest.now ≡ self.old.rest.now }
     {
-        let from = self.tables.pending_len();
+        let from = self.arena.pending_len();
         match self.bind_arguments(name) {
             Ok(()) => self.bind_tree(from, i),
             Err(stop) => {
-                self.tables.truncate(from);
+                self.arena.cut(from);
                 Err(stop)
             }
         }
@@ -179,10 +185,10 @@ impl<'a> Reader<'a> {
 
     /// Puts the arguments of the name of an encoding in the place of the template parameters of its tree.
     pub fn bind(&mut self, name: Named, i: u32) -> Result<u32, Stop>
-        requires named { IsNamed self.old.tables name }
-        requires node { IsNode self.old.tables i }
-        ensures reads { Gives result self.new (spec.bind_encoding (named_at self.old.tables name)
-            (stands self.old.tables i) (state self.old)) }
+        requires named { IsNamed self.old.arena name }
+        requires node { IsNode self.old.arena i }
+        ensures reads { Gives result self.new (spec.bind_encoding (named_at self.old.arena name)
+            (stands self.old.arena i) (state self.old)) }
         ensures keeps { OnOk result (Keeps self.old self.new) }
         ensures rest { self.new.rest.now ≡ self.old.rest.now }
     {

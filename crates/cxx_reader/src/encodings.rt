@@ -1,26 +1,24 @@
 //! Encodings (Itanium C++ ABI 5.1.2).
-#![tactic(auto, using(crate::proofs::Rules::productions), unfolding(cxx_tree::specs::Stored::tree_of, cxx_tree::specs::Stored::plain_tree, cxx_tree::specs::Stored::IsBelow, cxx_tree::specs::Stored::IsPlainBelow, crate::specs::Table::stands, crate::specs::Outcome::named_at, crate::specs::Items::ends, crate::specs::Items::item_of))]
+#![tactic(auto, using(crate::proofs::Rules::productions), unfolding(cxx_tree::specs::Stored::tree_of, cxx_tree::specs::Stored::plain_tree, cxx_tree::specs::Stored::IsBelow, cxx_tree::specs::Stored::IsPlainBelow, cxx_tree::specs::Stored::stands, crate::specs::Outcome::named_at, crate::specs::Items::ends, crate::specs::Items::item_of))]
 
 ghost use Rattle.std.specs.Prelude.{◌≡◌, ℕ, ◌+◌, ◌*◌, ◌<◌, ◌≤◌, ◌&&◌, not, length, map, drop, take, OnOk, IfSome, option_map};
-ghost use Rattle.cxx_tree.specs.Grows.{Grows};
-ghost use Rattle.cxx_tree.specs.Stored.{forest, size};
+ghost use Rattle.cxx_tree.specs.Kept.{KeepsNodes, IsNode};
+ghost use Rattle.cxx_tree.specs.Stored.{forest, size, stands};
 ghost use Rattle.cxx_grammar.specs.Grammar as spec;
-ghost use Rattle.cxx_reader.specs.Table.{IsNode, stands};
 ghost use Rattle.cxx_reader.specs.Outcome.{state, Keeps, KeepsFront, Gives, GivesOption, GivesFrom, IsNamed, named_at, info_at};
 
 use crate::cases::is_encoding_end;
 use crate::items::{Items, read_items};
 use crate::names::read_name;
 use crate::reader::{Info, Named, Reader};
-use crate::stop::Stop;
 use crate::types::read_type;
-use cxx_tree::{Node, Plain};
+use cxx_tree::{Clauses, Node, Plain, Stop};
 
 /// Reads what follows the name of an encoding: nothing, or `<bare-function-type>`.
 pub fn read_signature(reader: &mut Reader, depth: usize, name: Named) -> Result<u32, Stop>
-    requires named { IsNamed reader.old.tables name }
+    requires named { IsNamed reader.old.arena name }
     ensures reads { Gives result reader.new (spec.parse_signature (spec.productions depth)
-        (named_at reader.old.tables name) (state reader.old)) }
+        (named_at reader.old.arena name) (state reader.old)) }
     ensures keeps { OnOk result (Keeps reader.old reader.new) }
 {
     if is_encoding_end(reader.rest) {
@@ -31,13 +29,13 @@ pub fn read_signature(reader: &mut Reader, depth: usize, name: Named) -> Result<
 
 // Reads `<bare-function-type> ::= [<return type>] <parameters>`.
 fn read_function(reader: &mut Reader, depth: usize, name: Named) -> Result<u32, Stop>
-    requires named { IsNamed reader.old.tables name }
+    requires named { IsNamed reader.old.arena name }
     ensures reads { Gives result reader.new (spec.parse_function (spec.productions depth)
-        (named_at reader.old.tables name) (state reader.old)) }
+        (named_at reader.old.arena name) (state reader.old)) }
     ensures keeps { OnOk result (Keeps reader.old reader.new) }
 {
     let ret = tri!(read_return_type(reader, depth, has_return(name.info)));
-    let from = reader.tables.pending_len();
+    let from = reader.arena.pending_len();
     tri!(read_params(reader, depth));
     reader.make_function(ret, name, from)
 }
@@ -64,7 +62,7 @@ fn read_return_type(reader: &mut Reader, depth: usize, is_there: bool) -> Result
 
 // Reads `<parameters> ::= v | <type>+`, and appends their nodes to the list that is read.
 fn read_params(reader: &mut Reader, depth: usize) -> Result<(), Stop>
-    ensures reads { GivesFrom result (length reader.old.tables.pending) reader.new
+    ensures reads { GivesFrom result (length reader.old.arena.pending) reader.new
         (spec.parse_params (spec.productions depth) (state reader.old)) }
     ensures keeps { OnOk result (KeepsFront reader.old reader.new) }
 {
@@ -76,31 +74,36 @@ fn read_params(reader: &mut Reader, depth: usize) -> Result<(), Stop>
 
 // Reads `<type>+`, up to the end of the encoding.
 fn read_some_params(reader: &mut Reader, depth: usize) -> Result<(), Stop>
-    ensures reads { GivesFrom result (length reader.old.tables.pending) reader.new
+    ensures reads { GivesFrom result (length reader.old.arena.pending) reader.new
         (spec.parse_some_params (spec.productions depth) (state reader.old)) }
     ensures keeps { OnOk result (KeepsFront reader.old reader.new) }
 {
     let first = tri!(read_type(reader, depth));
-    tri!(reader.tables.add(first));
+    tri!(reader.arena.add(first));
     read_items(reader, depth, Items::Params)
 }
 
 impl<'a> Reader<'a> {
     // Makes the function of a name, whose parameters are the nodes of the list that is read from `from` on.
     fn make_function(&mut self, ret: Option<u32>, name: Named, from: usize) -> Result<u32, Stop>
-        requires ret { IfSome ret (IsNode self.old.tables) }
-        requires named { IsNamed self.old.tables name }
-        requires within { from ≤ length self.old.tables.pending }
-        ensures reads { Gives result self.new (spec.make_function (option_map (stands self.old.tables) ret)
-            (named_at self.old.tables name) (map (stands self.old.tables) (drop from self.old.tables.pending))
+        requires ret { IfSome ret (IsNode self.old.arena) }
+        requires named { IsNamed self.old.arena name }
+        requires within { from ≤ length self.old.arena.pending }
+        ensures reads { Gives result self.new (spec.make_function (option_map (stands self.old.arena) ret)
+            (named_at self.old.arena name) (map (stands self.old.arena) (drop from self.old.arena.pending))
             (state self.old)) }
-        ensures grows { OnOk result (Grows self.old.tables.store self.new.tables.store) }
-        ensures pending { OnOk result (self.new.tables.pending ≡ take from self.old.tables.pending) }
+        ensures grows { OnOk result (KeepsNodes self.old.arena self.new.arena) }
+        ensures pending { OnOk result (self.new.arena.pending ≡ take from self.old.arena.pending) }
         ensures rest { OnOk result (self.new.rest.now ≡ self.old.rest.now) }
     {
         let info = name.info;
-        self.tables
-            .make_function(ret, name.node, from, info.cv, info.ref_qual)
+        let params = tri!(self.arena.list_from(from));
+        let clauses = Clauses {
+            enable_if: None,
+            constraint: None,
+        };
+        self.arena
+            .make_encoding(ret, name.node, params, info.cv, info.ref_qual, clauses)
     }
 }
 

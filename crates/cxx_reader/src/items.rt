@@ -9,8 +9,8 @@ ghost use Rattle.cxx_reader.specs.Outcome.{state, KeepsFront, Moves, Gives, Give
 use crate::args::read_arg;
 use crate::cases::{begins, is_encoding_end};
 use crate::reader::Reader;
-use crate::stop::Stop;
 use crate::types::read_type;
+use cxx_tree::Stop;
 
 /// What the items of a list are, and where it ends.
 #[derive(Clone, Copy)]
@@ -24,14 +24,14 @@ pub enum Items {
 /// Reads the items of a list up to its end, and appends their nodes to the list that is read.
 #[cycle(reader)]
 pub fn read_items(reader: &mut Reader, depth: usize, items: Items) -> Result<(), Stop>
-    ensures reads { GivesFrom result (length reader.old.tables.pending) reader.new
+    ensures reads { GivesFrom result (length reader.old.arena.pending) reader.new
         (spec.parse_list (ends items) (item_of items (spec.productions depth)) (state reader.old)) }
     ensures keeps { OnOk result (KeepsFront reader.old reader.new) }
     ensures end { OnOk result (ends items reader.new.rest.now ≡ true) }
 {
     while !is_end(reader.rest, items) {
         let item = tri!(read_item(reader, depth, items));
-        tri!(reader.tables.add(item));
+        tri!(reader.arena.add(item));
     }
     Ok(())
 }

@@ -20,15 +20,10 @@ mod cases;
 mod encodings;
 mod items;
 mod literals;
-mod made;
 mod names;
 mod reader;
-mod stop;
-mod tables;
 mod types;
 mod words;
 
 pub use crate::encodings::read_encoding;
 pub use crate::reader::Reader;
-pub use crate::stop::Stop;
-pub use crate::tables::Tables;

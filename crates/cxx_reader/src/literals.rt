@@ -6,16 +6,16 @@ ghost use Rattle.cxx_grammar.specs.Leaves as leaves;
 ghost use Rattle.cxx_reader.specs.Outcome.{state, Keeps, Moves, Gives, GivesNumber};
 
 use crate::reader::Reader;
-use crate::stop::Stop;
 use crate::words::integer_of;
 use abi_scalars::texts::number_text;
+use cxx_tree::Stop;
 
 impl<'a> Reader<'a> {
     /// Reads `<number> E`. Returns the number as it is written.
     pub fn read_number_end(&mut self) -> Result<&'a [u8], Stop>
         ensures reads { GivesNumber result self.new (leaves.parse_number_end (state self.old)) }
         ensures moves { OnOk result (Moves self.old self.new) }
-        ensures tables { self.new.tables ≡ self.old.tables }
+        ensures arena { self.new.arena ≡ self.old.arena }
     {
         let Some((number, rest)) = number_text(self.rest) else {
             return Err(Stop::Unreadable);
@@ -37,11 +37,11 @@ impl<'a> Reader<'a> {
         match self.rest {
             [_, b'0', b'E', rest @ ..] => {
                 self.rest = rest;
-                self.tables.make_leaf(false, b"false", b"false")
+                self.arena.make_leaf(false, b"false", b"false")
             }
             [_, b'1', b'E', rest @ ..] => {
                 self.rest = rest;
-                self.tables.make_leaf(false, b"true", b"true")
+                self.arena.make_leaf(false, b"true", b"true")
             }
             _ => Err(Stop::Unreadable),
         }
@@ -55,12 +55,12 @@ impl<'a> Reader<'a> {
         match self.rest {
             [_, _, b'E', rest @ ..] => {
                 self.rest = rest;
-                self.tables
+                self.arena
                     .make_leaf(false, b"nullptr", b"decltype(nullptr)")
             }
             [_, _, b'0', b'E', rest @ ..] => {
                 self.rest = rest;
-                self.tables
+                self.arena
                     .make_leaf(false, b"nullptr", b"(decltype(nullptr))0")
             }
             _ => Err(Stop::Unreadable),
@@ -77,7 +77,7 @@ impl<'a> Reader<'a> {
         };
         self.skip(1);
         let number = tri!(self.read_number_end());
-        self.tables.make_integer(self.alloc, front, number, after)
+        self.arena.make_integer(front, number, after)
     }
 }
 

@@ -1,5 +1,5 @@
 //! Names (Itanium C++ ABI 5.1.2).
-#![tactic(auto, using(crate::proofs::Rules::productions), unfolding(cxx_tree::specs::Stored::tree_of, cxx_tree::specs::Stored::plain_tree, cxx_tree::specs::Stored::IsBelow, cxx_tree::specs::Stored::IsPlainBelow, crate::specs::Table::stands, crate::specs::Outcome::named_at, crate::specs::Outcome::list_trees, cxx_grammar::specs::Grammar::name_as, crate::specs::Heads::head_as, cxx_grammar::specs::Grammar::component_as))]
+#![tactic(auto, using(crate::proofs::Rules::productions), unfolding(cxx_tree::specs::Stored::tree_of, cxx_tree::specs::Stored::plain_tree, cxx_tree::specs::Stored::IsBelow, cxx_tree::specs::Stored::IsPlainBelow, cxx_tree::specs::Stored::stands, crate::specs::Outcome::named_at, crate::specs::Outcome::list_trees, cxx_grammar::specs::Grammar::name_as, crate::specs::Heads::head_as, cxx_grammar::specs::Grammar::component_as))]
 
 ghost use Rattle.std.specs.Prelude.{◌≡◌, ℕ, ◌<◌, ◌≤◌, ◌∷◌, [], codes, length, true, false, Option, Some, OnOk, IfOk, IfSome, option_map};
 ghost use Rattle.cxx_grammar.specs.State as state_spec;
@@ -7,9 +7,9 @@ ghost use Rattle.cxx_grammar.specs.Grammar as spec;
 ghost use Rattle.cxx_reader.specs.Heads as heads;
 ghost use Rattle.cxx_grammar.specs.Leaves as leaves;
 ghost use Rattle.cxx_tree.specs.declared.kinds.RefQual.TheVariants as refqual;
-ghost use Rattle.cxx_reader.specs.Table.{IsNode, stands};
+ghost use Rattle.cxx_tree.specs.Stored.{stands, forest, size, tree_of, IsBelow, IsText, text_at};
+ghost use Rattle.cxx_tree.specs.Kept.{IsNode};
 ghost use Rattle.cxx_tree.specs.Rows as rows;
-ghost use Rattle.cxx_tree.specs.Stored.{forest, size, tree_of, IsBelow, IsText, text_at};
 ghost use Rattle.cxx_grammar.specs.Bases as bases;
 ghost use Rattle.cxx_reader.specs.Outcome as outcome;
 ghost use Rattle.cxx_reader.specs.Outcome.{state, Keeps, Moves, Gives, GivesNamed, IsNamed, named_at, info_at};
@@ -18,10 +18,9 @@ use crate::args::read_args;
 use crate::bases::{base_name, is_param, is_with_args, short_std};
 use crate::cases::{begins, begins_name, component_case, first_case, name_case};
 use crate::reader::{Info, Named, Reader};
-use crate::stop::Stop;
 use abi_scalars::texts::begins_source;
 use cxx_grammar::cases::{ComponentCase, FirstCase, NameCase};
-use cxx_tree::{Cv, Node, Plain, RefQual, Text};
+use cxx_tree::{Cv, Node, Plain, RefQual, Stop, Text};
 
 /// What is learned of a name before its components are read: its qualifiers.
 fn info_of(cv: Cv, ref_qual: RefQual) -> Info
@@ -64,10 +63,10 @@ fn plain(node: u32) -> Named
 // Makes a name of a node, and of what is learned of it.
 #[inline(always)]
 fn make_named(reader: &mut Reader, node: Node, info: Info) -> Result<Named, Stop>
-    requires below { IsBelow reader.old.tables.store.held (size reader.old.tables.store) node }
-    requires inherited { IfSome info.inherited (IsNode reader.old.tables) }
-    ensures reads { GivesNamed result reader.new (spec.make_named (tree_of reader.old.tables.store.held
-        (forest reader.old.tables.store) node) (info_at reader.old.tables info) (state reader.old)) }
+    requires below { IsBelow reader.old.arena.held (size reader.old.arena) node }
+    requires inherited { IfSome info.inherited (IsNode reader.old.arena) }
+    ensures reads { GivesNamed result reader.new (spec.make_named (tree_of reader.old.arena.held
+        (forest reader.old.arena) node) (info_at reader.old.arena info) (state reader.old)) }
     ensures keeps { OnOk result (Keeps reader.old reader.new) }
     ensures rest { OnOk result (reader.new.rest.now ≡ reader.old.rest.now) }
 {
@@ -78,9 +77,9 @@ fn make_named(reader: &mut Reader, node: Node, info: Info) -> Result<Named, Stop
 // Reads the arguments of a name.
 #[cycle(reader)]
 fn read_with_args(reader: &mut Reader, depth: usize, name: Named) -> Result<Named, Stop>
-    requires named { IsNamed reader.old.tables name }
+    requires named { IsNamed reader.old.arena name }
     ensures reads { GivesNamed result reader.new (spec.parse_with_args (spec.productions depth)
-        (named_at reader.old.tables name) (state reader.old)) }
+        (named_at reader.old.arena name) (state reader.old)) }
     ensures moves { OnOk result (Moves reader.old reader.new) }
 {
     let args = tri!(read_args(reader, depth));
@@ -94,15 +93,15 @@ fn read_with_args(reader: &mut Reader, depth: usize, name: Named) -> Result<Name
 // Reads the arguments of a name, if there are any. If there are some, the name is saved before they are read.
 #[cycle(reader)]
 fn read_unscoped(reader: &mut Reader, depth: usize, node: u32) -> Result<Named, Stop>
-    requires node { IsNode reader.old.tables node }
+    requires node { IsNode reader.old.arena node }
     ensures reads { GivesNamed result reader.new (spec.parse_unscoped (spec.productions depth)
-        (stands reader.old.tables node) (state reader.old)) }
+        (stands reader.old.arena node) (state reader.old)) }
     ensures keeps { OnOk result (Keeps reader.old reader.new) }
 {
     if !begins(reader.rest, b'I') {
         return Ok(plain(node));
     }
-    tri!(reader.tables.save(node));
+    tri!(reader.arena.save(node));
     read_with_args(reader, depth, plain(node))
 }
 
@@ -161,7 +160,7 @@ fn read_unqualified(reader: &mut Reader, depth: usize) -> Result<Named, Stop>
 /// Reads `<nested-name> ::= N [<CV-qualifiers>] [<ref-qualifier>] <component>+ E`.
 #[tactic(auto, using(crate::proofs::Heads::nested), unfolding(
 // What the name is, and what is learned of it.
-crate::specs::Table::stands, crate::specs::Outcome::named_at))]
+cxx_tree::specs::Stored::stands, crate::specs::Outcome::named_at))]
 #[cycle(reader)]
 #[inline(always)]
 fn read_nested_name(reader: &mut Reader, depth: usize) -> Result<Named, Stop>
@@ -182,7 +181,7 @@ fn read_nested_name(reader: &mut Reader, depth: usize) -> Result<Named, Stop>
 fn read_first(reader: &mut Reader, depth: usize, info: Info) -> Result<Named, Stop>
     requires inherited { info.inherited ≡ None }
     ensures reads { GivesNamed result reader.new (heads.parse_head (spec.productions depth)
-        (info_at reader.old.tables info) (state reader.old)) }
+        (info_at reader.old.arena info) (state reader.old)) }
     ensures moves { OnOk result (Moves reader.old reader.new) }
 {
     match first_case(reader.rest) {
@@ -199,7 +198,7 @@ fn read_first_std(reader: &mut Reader, depth: usize, info: Info) -> Result<Named
     requires some { 0 < length reader.old.rest.now }
     requires inherited { info.inherited ≡ None }
     ensures reads { GivesNamed result reader.new (spec.parse_component (spec.productions depth)
-        (spec.with_info (info_at reader.old.tables info) spec.std) (state_spec.skip 2 (state reader.old))) }
+        (spec.with_info (info_at reader.old.arena info) spec.std) (state_spec.skip 2 (state reader.old))) }
     ensures moves { OnOk result (Moves reader.old reader.new) }
 {
     reader.skip(2);
@@ -212,7 +211,7 @@ fn read_first_std(reader: &mut Reader, depth: usize, info: Info) -> Result<Named
 fn read_first_substitution(reader: &mut Reader, depth: usize, info: Info) -> Result<Named, Stop>
     requires inherited { info.inherited ≡ None }
     ensures reads { GivesNamed result reader.new (heads.head_substitution (spec.productions depth)
-        (info_at reader.old.tables info) (state reader.old)) }
+        (info_at reader.old.arena info) (state reader.old)) }
     ensures moves { OnOk result (Moves reader.old reader.new) }
 {
     let node = tri!(reader.read_substitution());
@@ -222,7 +221,7 @@ fn read_first_substitution(reader: &mut Reader, depth: usize, info: Info) -> Res
 #[inline(always)]
 fn read_first_param(reader: &mut Reader, info: Info) -> Result<Named, Stop>
     requires inherited { info.inherited ≡ None }
-    ensures reads { GivesNamed result reader.new (heads.head_param (info_at reader.old.tables info)
+    ensures reads { GivesNamed result reader.new (heads.head_param (info_at reader.old.arena info)
         (state reader.old)) }
     ensures moves { OnOk result (Moves reader.old reader.new) }
 {
@@ -233,7 +232,7 @@ fn read_first_param(reader: &mut Reader, info: Info) -> Result<Named, Stop>
 #[inline(always)]
 fn read_first_base(reader: &mut Reader, info: Info) -> Result<Named, Stop>
     requires inherited { info.inherited ≡ None }
-    ensures reads { GivesNamed result reader.new (heads.head_base (info_at reader.old.tables info)
+    ensures reads { GivesNamed result reader.new (heads.head_base (info_at reader.old.arena info)
         (state reader.old)) }
     ensures moves { OnOk result (Moves reader.old reader.new) }
 {
@@ -245,9 +244,9 @@ fn read_first_base(reader: &mut Reader, info: Info) -> Result<Named, Stop>
 #[cycle(reader)]
 #[inline(always)]
 fn read_components(reader: &mut Reader, depth: usize, name: Named) -> Result<Named, Stop>
-    requires named { IsNamed reader.old.tables name }
+    requires named { IsNamed reader.old.arena name }
     ensures reads { GivesNamed result reader.new (spec.parse_rest (spec.productions depth)
-        (named_at reader.old.tables name) (state reader.old)) }
+        (named_at reader.old.arena name) (state reader.old)) }
     ensures moves { OnOk result (Moves reader.old reader.new) }
 {
     // The mark of the initializer of a data member, which prints nothing.
@@ -269,12 +268,12 @@ fn read_components(reader: &mut Reader, depth: usize, name: Named) -> Result<Nam
 #[cycle(reader)]
 #[inline(always)]
 fn read_next(reader: &mut Reader, depth: usize, scope: Named) -> Result<Named, Stop>
-    requires named { IsNamed reader.old.tables scope }
+    requires named { IsNamed reader.old.arena scope }
     ensures reads { GivesNamed result reader.new (spec.parse_next (spec.productions depth)
-        (named_at reader.old.tables scope) (state reader.old)) }
+        (named_at reader.old.arena scope) (state reader.old)) }
     ensures moves { OnOk result (Moves reader.old reader.new) }
 {
-    tri!(reader.tables.save(scope.node));
+    tri!(reader.arena.save(scope.node));
     let name = tri!(read_other_component(reader, depth, scope));
     reader.skip_letter(b'M');
     Ok(name)
@@ -285,9 +284,9 @@ fn read_next(reader: &mut Reader, depth: usize, scope: Named) -> Result<Named, S
 #[cycle(reader)]
 #[inline(always)]
 fn read_component(reader: &mut Reader, depth: usize, scope: Named) -> Result<Named, Stop>
-    requires named { IsNamed reader.old.tables scope }
+    requires named { IsNamed reader.old.arena scope }
     ensures reads { GivesNamed result reader.new (spec.parse_component (spec.productions depth)
-        (named_at reader.old.tables scope) (state reader.old)) }
+        (named_at reader.old.arena scope) (state reader.old)) }
     ensures moves { OnOk result (Moves reader.old reader.new) }
 {
     if begins_source(reader.rest) {
@@ -299,8 +298,8 @@ fn read_component(reader: &mut Reader, depth: usize, scope: Named) -> Result<Nam
 // Reads a source name in a scope.
 #[inline(always)]
 fn read_scoped_source(reader: &mut Reader, scope: Named) -> Result<Named, Stop>
-    requires named { IsNamed reader.old.tables scope }
-    ensures reads { GivesNamed result reader.new (heads.named_in (named_at reader.old.tables scope)
+    requires named { IsNamed reader.old.arena scope }
+    ensures reads { GivesNamed result reader.new (heads.named_in (named_at reader.old.arena scope)
         (state reader.old)) }
     ensures moves { OnOk result (Moves reader.old reader.new) }
 {
@@ -316,9 +315,9 @@ fn read_scoped_source(reader: &mut Reader, scope: Named) -> Result<Named, Stop>
 #[cycle(reader)]
 #[inline(never)]
 fn read_other_component(reader: &mut Reader, depth: usize, scope: Named) -> Result<Named, Stop>
-    requires named { IsNamed reader.old.tables scope }
+    requires named { IsNamed reader.old.arena scope }
     ensures reads { GivesNamed result reader.new (spec.parse_component (spec.productions depth)
-        (named_at reader.old.tables scope) (state reader.old)) }
+        (named_at reader.old.arena scope) (state reader.old)) }
     ensures moves { OnOk result (Moves reader.old reader.new) }
 {
     if begins(reader.rest, b'I') {
@@ -337,12 +336,12 @@ fn read_other_component(reader: &mut Reader, depth: usize, scope: Named) -> Resu
 // Reads the arguments of a name that has none yet.
 #[cycle(reader)]
 fn read_more_args(reader: &mut Reader, depth: usize, scope: Named) -> Result<Named, Stop>
-    requires named { IsNamed reader.old.tables scope }
+    requires named { IsNamed reader.old.arena scope }
     ensures reads { GivesNamed result reader.new (spec.parse_more_args (spec.productions depth)
-        (named_at reader.old.tables scope) (state reader.old)) }
+        (named_at reader.old.arena scope) (state reader.old)) }
     ensures moves { OnOk result (Moves reader.old reader.new) }
 {
-    if is_with_args(reader.tables.arena(), scope.node) {
+    if is_with_args(&reader.arena, scope.node) {
         return Err(Stop::Unreadable);
     }
     read_with_args(reader, depth, scope)
@@ -350,8 +349,8 @@ fn read_more_args(reader: &mut Reader, depth: usize, scope: Named) -> Result<Nam
 
 // Reads a name in a scope.
 fn read_scoped(reader: &mut Reader, scope: Named) -> Result<Named, Stop>
-    requires named { IsNamed reader.old.tables scope }
-    ensures reads { GivesNamed result reader.new (spec.parse_scoped (named_at reader.old.tables scope)
+    requires named { IsNamed reader.old.arena scope }
+    ensures reads { GivesNamed result reader.new (spec.parse_scoped (named_at reader.old.arena scope)
         (state reader.old)) }
     ensures moves { OnOk result (Moves reader.old reader.new) }
 {
@@ -370,9 +369,9 @@ fn read_scoped(reader: &mut Reader, scope: Named) -> Result<Named, Stop>
 // Reads a constructor or a destructor.
 fn read_ctor(reader: &mut Reader, scope: Named, is_destructor: bool) -> Result<Named, Stop>
     requires some { 0 < length reader.old.rest.now }
-    requires named { IsNamed reader.old.tables scope }
-    ensures reads { GivesNamed result reader.new (spec.make_ctor (named_at reader.old.tables scope) is_destructor
-        (named_at reader.old.tables scope).info.inherited (state_spec.skip 2 (state reader.old))) }
+    requires named { IsNamed reader.old.arena scope }
+    ensures reads { GivesNamed result reader.new (spec.make_ctor (named_at reader.old.arena scope) is_destructor
+        (named_at reader.old.arena scope).info.inherited (state_spec.skip 2 (state reader.old))) }
     ensures moves { OnOk result (Moves reader.old reader.new) }
 {
     reader.skip(2);
@@ -383,9 +382,9 @@ fn read_ctor(reader: &mut Reader, scope: Named, is_destructor: bool) -> Result<N
 #[cycle(reader)]
 fn read_inherited_ctor(reader: &mut Reader, depth: usize, scope: Named) -> Result<Named, Stop>
     requires some { 0 < length reader.old.rest.now }
-    requires named { IsNamed reader.old.tables scope }
+    requires named { IsNamed reader.old.arena scope }
     ensures reads { GivesNamed result reader.new (spec.parse_inherited (spec.productions depth)
-        (named_at reader.old.tables scope) (state reader.old)) }
+        (named_at reader.old.arena scope) (state reader.old)) }
     ensures moves { OnOk result (Moves reader.old reader.new) }
 {
     reader.skip(3);
@@ -400,18 +399,18 @@ fn make_ctor(
     is_destructor: bool,
     inherited: Option<u32>,
 ) -> Result<Named, Stop>
-    requires named { IsNamed reader.old.tables scope }
-    requires inherited { IfSome inherited (IsNode reader.old.tables) }
-    ensures reads { GivesNamed result reader.new (spec.make_ctor (named_at reader.old.tables scope) is_destructor
-        (option_map (stands reader.old.tables) inherited) (state reader.old)) }
+    requires named { IsNamed reader.old.arena scope }
+    requires inherited { IfSome inherited (IsNode reader.old.arena) }
+    ensures reads { GivesNamed result reader.new (spec.make_ctor (named_at reader.old.arena scope) is_destructor
+        (option_map (stands reader.old.arena) inherited) (state reader.old)) }
     ensures keeps { OnOk result (Keeps reader.old reader.new) }
     ensures rest { OnOk result (reader.new.rest.now ≡ reader.old.rest.now) }
 {
-    if is_param(reader.tables.arena(), scope.node) {
+    if is_param(&reader.arena, scope.node) {
         return Err(Stop::Unreadable);
     }
     let class = tri!(reader.expanded(scope.node));
-    let text = base_name(reader.tables.arena(), class);
+    let text = base_name(&reader.arena, class);
     let base = tri!(reader.make_ctor_dtor(text, is_destructor));
     let info = Info {
         ends_with_args: false,
@@ -427,11 +426,11 @@ impl<'a> Reader<'a> {
     // is.
     #[inline(always)]
     fn read_next_source(&mut self, scope: u32) -> Result<u32, Stop>
-        requires scope { IsNode self.old.tables scope }
-        ensures reads { Gives result self.new (heads.next_source (stands self.old.tables scope) (state self.old)) }
+        requires scope { IsNode self.old.arena scope }
+        ensures reads { Gives result self.new (heads.next_source (stands self.old.arena scope) (state self.old)) }
         ensures moves { OnOk result (Moves self.old self.new) }
     {
-        tri!(self.tables.save(scope));
+        tri!(self.arena.save(scope));
         let node = tri!(self.read_source_name_in(scope));
         self.skip_letter(b'M');
         Ok(node)
@@ -441,10 +440,10 @@ impl<'a> Reader<'a> {
     #[tactic(auto, using(crate::proofs::Heads::heads))]
     #[inline(always)]
     fn read_info(&mut self) -> Info
-        ensures value { info_at self.new.tables result ≡ spec.info_at (state self.old) }
+        ensures value { info_at self.new.arena result ≡ spec.info_at (state self.old) }
         ensures inherited { result.inherited ≡ None }
         ensures state { state self.new ≡ leaves.past_ref (leaves.past_cv (state self.old)) }
-        ensures tables { self.new.tables ≡ self.old.tables }
+        ensures arena { self.new.arena ≡ self.old.arena }
         ensures replaced { self.new.replaced ≡ self.old.replaced }
         ensures within { length self.new.rest.now ≤ length self.old.rest.now }
     {
@@ -457,10 +456,10 @@ impl<'a> Reader<'a> {
     // Reads `[<CV-qualifiers>] [<ref-qualifier>]`. Returns what is learned of a name by them.
     #[inline(never)]
     fn read_qualifiers(&mut self) -> Info
-        ensures value { info_at self.new.tables result ≡ spec.info_at (state self.old) }
+        ensures value { info_at self.new.arena result ≡ spec.info_at (state self.old) }
         ensures inherited { result.inherited ≡ None }
         ensures state { state self.new ≡ leaves.past_ref (leaves.past_cv (state self.old)) }
-        ensures tables { self.new.tables ≡ self.old.tables }
+        ensures arena { self.new.arena ≡ self.old.arena }
         ensures replaced { self.new.replaced ≡ self.old.replaced }
         ensures within { length self.new.rest.now ≤ length self.old.rest.now }
     {
@@ -491,28 +490,28 @@ impl<'a> Reader<'a> {
         ensures keeps { OnOk result (Keeps self.old self.new) }
         ensures rest { OnOk result (self.new.rest.now ≡ self.old.rest.now) }
     {
-        self.tables.make_fixed(b"std")
+        self.arena.make_fixed(b"std")
     }
 
     // Makes a constructor or a destructor of a class.
     fn make_ctor_dtor(&mut self, class: Text, is_destructor: bool) -> Result<u32, Stop>
-        requires class { IsText self.old.tables.store.held class }
-        ensures reads { Gives result self.new (state_spec.make (rows.ctor_dtor (text_at self.old.tables.store.held
+        requires class { IsText self.old.arena.held class }
+        ensures reads { Gives result self.new (state_spec.make (rows.ctor_dtor (text_at self.old.arena.held
             class) is_destructor) (state self.old)) }
         ensures keeps { OnOk result (Keeps self.old self.new) }
         ensures rest { OnOk result (self.new.rest.now ≡ self.old.rest.now) }
     {
-        self.tables.make_ctor_dtor(class, is_destructor)
+        self.arena.make_ctor_dtor(class, is_destructor)
     }
 
     // The class of a constructor: an abbreviation of std is written out.
     fn expanded(&mut self, i: u32) -> Result<u32, Stop>
-        requires node { IsNode self.old.tables i }
-        ensures reads { Gives result self.new (Some (bases.expand (stands self.old.tables i), state self.old)) }
+        requires node { IsNode self.old.arena i }
+        ensures reads { Gives result self.new (Some (bases.expand (stands self.old.arena i), state self.old)) }
         ensures keeps { OnOk result (Keeps self.old self.new) }
         ensures rest { OnOk result (self.new.rest.now ≡ self.old.rest.now) }
     {
-        match short_std(self.tables.arena(), i) {
+        match short_std(&self.arena, i) {
             Some(std) => self.make(Node::Plain(Plain::StdName(std, true))),
             None => Ok(i),
         }

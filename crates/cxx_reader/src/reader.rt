@@ -3,29 +3,27 @@
 
 ghost use Rattle.std.specs.Prelude.{◌≡◌, ℕ, ◌-◌, ◌<◌, ◌≤◌, [], ◌∷◌, codes, length, true, false, IfOk, IfSome, OnOk, option_map};
 ghost use Rattle.abi_scalars.specs.Bytes.{begins};
-ghost use Rattle.cxx_tree.specs.Stored.{forest, size, tree_of, IsBelow};
+ghost use Rattle.cxx_tree.specs.Stored.{forest, size, tree_of, IsBelow, stands};
+ghost use Rattle.cxx_tree.specs.Kept.{IsNode};
 ghost use Rattle.cxx_tree.specs.Tree.{std_name};
 ghost use Rattle.cxx_grammar.specs.State as spec;
 ghost use Rattle.cxx_grammar.specs.Leaves as leaves;
-ghost use Rattle.cxx_reader.specs.Table.{IsNode, stands};
 ghost use Rattle.cxx_reader.specs.Heads as heads;
 ghost use Rattle.cxx_reader.specs.Outcome.{state, Keeps, Moves, Gives};
 
 use crate::cases::{base_case, begins};
-use crate::stop::Stop;
-use crate::tables::Tables;
 use crate::words::{builtin_of, d_builtin_of, operator_of};
 use abi_scalars::numerals::{Radix, index_of};
 use abi_scalars::texts::{begins_source, identifier, source_text};
 use cxx_grammar::cases::BaseCase;
-use cxx_tree::{Cv, Node, Plain, RefQual, Std};
+use cxx_tree::{Arena, Cv, Node, Plain, Prec, RefQual, Std, Stop, Text};
 use std::alloc::Global;
 
 /// The bytes that aren't read yet, and what was read.
 #[derive(Drop)]
 pub struct Reader<'a> {
     pub rest: &'a [u8],
-    pub tables: Tables,
+    pub arena: Arena,
     /// How many nodes were replaced.
     pub replaced: usize,
     pub alloc: Global,
@@ -57,7 +55,7 @@ impl<'a> Reader<'a> {
     #[inline(always)]
     pub fn skip(&mut self, n: usize)
         ensures state { state self.new ≡ spec.skip n (state self.old) }
-        ensures tables { self.new.tables ≡ self.old.tables }
+        ensures arena { self.new.arena ≡ self.old.arena }
         ensures replaced { self.new.replaced ≡ self.old.replaced }
         ensures takes { length self.new.rest.now ≡ length self.old.rest.now - n }
     {
@@ -69,7 +67,7 @@ impl<'a> Reader<'a> {
     pub fn skip_letter(&mut self, letter: u8) -> bool
         ensures value { result ≡ begins (letter ∷ []) self.old.rest.now }
         ensures state { state self.new ≡ spec.past_byte letter (state self.old) }
-        ensures tables { self.new.tables ≡ self.old.tables }
+        ensures arena { self.new.arena ≡ self.old.arena }
         ensures replaced { self.new.replaced ≡ self.old.replaced }
         ensures within { length self.new.rest.now ≤ length self.old.rest.now }
         ensures takes { result ≡ true → length self.new.rest.now < length self.old.rest.now }
@@ -85,7 +83,7 @@ impl<'a> Reader<'a> {
     pub fn read_cv(&mut self) -> Cv
         ensures value { result ≡ leaves.cv_at (state self.old) }
         ensures state { state self.new ≡ leaves.past_cv (state self.old) }
-        ensures tables { self.new.tables ≡ self.old.tables }
+        ensures arena { self.new.arena ≡ self.old.arena }
         ensures replaced { self.new.replaced ≡ self.old.replaced }
         ensures within { length self.new.rest.now ≤ length self.old.rest.now }
     {
@@ -103,7 +101,7 @@ impl<'a> Reader<'a> {
     pub fn read_ref_qual(&mut self) -> RefQual
         ensures value { result ≡ leaves.ref_at (state self.old) }
         ensures state { state self.new ≡ leaves.past_ref (state self.old) }
-        ensures tables { self.new.tables ≡ self.old.tables }
+        ensures arena { self.new.arena ≡ self.old.arena }
         ensures replaced { self.new.replaced ≡ self.old.replaced }
         ensures within { length self.new.rest.now ≤ length self.old.rest.now }
     {
@@ -119,26 +117,26 @@ impl<'a> Reader<'a> {
     /// Makes a node.
     #[inline(always)]
     pub fn make(&mut self, node: Node) -> Result<u32, Stop>
-        requires below { IsBelow self.old.tables.store.held (size self.old.tables.store) node }
-        ensures reads { Gives result self.new (spec.make (tree_of self.old.tables.store.held (forest
-            self.old.tables.store) node) (state self.old)) }
+        requires below { IsBelow self.old.arena.held (size self.old.arena) node }
+        ensures reads { Gives result self.new (spec.make (tree_of self.old.arena.held (forest
+            self.old.arena) node) (state self.old)) }
         ensures keeps { OnOk result (Keeps self.old self.new) }
         ensures rest { OnOk result (self.new.rest.now ≡ self.old.rest.now) }
     {
-        self.tables.make(node)
+        self.arena.push(node)
     }
 
     /// Makes a node, and saves it.
     #[inline(always)]
     pub fn make_saved(&mut self, node: Node) -> Result<u32, Stop>
-        requires below { IsBelow self.old.tables.store.held (size self.old.tables.store) node }
-        ensures reads { Gives result self.new (spec.make_saved (tree_of self.old.tables.store.held (forest
-            self.old.tables.store) node) (state self.old)) }
+        requires below { IsBelow self.old.arena.held (size self.old.arena) node }
+        ensures reads { Gives result self.new (spec.make_saved (tree_of self.old.arena.held (forest
+            self.old.arena) node) (state self.old)) }
         ensures keeps { OnOk result (Keeps self.old self.new) }
         ensures rest { OnOk result (self.new.rest.now ≡ self.old.rest.now) }
     {
-        let i = tri!(self.tables.make(node));
-        tri!(self.tables.save(i));
+        let i = tri!(self.arena.push(node));
+        tri!(self.arena.save(i));
         Ok(i)
     }
 
@@ -152,21 +150,21 @@ impl<'a> Reader<'a> {
             return Err(Stop::Unreadable);
         };
         self.rest = rest;
-        self.tables.make_name(source_text(name))
+        self.arena.make_name(source_text(name))
     }
 
     /// Reads a `<source-name>` in a scope. The name and the same in the scope are pushed together.
     #[inline(always)]
     pub fn read_source_name_in(&mut self, scope: u32) -> Result<u32, Stop>
-        requires scope { IsNode self.old.tables scope }
-        ensures reads { Gives result self.new (heads.source_in (stands self.old.tables scope) (state self.old)) }
+        requires scope { IsNode self.old.arena scope }
+        ensures reads { Gives result self.new (heads.source_in (stands self.old.arena scope) (state self.old)) }
         ensures moves { OnOk result (Moves self.old self.new) }
     {
         let Some((name, rest)) = identifier(self.rest) else {
             return Err(Stop::Unreadable);
         };
         self.rest = rest;
-        self.tables.make_name_in(scope, source_text(name))
+        self.arena.make_name_in(scope, source_text(name))
     }
 
     /// Reads a `<source-name>` after n bytes, and puts a word in front of it.
@@ -176,7 +174,8 @@ impl<'a> Reader<'a> {
     {
         self.skip(n);
         let name = tri!(self.read_source_name());
-        self.tables.make_prefixed(word, name)
+        self.arena
+            .make_prefixed(Text::Fixed(word), Text::Fixed(word), name, Prec::Primary)
     }
 
     /// Reads a name without a scope, after its `L`.
@@ -224,7 +223,7 @@ impl<'a> Reader<'a> {
             [first, second, rest @ ..] => match operator_of(*first, *second) {
                 Some(name) => {
                     self.rest = rest;
-                    self.tables.make_fixed(name)
+                    self.arena.make_fixed(name)
                 }
                 None => Err(Stop::Unreadable),
             },
@@ -264,7 +263,7 @@ impl<'a> Reader<'a> {
             return Err(Stop::Unreadable);
         };
         self.rest = rest;
-        match self.tables.saved(index) {
+        match self.arena.saved(index) {
             Some(i) => Ok(i),
             None => Err(Stop::Unreadable),
         }
@@ -296,7 +295,7 @@ impl<'a> Reader<'a> {
             [letter, rest @ ..] => match builtin_of(*letter) {
                 Some(word) => {
                     self.rest = rest;
-                    self.tables.make_fixed(word)
+                    self.arena.make_fixed(word)
                 }
                 None => Err(Stop::Unreadable),
             },
@@ -311,14 +310,14 @@ impl<'a> Reader<'a> {
     {
         if self.skip_letter(b'n') {
             return self
-                .tables
+                .arena
                 .make_leaf(true, b"std::nullptr_t", b"decltype(nullptr)");
         }
         match self.rest {
             [letter, rest @ ..] => match d_builtin_of(*letter) {
                 Some(word) => {
                     self.rest = rest;
-                    self.tables.make_fixed(word)
+                    self.arena.make_fixed(word)
                 }
                 None => Err(Stop::Unreadable),
             },

@@ -1,23 +1,22 @@
 //! Types (Itanium C++ ABI 5.1.5).
 //!
 //! The readers of the cases of a type aren't inlined, so that `read_type` only passes on its arguments.
-#![tactic(auto, using(crate::proofs::Rules::productions), unfolding(cxx_tree::specs::Stored::tree_of, cxx_tree::specs::Stored::plain_tree, cxx_tree::specs::Stored::IsBelow, cxx_tree::specs::Stored::IsPlainBelow, crate::specs::Table::stands, crate::specs::Outcome::list_trees, crate::specs::Outcome::named_at, cxx_grammar::specs::Grammar::type_as))]
+#![tactic(auto, using(crate::proofs::Rules::productions), unfolding(cxx_tree::specs::Stored::tree_of, cxx_tree::specs::Stored::plain_tree, cxx_tree::specs::Stored::IsBelow, cxx_tree::specs::Stored::IsPlainBelow, cxx_tree::specs::Stored::stands, crate::specs::Outcome::list_trees, crate::specs::Outcome::named_at, cxx_grammar::specs::Grammar::type_as))]
 
 ghost use Rattle.std.specs.Prelude.{◌≡◌, ℕ, ◌<◌, ◌≤◌, length, OnOk};
 ghost use Rattle.cxx_tree.specs.Tree.{expansion, pointer};
-ghost use Rattle.cxx_tree.specs.Stored.{forest, size};
+ghost use Rattle.cxx_tree.specs.Stored.{forest, size, stands};
+ghost use Rattle.cxx_tree.specs.Kept.{IsNode};
 ghost use Rattle.cxx_grammar.specs.Leaves as leaves;
 ghost use Rattle.cxx_grammar.specs.Grammar as spec;
-ghost use Rattle.cxx_reader.specs.Table.{IsNode, stands};
 ghost use Rattle.cxx_reader.specs.Outcome.{state, Keeps, Moves, Gives};
 
 use crate::args::read_args;
 use crate::cases::{begins, type_case};
 use crate::names::read_name;
 use crate::reader::Reader;
-use crate::stop::Stop;
 use cxx_grammar::cases::TypeCase;
-use cxx_tree::{Node, Plain};
+use cxx_tree::{Node, Plain, Stop};
 
 /// Reads `<type>`. At most `depth` counted productions may nest, this one included.
 #[cycle(reader)]
@@ -50,7 +49,7 @@ fn read_saved_type(reader: &mut Reader, depth: usize) -> Result<u32, Stop>
     ensures moves { OnOk result (Moves reader.old reader.new) }
 {
     let t = tri!(read_qualified_type(reader, depth));
-    tri!(reader.tables.save(t));
+    tri!(reader.arena.save(t));
     Ok(t)
 }
 
@@ -130,7 +129,7 @@ fn read_param_type(reader: &mut Reader, depth: usize) -> Result<u32, Stop>
     ensures moves { OnOk result (Moves reader.old reader.new) }
 {
     let t = tri!(reader.read_template_param());
-    tri!(reader.tables.save(t));
+    tri!(reader.arena.save(t));
     read_type_args(reader, depth, t)
 }
 
@@ -148,8 +147,8 @@ fn read_substituted_type(reader: &mut Reader, depth: usize) -> Result<u32, Stop>
 // Reads the arguments of a type, if there are any.
 #[cycle(reader)]
 fn read_type_args(reader: &mut Reader, depth: usize, t: u32) -> Result<u32, Stop>
-    requires t { IsNode reader.old.tables t }
-    ensures reads { Gives result reader.new (spec.parse_type_args (spec.productions depth) (stands reader.old.tables t)
+    requires t { IsNode reader.old.arena t }
+    ensures reads { Gives result reader.new (spec.parse_type_args (spec.productions depth) (stands reader.old.arena t)
         (state reader.old)) }
     ensures keeps { OnOk result (Keeps reader.old reader.new) }
 {
@@ -168,6 +167,6 @@ fn read_class(reader: &mut Reader, depth: usize) -> Result<u32, Stop>
     ensures moves { OnOk result (Moves reader.old reader.new) }
 {
     let name = tri!(read_name(reader, depth));
-    tri!(reader.tables.save(name.node));
+    tri!(reader.arena.save(name.node));
     Ok(name.node)
 }

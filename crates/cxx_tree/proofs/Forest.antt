@@ -1,5 +1,5 @@
 -- The trees of nodes, as nodes and what they refer to grow.
-use Rattle.std.proofs.Common.{ℕ, ◌≡◌, ◌+◌, ◌<◌, ◌≤◌, List, [], ◌∷◌, ◌++◌, length, refl, sym, ap, ◌∙◌, arith, subst, zero, suc, length-append, Option, Some, None, slice_range, false}
+use Rattle.std.proofs.Common.{ℕ, ◌≡◌, ◌+◌, ◌<◌, ◌≤◌, List, [], ◌∷◌, ◌++◌, length, refl, sym, ap, ◌∙◌, arith, subst, zero, suc, length-append, Option, Some, None, slice_range, false, take, drop}
 use Rattle.std.proofs.Math.ListN.{get_or, get_or-append}
 use Rattle.std.proofs.Math.Seq.{get_or-append_seam}
 use Rattle.std.proofs.lemmas.Grind.{common_steps}
@@ -21,7 +21,7 @@ use Rattle.cxx_tree.specs.declared.node.Node.{Node}
 use Rattle.cxx_tree.specs.declared.node.Node.TheVariants as node
 use Rattle.cxx_tree.specs.Tree.{Tree, named, scoped, phrase, with_args, abi_tag, data_name, objc_protocol, listed, expansion, pack_param, qualified, pointer, reference, array, pack, no_trees, more_trees, text, tree}
 use Rattle.cxx_tree.specs.Stored.{Held, Store, text_at, list_at, parts_at, tree_at, trees_at, trees_in, option_at, parts_of, parts_in, plain_tree, declaration_tree, tree_of, IsRange, IsText, IsListBelow, IsPartBelow, IsPartsBelow, IsOptionBelow, IsPlainBelow, IsDeclarationBelow, IsBelow, trees_from, forest, size, Begins, Extends, IsWithin}
-use Rattle.cxx_tree.specs.View.{AreStored, IsStore, IsKept, nodes_of}
+use Rattle.cxx_tree.specs.View.{AreStored, IsStore, IsKept, HasNodes, nodes_of}
 use Rattle.cxx_tree.specs.Counts.{AreCounted}
 
 -- a node at the end
@@ -327,17 +327,23 @@ unfolding forest
 length-forest s = omega (arith, length-trees_from s.held [] s.nodes)
 
 -- what is held grows, and no node is new
-pub grown : (s : Store) (g : Held) → Extends s.held g → IsStore s → IsStore (record { nodes = s.nodes; held = g; limit = s.limit })
-grown s g e i = AreStored-more s.held g e 0 s.nodes i
+pub grown : (a b : Store) → b.nodes ≡ a.nodes → Extends a.held b.held → IsStore a → IsStore b
+grown a b e x i = subst (AreStored b.held 0) (sym e) (AreStored-more a.held b.held x 0 a.nodes i)
 
-pub grown-forest : (s : Store) (g : Held) → Extends s.held g → IsStore s → forest (record { nodes = s.nodes; held = g; limit = s.limit }) ≡ forest s
+pub grown-forest : (a b : Store) → b.nodes ≡ a.nodes → Extends a.held b.held → IsStore a → forest b ≡ forest a
 unfolding forest
-grown-forest s g e i = trees_from-more s.held g e 0 [] s.nodes i
+grown-forest a b e x i = ap (trees_from b.held []) e ∙ trees_from-more a.held b.held x 0 [] a.nodes i
+
+-- the nodes are the same
+pub same-forest : (a b : Store) → b.nodes ≡ a.nodes → b.held ≡ a.held → forest b ≡ forest a
+unfolding forest
+same-forest a b e h = ap (trees_from b.held []) e ∙ ap (λ (g : Held). trees_from g [] a.nodes) h
 
 -- a node is new
-pub pushed-forest : (h : Held) (m : ℕ) (ns : List Node) (n : Node) → forest (record { nodes = ns ++ n ∷ []; held = h; limit = m }) ≡ forest (record { nodes = ns; held = h; limit = m }) ++ tree_of h (forest (record { nodes = ns; held = h; limit = m })) n ∷ []
+pub pushed-forest : (a b : Store) (n : Node) → b.nodes ≡ a.nodes ++ n ∷ [] → b.held ≡ a.held → forest b ≡ forest a ++ tree_of a.held (forest a) n ∷ []
 unfolding forest
-pushed-forest h m ns n = trees_from-push h [] ns n
+pushed-forest a b n e h =
+    ap (trees_from b.held []) e ∙ ap (λ (g : Held). trees_from g [] (a.nodes ++ n ∷ [])) h ∙ trees_from-push a.held [] a.nodes n
 
 pub Begins-end : (A : Type 0) (xs zs ys : List A) → ys ≡ xs ++ zs → Begins A xs ys
 Begins-end A xs zs ys e = (zs, e)
@@ -346,13 +352,92 @@ pub Begins-same : (A : Type 0) (xs ys : List A) → ys ≡ xs → Begins A xs ys
 Begins-same A xs ys e = ([], e ∙ sym (append-nil xs))
 
 -- nothing is kept of what is empty
-pub kept-empty : (es : List entry.Entry) (h : Held) (m : ℕ) → es ≡ [] → h.lists ≡ [] → h.parts ≡ [] → h.texts ≡ [] → m ≤ 4294967295 → IsKept es (record { nodes = nodes_of es; held = h; limit = m })
+pub kept-empty : (es : List entry.Entry) (h : Held) (k p : List ℕ) (m : ℕ) → es ≡ [] → h.lists ≡ [] → h.parts ≡ [] → h.texts ≡ [] → k ≡ [] → p ≡ [] → m ≤ 4294967295
+    → IsKept es (record { nodes = nodes_of es; held = h; saved = k; pending = p; limit = m })
 unfolding AreCounted forest
-kept-empty es h m e l p x small =
-    let s : Store = record { nodes = nodes_of es; held = h; limit = m } in
+kept-empty es h k p m e l q x f g small =
+    let s : Store = record { nodes = nodes_of es; held = h; saved = k; pending = p; limit = m } in
     let within : IsWithin m s =
-    record { nodes = omega (arith, ap length (ap nodes_of e)); items = omega (arith, ap length l); parts = omega (arith, ap length p); texts = omega (arith, ap length x) } in
+    record {
+      nodes = omega (arith, ap length (ap nodes_of e));
+      items = omega (arith, ap length l);
+      parts = omega (arith, ap length q);
+      texts = omega (arith, ap length x);
+      saved = omega (arith, ap length f);
+      pending = omega (arith, ap length g);
+    } in
     let none : AreStored h 0 (nodes_of es) × AreCounted es (forest s) = rw e (tt, tt) in
-    (none.0, none.1, record { within = within; small = small })
+    let has : HasNodes s =
+    record { saved = subst (AllByRecursion (λ i. i < size s)) (sym f) tt; pending = subst (AllByRecursion (λ i. i < size s)) (sym g) tt } in
+    (none.0, none.1, record { within = within; small = small }, has)
+
+-- indices of a store that grew
+pub below-more : (m n : ℕ) (is : List ℕ) → m ≤ n → AllByRecursion (λ k. k < m) is → AllByRecursion (λ k. k < n) is
+below-more m n [] l h = tt
+below-more m n (i ∷ is) l h = (omega (arith, h.0, l), below-more m n is l h.1)
+
+pub below-push : (n : ℕ) (is : List ℕ) (i : ℕ) → AllByRecursion (λ k. k < n) is → i < n → AllByRecursion (λ k. k < n) (is ++ i ∷ [])
+below-push n [] i h b = (b, tt)
+below-push n (k ∷ is) i h b = (h.0, below-push n is i h.1 b)
+
+pub below-take : (m n : ℕ) (is : List ℕ) → AllByRecursion (λ k. k < n) is → AllByRecursion (λ k. k < n) (take m is)
+below-take zero n is h = tt
+below-take (suc m) n [] h = tt
+below-take (suc m) n (i ∷ is) h = (h.0, below-take m n is h.1)
+
+pub below-drop : (m n : ℕ) (is : List ℕ) → AllByRecursion (λ k. k < n) is → AllByRecursion (λ k. k < n) (drop m is)
+below-drop zero n is h = h
+below-drop (suc m) n [] h = tt
+below-drop (suc m) n (i ∷ is) h = below-drop m n is h.1
+
+-- what is held grows, and all else stays
+pub kept-held : (es : List entry.Entry) (a b : Store) → IsKept es a → b.nodes ≡ a.nodes → Extends a.held b.held → b.saved ≡ a.saved → b.pending ≡ a.pending → b.limit ≡ a.limit
+    → length b.held.lists ≤ a.limit → length b.held.parts ≤ a.limit → length b.held.texts ≤ a.limit → IsKept es b
+kept-held es a b k e x f g m items parts texts =
+    let w = k.2.within in
+    let n : size b ≡ size a = ap length e in (
+      grown a b e x k.0,
+      subst (AreCounted es) (sym (grown-forest a b e x k.0)) k.1,
+      record {
+        within =
+            record {
+              nodes = omega (arith, n, m, w.nodes);
+              items = omega (arith, m, items);
+              parts = omega (arith, m, parts);
+              texts = omega (arith, m, texts);
+              saved = omega (arith, ap length f, m, w.saved);
+              pending = omega (arith, ap length g, m, w.pending);
+            };
+        small = omega (arith, m, k.2.small);
+      },
+      record {
+        saved = subst (AllByRecursion (λ i. i < size b)) (sym f) (below-more (size a) (size b) a.saved (omega (arith, n)) k.3.saved);
+        pending = subst (AllByRecursion (λ i. i < size b)) (sym g) (below-more (size a) (size b) a.pending (omega (arith, n)) k.3.pending);
+      },
+    )
+
+-- the lists of nodes change, and all else stays
+pub kept-lists : (es : List entry.Entry) (a b : Store) → IsKept es a → b.nodes ≡ a.nodes → b.held ≡ a.held → b.limit ≡ a.limit → HasNodes b → length b.saved ≤ a.limit
+    → length b.pending ≤ a.limit → IsKept es b
+kept-lists es a b k e h m has saved pending =
+    let w = k.2.within in
+    let n : size b ≡ size a = ap length e in
+    let x : Extends a.held b.held = (Begins-same _ a.held.lists b.held.lists (ap (λ (g : Held). g.lists) h), Begins-same _ a.held.parts b.held.parts (ap (λ (g : Held). g.parts) h), Begins-same _ a.held.texts b.held.texts (ap (λ (g : Held). g.texts) h)) in (
+      grown a b e x k.0,
+      subst (AreCounted es) (sym (grown-forest a b e x k.0)) k.1,
+      record {
+        within =
+            record {
+              nodes = omega (arith, n, m, w.nodes);
+              items = omega (arith, m, w.items, ap (λ (g : Held). length g.lists) h);
+              parts = omega (arith, m, w.parts, ap (λ (g : Held). length g.parts) h);
+              texts = omega (arith, m, w.texts, ap (λ (g : Held). length g.texts) h);
+              saved = omega (arith, m, saved);
+              pending = omega (arith, m, pending);
+            };
+        small = omega (arith, m, k.2.small);
+      },
+      has,
+    )
 
 pub ruleset laws = (AreStored-more, stored-push)

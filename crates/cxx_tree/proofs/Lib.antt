@@ -1,7 +1,9 @@
+pub mod Choices
 pub mod Decimals
 pub mod Forest
 pub mod Grown
 pub mod InScope
 pub mod Making
 pub mod Measured
+pub mod Putting
 pub mod Replaced

@@ -5,8 +5,8 @@ use Rattle.cxx_tree.specs.declared.node.Text.{Text}
 use Rattle.cxx_tree.specs.declared.node.List as handle
 use Rattle.cxx_tree.specs.declared.node.Parts as handles
 use Rattle.cxx_tree.specs.declared.node.Part.{Part}
-use Rattle.cxx_tree.specs.declared.arena.PushError.{PushError}
-use Rattle.cxx_tree.specs.declared.arena.PushError.TheVariants.{Memory}
+use Rattle.cxx_tree.specs.declared.arena.Stop.{Stop}
+use Rattle.cxx_tree.specs.declared.arena.Stop.TheVariants.{Memory}
 use Rattle.cxx_tree.specs.Tree.{Tree}
 use Rattle.cxx_tree.specs.Grows.{Grows, Makes}
 use Rattle.cxx_tree.specs.Stored.{Store, forest, size, tree_at, option_at, text_at, parts_of, parts_in, IsListBelow, IsText, IsPartBelow, IsPartsBelow}
@@ -21,8 +21,8 @@ parts_of-grows a b g ps below =
     parts_of-more a.held b.held g.extends (size a) (forest b) ps below ∙ parts_of-same a.held (size a) (forest b) (forest a) g.same ps below
 
 -- memory was refused
-pub Makes-memory : (r : Result ℕ PushError) (a b : Store) (t : Tree) → r ≡ Err Memory → Grows a b → Makes r a b t
-Makes-memory r a b t e g = subst (λ (x : Result ℕ PushError). Makes x a b t) (sym e) (Makes-refused a b t g)
+pub Makes-memory : (r : Result ℕ Stop) (a b : Store) (t : Tree) → r ≡ Err Memory → Grows a b → Makes r a b t
+Makes-memory r a b t e g = subst (λ (x : Result ℕ Stop). Makes x a b t) (sym e) (Makes-refused a b t g)
 
 -- texts of a grown arena
 pub text_at-grows : (a b : Store) (t : Text) → Grows a b → IsText a.held t → text_at b.held t ≡ text_at a.held t

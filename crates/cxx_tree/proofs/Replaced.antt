@@ -22,11 +22,11 @@ use Rattle.cxx_tree.specs.Tree.{Tree, Trees, Parts, named, leaf, std_name, phras
 use Rattle.cxx_tree.specs.Measure.{Measure, measure, measure_each, measure_parts, part_measure, nothing, join_as, counted}
 use Rattle.cxx_tree.specs.Stored.{Held, Store, text_at, forest, size, tree_at, trees_at, trees_in, list_at, option_at, parts_of, parts_at, parts_in, IsRange, IsListBelow, IsPartBelow, IsPartsBelow, IsOptionBelow}
 use Rattle.cxx_tree.specs.Grows.{Grows, Makes}
-use Rattle.cxx_tree.specs.declared.arena.PushError.{PushError}
-use Rattle.cxx_tree.specs.declared.arena.PushError.TheVariants.{Memory, Limit}
+use Rattle.cxx_tree.specs.declared.arena.Stop.{Stop}
+use Rattle.cxx_tree.specs.declared.arena.Stop.TheVariants.{Memory, Unreadable}
 use Rattle.cxx_tree.proofs.Grown.{Grows-trans, Makes-after, Makes-refused, Makes-limit, Grows-same, Extends-same, trees_at-grows, below-grows}
 use Rattle.cxx_tree.proofs.Forest.{trees_at-same, option_at-same, parts_of-same, parts_of-more, trees_in-more, parts_in-more, IsListBelow-more, IsPartsBelow-more, IsPartBelow-more, all_parts-more}
-use Rattle.cxx_tree.specs.Bind.{Binding, bind, bind_each, bind_parts, binding_at, AreNamed, bound_at, bound_list, bound_parts, part_at, bound, has_name, other, as_pack}
+use Rattle.cxx_tree.specs.Bind.{Binding, bind, bind_each, bind_parts, binding_at, names_at, AreNamed, bound_at, bound_list, bound_parts, part_at, bound, has_name, other, as_pack}
 
 -- what isn't within the limits makes the whole so
 pub unfit_left : (a b : Bool) → a ≡ false → a && b ≡ false
@@ -170,11 +170,11 @@ mutual
       cc
 
 -- what a call makes
-pub Makes-memory : (r : Result ℕ PushError) (a b : Store) (t : Tree) → r ≡ Err Memory → Grows a b
+pub Makes-memory : (r : Result ℕ Stop) (a b : Store) (t : Tree) → r ≡ Err Memory → Grows a b
     → Makes r a b t
-Makes-memory r a b t e g = subst (λ (q : Result ℕ PushError). Makes q a b t) (sym e) (Makes-refused a b t g)
+Makes-memory r a b t e g = subst (λ (q : Result ℕ Stop). Makes q a b t) (sym e) (Makes-refused a b t g)
 
-pub Makes-then : (r : Result ℕ PushError) (a b c : Store) (t u : Tree) → Makes r b c t → t ≡ u → Grows a b
+pub Makes-then : (r : Result ℕ Stop) (a b c : Store) (t u : Tree) → Makes r b c t → t ≡ u → Grows a b
     → Makes r a c u
 Makes-then r a b c t u m e g = Makes-after r a b c u g (subst (Makes r b c) e m)
 
@@ -210,10 +210,12 @@ map-grows a b g (i ∷ is) h = let one = g.same i h.0 in let rest = map-grows a 
 pub binding_at-grows : (a b : Store) (x : given.Binding) → Grows a b → AreNamed a x → binding_at b x
     ≡ binding_at a x
 binding_at-grows a b x g h =
-    ap (λ (ts : List Tree). record { level = x.level; names = ts; rest = x.rest }) (map-grows a b g x.names.now h)
+    ap (λ (ts : List Tree). record { level = x.level; names = ts; rest = x.rest })
+    (ap (λ (is : List ℕ). map (tree_at (forest b)) (drop x.from is)) g.pending ∙ map-grows a b g (names_at a x) h.1)
 
 pub AreNamed-grows : (a b : Store) (x : given.Binding) → Grows a b → AreNamed a x → AreNamed b x
-AreNamed-grows a b x g h = below-grows a b g x.names.now h
+AreNamed-grows a b x g h =
+    (omega (arith, ap length g.pending, h.0), subst (λ (is : List ℕ). AllByRecursion (λ n. n < size b) (drop x.from is)) (sym g.pending) (below-grows a b g (names_at a x) h.1))
 
 -- a tree, a list and parts, after an arena grew
 pub tree-after : (a b : Store) (x : given.Binding) (i : ℕ) → Grows a b → AreNamed a x → i < size a
@@ -258,35 +260,35 @@ parts-after a b x n ps g h m k =
     let one = binding_at-grows a b x g h in let two = parts_in-grows a b g ps (parts_within a n ps m k) in (two, cc)
 
 -- what a call made
-pub Makes-grows : (r : Result ℕ PushError) (a b : Store) (t : Tree) → Makes r a b t → Grows a b
+pub Makes-grows : (r : Result ℕ Stop) (a b : Store) (t : Tree) → Makes r a b t → Grows a b
 unfolding Makes
 Makes-grows (Ok i) a b t m = m.2
-Makes-grows (Err Limit) a b t m = m.1
+Makes-grows (Err Unreadable) a b t m = m.1
 Makes-grows (Err Memory) a b t m = m
 
-pub Makes-below : (r : Result ℕ PushError) (a b : Store) (t : Tree) → Makes r a b t → IfOk r (λ i. i < size b)
+pub Makes-below : (r : Result ℕ Stop) (a b : Store) (t : Tree) → Makes r a b t → IfOk r (λ i. i < size b)
 unfolding Makes
 Makes-below (Ok i) a b t m = m.0
 Makes-below (Err e) a b t m = tt
 
-pub Makes-tree : (r : Result ℕ PushError) (a b : Store) (t u : Tree) → Makes r a b t → t ≡ u
+pub Makes-tree : (r : Result ℕ Stop) (a b : Store) (t u : Tree) → Makes r a b t → t ≡ u
     → IfOk r (λ i. tree_at (forest b) i ≡ u)
 unfolding Makes
 Makes-tree (Ok i) a b t u m e = m.1 ∙ e
 Makes-tree (Err l) a b t u m e = tt
 
-pub Makes-unfit : (r : Result ℕ PushError) (a b : Store) (t u : Tree) → Makes r a b t → t ≡ u
-    → IsErrOf r Limit → (measure u).fits ≡ false
+pub Makes-unfit : (r : Result ℕ Stop) (a b : Store) (t u : Tree) → Makes r a b t → t ≡ u
+    → IsErrOf r Unreadable → (measure u).fits ≡ false
 unfolding Makes
 Makes-unfit r a b t u m e q =
-    ap (λ (v : Tree). (measure v).fits) (sym e) ∙ (subst (λ (p : Result ℕ PushError). Makes p a b t) q m).0
+    ap (λ (v : Tree). (measure v).fits) (sym e) ∙ (subst (λ (p : Result ℕ Stop). Makes p a b t) q m).0
 
-pub Makes-err : (e : PushError) (a b : Store) (t u : Tree) → Grows a b
-    → (IsErrOf {T = Node} (Err e) Limit → (measure t).fits ≡ false) → t ≡ u → Makes (Err e) a b u
-Makes-err Limit a b t u g f e = Makes-limit a b u (ap (λ (v : Tree). (measure v).fits) (sym e) ∙ f refl) g
+pub Makes-err : (e : Stop) (a b : Store) (t u : Tree) → Grows a b
+    → (IsErrOf {T = Node} (Err e) Unreadable → (measure t).fits ≡ false) → t ≡ u → Makes (Err e) a b u
+Makes-err Unreadable a b t u g f e = Makes-limit a b u (ap (λ (v : Tree). (measure v).fits) (sym e) ∙ f refl) g
 Makes-err Memory a b t u g f e = Makes-refused a b u g
 
-pub few-pushed : (r : Result ℕ PushError) (a b : Store) → OnOk r (size b ≡ size a + 1) → OnErr r (b ≡ a)
+pub few-pushed : (r : Result ℕ Stop) (a b : Store) → OnOk r (size b ≡ size a + 1) → OnErr r (b ≡ a)
     → size b ≤ size a + 1
 few-pushed (Ok i) a b o e = omega (arith, o)
 few-pushed (Err l) a b o e = omega (arith, ap size e)
@@ -310,22 +312,22 @@ get_or-names ts (i ∷ is) zero d h = refl
 get_or-names ts (i ∷ is) (suc k) d h = get_or-names ts is k d (omega arith)
 
 pub bound-name : (a : Store) (x : given.Binding) (level index d : ℕ) → level ≡ x.level
-    → index < length x.names.now → as_pack (tree_at (forest a) (get_or x.names.now index d))
+    → index < length (names_at a x) → as_pack (tree_at (forest a) (get_or (names_at a x) index d))
     ≡ bound (binding_at a x) level index
 bound-name a x level index d e h =
     let yes : has_name (binding_at a x) level index ≡ true = grind (arith, common_steps, e, h) in
-    sym (ap as_pack (get_or-names (forest a) x.names.now index d h))
+    sym (ap as_pack (get_or-names (forest a) (names_at a x) index d h))
     ∙ sym
     (ap (λ (q : Bool). if q then as_pack (tree_at (binding_at a x).names index) else other x.rest x.level level index) yes)
 
 -- an error is passed on
-pub limit_second : (A B : Type 0) (e : PushError) (x y z : Bool) → (IsErrOf {T = A} (Err e) Limit → z ≡ false)
-    → z ≡ y → IsErrOf {T = B} (Err e) Limit → x && y ≡ false
+pub limit_second : (A B : Type 0) (e : Stop) (x y z : Bool) → (IsErrOf {T = A} (Err e) Unreadable → z ≡ false)
+    → z ≡ y → IsErrOf {T = B} (Err e) Unreadable → x && y ≡ false
 limit_second A B e x y z f s q =
-    let same : e ≡ Limit = cc in unfit_right x y (sym s ∙ f (ap (λ (l : PushError). Err l) same))
+    let same : e ≡ Unreadable = cc in unfit_right x y (sym s ∙ f (ap (λ (l : Stop). Err l) same))
 
-pub limit_third : (A B : Type 0) (e : PushError) (x y z w : Bool) → (IsErrOf {T = A} (Err e) Limit → w ≡ false)
-    → w ≡ z → IsErrOf {T = B} (Err e) Limit → x && (y && z) ≡ false
+pub limit_third : (A B : Type 0) (e : Stop) (x y z w : Bool) → (IsErrOf {T = A} (Err e) Unreadable → w ≡ false)
+    → w ≡ z → IsErrOf {T = B} (Err e) Unreadable → x && (y && z) ≡ false
 limit_third A B e x y z w f s q = unfit_right x (y && z) (limit_second A B e y z w f s q)
 
 pub three_same : {t u : Tree} {ts us : Trees} {ps qs : Parts} → t ≡ u → ts ≡ us → ps ≡ qs
@@ -333,10 +335,10 @@ pub three_same : {t u : Tree} {ts us : Trees} {ps qs : Parts} → t ≡ u → ts
     ≡ (measure u).fits && ((measure_each us).fits && (measure_parts false qs).fits)
 three_same a b c = cc
 
-pub limit_of : (A B : Type 0) (e : PushError) (y z : Bool) → (IsErrOf {T = A} (Err e) Limit → z ≡ false)
-    → (z ≡ false → y ≡ false) → IsErrOf {T = B} (Err e) Limit → y ≡ false
+pub limit_of : (A B : Type 0) (e : Stop) (y z : Bool) → (IsErrOf {T = A} (Err e) Unreadable → z ≡ false)
+    → (z ≡ false → y ≡ false) → IsErrOf {T = B} (Err e) Unreadable → y ≡ false
 limit_of A B e y z f s q =
-    let same : e ≡ Limit = cc in s (f (ap (λ (l : PushError). Err l) same))
+    let same : e ≡ Unreadable = cc in s (f (ap (λ (l : Stop). Err l) same))
 
 -- trees in a row, and parts in a row
 abbrev pub joined_trees : Trees → Trees → Trees

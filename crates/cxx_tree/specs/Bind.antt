@@ -1,5 +1,5 @@
 -- What becomes of template parameters when their binder is complete.
-use Rattle.std.specs.Prelude.{ℕ, zero, suc, ◌+◌, ◌<◌, Bool, false, ◌&&◌, if◌then◌else◌, nat_eq, nat_le, nat_lt, List, [], ◌∷◌, ◌++◌, Option, map, length, codes, decimal}
+use Rattle.std.specs.Prelude.{ℕ, zero, suc, ◌+◌, ◌<◌, ◌≤◌, Bool, false, ◌&&◌, if◌then◌else◌, nat_eq, nat_le, nat_lt, List, [], ◌∷◌, ◌++◌, Option, map, drop, length, codes, decimal}
 use Rattle.std.specs.List.{AllByRecursion}
 use Rattle.cxx_tree.specs.declared.bind.Binding as given
 use Rattle.cxx_tree.specs.declared.bind.Rest.{Rest}
@@ -94,13 +94,17 @@ unfoldable mutual
   bind_parts b (tree manner t ps) = tree manner (bind b t) (bind_parts b ps)
   bind_parts b (trees listing ts ps) = trees listing (bind_each b ts) (bind_parts b ps)
 
+-- the names: the nodes that are collected from an index on
+abbrev pub names_at : Store → given.Binding → List ℕ
+names_at s b = drop b.from s.pending
+
 -- the names are nodes of an arena
 abbrev pub AreNamed : Store → given.Binding → Type 0
-AreNamed s b = AllByRecursion (λ n. n < size s) b.names.now
+AreNamed s b = (b.from ≤ length s.pending) × AllByRecursion (λ n. n < size s) (names_at s b)
 
 -- a binding, whose names stand for trees
 abbrev pub binding_at : Store → given.Binding → Binding
-binding_at s b = record { level = b.level; names = map (tree_at (forest s)) b.names.now; rest = b.rest }
+binding_at s b = record { level = b.level; names = map (tree_at (forest s)) (names_at s b); rest = b.rest }
 
 -- what nodes become
 abbrev pub bound_at : Store → given.Binding → ℕ → Tree

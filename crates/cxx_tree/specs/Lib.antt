@@ -3,6 +3,9 @@ pub mod Measure
 pub mod Stored
 pub mod Counts
 pub mod Grows
+pub mod Kept
 pub mod View
 pub mod Rows
+pub mod Texts
+pub mod Pieces
 pub mod Bind

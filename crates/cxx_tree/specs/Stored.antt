@@ -158,11 +158,13 @@ IsBelow h n (node.Encoding f) =
     IsOptionBelow n f.ret × (f.name < n) × IsListBelow h n f.params × IsPartsBelow h n f.rest
 IsBelow h n (node.Pack items) = IsListBelow h n items
 
--- what an arena holds: nodes, and what they refer to
+-- what an arena holds: nodes, what they refer to, the substitution candidates, and the nodes that are collected
 pub record Store : Type 0 where
   pub nodes : List Node
   pub held : Held
-  pub limit : ℕ  -- the most nodes, items of lists, parts and bytes that it may hold, each
+  pub saved : List ℕ  -- the substitution candidates: indices of nodes
+  pub pending : List ℕ  -- the nodes of lists that aren't complete
+  pub limit : ℕ  -- the most of each that it may hold: nodes, items of lists, parts, bytes, saved and pending nodes
 
 -- the trees of nodes, in order, after the trees before them
 abbrev pub trees_from : Held → List Tree → List Node → List Tree
@@ -176,12 +178,22 @@ forest s = trees_from s.held [] s.nodes
 abbrev pub size : Store → ℕ
 size s = length s.nodes
 
--- at most n nodes, items of lists, parts of phrases and bytes of texts, each
+-- the tree that a node stands for
+unfoldable pub stands : Store → ℕ → Tree
+stands s i = tree_at (forest s) i
+
+-- the trees of the substitution candidates, in order
+unfoldable pub saved_trees : Store → List Tree
+saved_trees s = map (stands s) s.saved
+
+-- at most n nodes, items of lists, parts of phrases, bytes of texts, saved nodes and pending ones, each
 pub record IsWithin (n : ℕ) (s : Store) : Type 0 where
   pub nodes : size s ≤ n
   pub items : length s.held.lists ≤ n
   pub parts : length s.held.parts ≤ n
   pub texts : length s.held.texts ≤ n
+  pub saved : length s.saved ≤ n
+  pub pending : length s.pending ≤ n
 
 -- a list that another one begins with
 abbrev pub Begins : (A : Type 0) → List A → List A → Type 0

@@ -7,12 +7,12 @@ ghost use Rattle.cxx_tree.specs.Grows.{Grows, Makes};
 ghost use Rattle.cxx_tree.specs.Bind as spec;
 ghost use Rattle.cxx_tree.specs.Tree.{named, param, pack};
 ghost use Rattle.cxx_tree.specs.Bind.{AreNamed, binding_at, bound_at, IsInner};
-ghost use Rattle.cxx_tree.specs.declared.arena.PushError.TheVariants as PushError;
+ghost use Rattle.cxx_tree.specs.declared.arena.Stop.TheVariants as Stop;
 ghost use Rattle.cxx_tree.specs.declared.node.Node.TheVariants as Node;
 ghost use Rattle.cxx_tree.specs.declared.node.Plain.TheVariants as Plain;
 ghost use Rattle.cxx_tree.specs.Stored.{forest, size, tree_of, plain_tree, declaration_tree, tree_at, trees_in, IsListBelow, IsBelow, IsPlainBelow, IsDeclarationBelow};
 
-use crate::arena::{Arena, PushError};
+use crate::arena::{Arena, Stop};
 use crate::children::bind_node;
 use crate::digits::push_number;
 use crate::node::{List, Node, Plain, Text};
@@ -31,11 +31,11 @@ pub enum Rest {
 
 /// What becomes of template parameters.
 #[derive(Clone, Copy)]
-pub struct Binding<'a> {
+pub struct Binding {
     /// The binder's level.
     pub level: u64,
-    /// What the parameters of that level become, from the first on: nodes.
-    pub names: &'a [u32],
+    /// Where the nodes begin, of those that are collected, that the parameters of that level become, from the first on.
+    pub from: usize,
     /// What the other parameters become.
     pub rest: Rest,
 }
@@ -58,7 +58,7 @@ fn written(alloc: Global, level: u64, index: u64) -> Result<Vec<u8>, AllocError>
 }
 
 // Makes the name of a parameter as it is mangled.
-fn written_node(arena: &mut Arena, alloc: Global, level: u64, index: u64) -> Result<u32, PushError>
+fn written_node(arena: &mut Arena, alloc: Global, level: u64, index: u64) -> Result<u32, Stop>
     ensures makes { Makes result arena.old arena.new (named (spec.written level index)) }
     ensures few { size arena.new ≤ size arena.old + 1 }
 {
@@ -68,7 +68,7 @@ fn written_node(arena: &mut Arena, alloc: Global, level: u64, index: u64) -> Res
 }
 
 // Makes a parameter of a lambda that has no declaration.
-fn auto_node(arena: &mut Arena, alloc: Global, index: u64) -> Result<u32, PushError>
+fn auto_node(arena: &mut Arena, alloc: Global, index: u64) -> Result<u32, Stop>
     ensures makes { Makes result arena.old arena.new (spec.auto_param index) }
     ensures few { size arena.new ≤ size arena.old + 1 }
 {
@@ -87,7 +87,7 @@ fn without_name(
     i: u32,
     level: u64,
     index: u64,
-) -> Result<u32, PushError>
+) -> Result<u32, Stop>
     requires within { i < size arena.old }
     requires param { tree_at (forest arena.old) i ≡ param level index }
     ensures makes { Makes result arena.old arena.new (spec.other binding.now.rest binding.now.level level index) }
@@ -120,7 +120,7 @@ fn items_of(arena: &Arena, i: u32) -> Option<List>
 }
 
 // Makes what a template parameter stands for: of a list of arguments, a pack.
-fn as_pack(arena: &mut Arena, i: u32) -> Result<u32, PushError>
+fn as_pack(arena: &mut Arena, i: u32) -> Result<u32, Stop>
     requires within { i < size arena.old }
     ensures makes { Makes result arena.old arena.new (spec.as_pack (tree_at (forest arena.old) i)) }
     ensures few { size arena.new ≤ size arena.old + 1 }
@@ -139,15 +139,17 @@ fn replaced(
     i: u32,
     level: u64,
     index: u64,
-) -> Result<u32, PushError>
+) -> Result<u32, Stop>
     requires within { i < size arena.old }
     requires named { AreNamed arena.old binding.now }
     requires param { tree_at (forest arena.old) i ≡ param level index }
     ensures makes { Makes result arena.old arena.new (spec.bound (binding_at arena.old binding.now) level index) }
     ensures few { size arena.new ≤ size arena.old + 1 }
 {
-    if level == binding.level && index < binding.names.len() as u64 {
-        return as_pack(arena, binding.names[index as usize]);
+    let names = arena.pending(binding.from);
+    if level == binding.level && index < names.len() as u64 {
+        let name = names[index as usize];
+        return as_pack(arena, name);
     }
     without_name(arena, alloc, binding, i, level, index)
 }
@@ -164,7 +166,7 @@ fn param_of(node: Node) -> Option<(u64, u64)>
 
 /// Makes the tree of a node with its template parameters replaced. A node without any stays.
 #[cycle(binding)]
-pub fn bind(arena: &mut Arena, alloc: Global, binding: &Binding, i: u32) -> Result<u32, PushError>
+pub fn bind(arena: &mut Arena, alloc: Global, binding: &Binding, i: u32) -> Result<u32, Stop>
     requires within { i < size arena.old }
     requires named { AreNamed arena.old binding.now }
     ensures makes { Makes result arena.old arena.new (bound_at arena.old binding.now i) }
@@ -172,7 +174,7 @@ pub fn bind(arena: &mut Arena, alloc: Global, binding: &Binding, i: u32) -> Resu
     ensures grows { Grows arena.old arena.new }
     ensures below { IfOk result (λ t. t < size arena.new) }
     ensures bound { IfOk result (λ t. tree_at (forest arena.new) t ≡ bound_at arena.old binding.now i) }
-    ensures limit { IsErrOf result PushError.Limit → (measure (bound_at arena.old binding.now i)).fits ≡ false }
+    ensures limit { IsErrOf result Stop.Unreadable → (measure (bound_at arena.old binding.now i)).fits ≡ false }
 {
     if arena.measure(i).params == 0 {
         return Ok(i);

@@ -7,11 +7,11 @@ ghost use Rattle.cxx_tree.specs.Grows.{Grows};
 ghost use Rattle.cxx_tree.specs.Bind as spec;
 ghost use Rattle.cxx_tree.specs.Tree.{named};
 ghost use Rattle.cxx_tree.specs.Bind.{AreNamed, binding_at, bound_at, bound_list, bound_parts, bound_option, part_at, plain_at, declaration_at, node_at, IsInner, IsInnerPlain};
-ghost use Rattle.cxx_tree.specs.declared.arena.PushError.TheVariants as PushError;
+ghost use Rattle.cxx_tree.specs.declared.arena.Stop.TheVariants as Stop;
 ghost use Rattle.cxx_tree.specs.declared.node.Node.TheVariants as Node;
 ghost use Rattle.cxx_tree.specs.Stored.{forest, size, tree_of, plain_tree, declaration_tree, tree_at, option_at, trees_in, parts_in, IsBelow, IsPlainBelow, IsDeclarationBelow, IsListBelow, IsPartsBelow, IsPartBelow, IsOptionBelow};
 
-use crate::arena::{Arena, PushError};
+use crate::arena::{Arena, Stop};
 use crate::bind::{Binding, bind};
 use crate::node::{Declaration, Encoding, Function, List, Node, Part, Parts, Plain};
 use std::alloc::Global;
@@ -25,7 +25,7 @@ fn bind_pair(
     i: u32,
     a: u32,
     b: u32,
-) -> Result<(u32, u32), PushError>
+) -> Result<(u32, u32), Stop>
     requires within { i ≤ size arena.old }
     requires named { AreNamed arena.old binding.now }
     requires below { (a < i) × (b < i) }
@@ -35,7 +35,7 @@ fn bind_pair(
     ensures below { IfOk result (λ r. (r.0 < size arena.new) × (r.1 < size arena.new)) }
     ensures bound { IfOk result (λ r. (tree_at (forest arena.new) r.0 ≡ bound_at arena.old binding.now a)
         × (tree_at (forest arena.new) r.1 ≡ bound_at arena.old binding.now b)) }
-    ensures limit { IsErrOf result PushError.Limit →
+    ensures limit { IsErrOf result Stop.Unreadable →
         (measure (bound_at arena.old binding.now a)).fits && (measure (bound_at arena.old binding.now b)).fits ≡ false }
 {
     let first = tri!(bind(arena, alloc, binding, a));
@@ -51,7 +51,7 @@ fn bind_list(
     binding: &Binding,
     i: u32,
     list: List,
-) -> Result<List, PushError>
+) -> Result<List, Stop>
     requires within { i ≤ size arena.old }
     requires named { AreNamed arena.old binding.now }
     requires below { IsListBelow arena.old.held i list }
@@ -61,7 +61,7 @@ fn bind_list(
     ensures below { IfOk result (IsListBelow arena.new.held (size arena.new)) }
     ensures bound { IfOk result (λ l.
         trees_in arena.new.held (forest arena.new) l ≡ bound_list arena.old binding.now list) }
-    ensures limit { IsErrOf result PushError.Limit →
+    ensures limit { IsErrOf result Stop.Unreadable →
         (measure_each (bound_list arena.old binding.now list)).fits ≡ false }
 {
     let old = Vec::from_slice(alloc, arena.items(list))?;
@@ -70,7 +70,7 @@ fn bind_list(
         let item = tri!(bind(arena, alloc, binding, *t));
         match items.push(item) {
             Ok(()) => {}
-            Err(_) => return Err(PushError::Memory),
+            Err(_) => return Err(Stop::Memory),
         }
     }
     Ok(arena.list(&items)?)
@@ -84,7 +84,7 @@ fn bind_part(
     binding: &Binding,
     i: u32,
     part: Part,
-) -> Result<Part, PushError>
+) -> Result<Part, Stop>
     requires within { i ≤ size arena.old }
     requires named { AreNamed arena.old binding.now }
     requires below { IsPartBelow arena.old.held i part }
@@ -94,7 +94,7 @@ fn bind_part(
     ensures below { IfOk result (IsPartBelow arena.new.held (size arena.new)) }
     ensures bound { IfOk result (λ p.
         part_at arena.new p ≡ spec.bind_parts (binding_at arena.old binding.now) (part_at arena.old part)) }
-    ensures limit { IsErrOf result PushError.Limit → (reversed : Bool) → (measure_parts reversed
+    ensures limit { IsErrOf result Stop.Unreadable → (reversed : Bool) → (measure_parts reversed
         (spec.bind_parts (binding_at arena.old binding.now) (part_at arena.old part))).fits ≡ false }
 {
     match part {
@@ -118,7 +118,7 @@ fn bind_parts(
     binding: &Binding,
     i: u32,
     parts: Parts,
-) -> Result<Parts, PushError>
+) -> Result<Parts, Stop>
     requires within { i ≤ size arena.old }
     requires named { AreNamed arena.old binding.now }
     requires below { IsPartsBelow arena.old.held i parts }
@@ -128,7 +128,7 @@ fn bind_parts(
     ensures below { IfOk result (IsPartsBelow arena.new.held (size arena.new)) }
     ensures bound { IfOk result (λ ps.
         parts_in arena.new.held (forest arena.new) ps ≡ bound_parts arena.old binding.now parts) }
-    ensures limit { IsErrOf result PushError.Limit → (reversed : Bool) →
+    ensures limit { IsErrOf result Stop.Unreadable → (reversed : Bool) →
         (measure_parts reversed (bound_parts arena.old binding.now parts)).fits ≡ false }
 {
     let old = Vec::from_slice(alloc, arena.parts_of(parts))?;
@@ -137,7 +137,7 @@ fn bind_parts(
         let item = tri!(bind_part(arena, alloc, binding, i, *part));
         match items.push(item) {
             Ok(()) => {}
-            Err(_) => return Err(PushError::Memory),
+            Err(_) => return Err(Stop::Memory),
         }
     }
     Ok(arena.parts(&items)?)
@@ -152,7 +152,7 @@ fn bind_with_list(
     i: u32,
     a: u32,
     list: List,
-) -> Result<(u32, List), PushError>
+) -> Result<(u32, List), Stop>
     requires within { i ≤ size arena.old }
     requires named { AreNamed arena.old binding.now }
     requires below { (a < i) × IsListBelow arena.old.held i list }
@@ -162,7 +162,7 @@ fn bind_with_list(
     ensures below { IfOk result (λ r. (r.0 < size arena.new) × IsListBelow arena.new.held (size arena.new) r.1) }
     ensures bound { IfOk result (λ r. (tree_at (forest arena.new) r.0 ≡ bound_at arena.old binding.now a)
         × (trees_in arena.new.held (forest arena.new) r.1 ≡ bound_list arena.old binding.now list)) }
-    ensures limit { IsErrOf result PushError.Limit →
+    ensures limit { IsErrOf result Stop.Unreadable →
         (measure (bound_at arena.old binding.now a)).fits
         && (measure_each (bound_list arena.old binding.now list)).fits ≡ false }
 {
@@ -180,7 +180,7 @@ fn bind_with_parts(
     i: u32,
     a: u32,
     parts: Parts,
-) -> Result<(u32, Parts), PushError>
+) -> Result<(u32, Parts), Stop>
     requires within { i ≤ size arena.old }
     requires named { AreNamed arena.old binding.now }
     requires below { (a < i) × IsPartsBelow arena.old.held i parts }
@@ -190,7 +190,7 @@ fn bind_with_parts(
     ensures below { IfOk result (λ r. (r.0 < size arena.new) × IsPartsBelow arena.new.held (size arena.new) r.1) }
     ensures bound { IfOk result (λ r. (tree_at (forest arena.new) r.0 ≡ bound_at arena.old binding.now a)
         × (parts_in arena.new.held (forest arena.new) r.1 ≡ bound_parts arena.old binding.now parts)) }
-    ensures limit { IsErrOf result PushError.Limit →
+    ensures limit { IsErrOf result Stop.Unreadable →
         (measure (bound_at arena.old binding.now a)).fits
         && (measure_parts false (bound_parts arena.old binding.now parts)).fits ≡ false }
 {
@@ -209,7 +209,7 @@ fn bind_three(
     a: u32,
     list: List,
     parts: Parts,
-) -> Result<(u32, List, Parts), PushError>
+) -> Result<(u32, List, Parts), Stop>
     requires within { i ≤ size arena.old }
     requires named { AreNamed arena.old binding.now }
     requires below { (a < i) × IsListBelow arena.old.held i list × IsPartsBelow arena.old.held i parts }
@@ -222,7 +222,7 @@ fn bind_three(
     ensures bound { IfOk result (λ r. (tree_at (forest arena.new) r.0 ≡ bound_at arena.old binding.now a)
         × (trees_in arena.new.held (forest arena.new) r.1 ≡ bound_list arena.old binding.now list)
         × (parts_in arena.new.held (forest arena.new) r.2 ≡ bound_parts arena.old binding.now parts)) }
-    ensures limit { IsErrOf result PushError.Limit →
+    ensures limit { IsErrOf result Stop.Unreadable →
         (measure (bound_at arena.old binding.now a)).fits
         && ((measure_each (bound_list arena.old binding.now list)).fits
         && (measure_parts false (bound_parts arena.old binding.now parts)).fits) ≡ false }
@@ -240,7 +240,7 @@ fn bind_option(
     binding: &Binding,
     i: u32,
     node: Option<u32>,
-) -> Result<Option<u32>, PushError>
+) -> Result<Option<u32>, Stop>
     requires within { i ≤ size arena.old }
     requires named { AreNamed arena.old binding.now }
     requires below { IsOptionBelow i node }
@@ -249,7 +249,7 @@ fn bind_option(
         ≤ size arena.old + (measure_each (option_at (forest arena.old) node)).params }
     ensures below { IfOk result (IsOptionBelow (size arena.new)) }
     ensures bound { IfOk result (λ o. option_at (forest arena.new) o ≡ bound_option arena.old binding.now node) }
-    ensures limit { IsErrOf result PushError.Limit →
+    ensures limit { IsErrOf result Stop.Unreadable →
         (measure_each (bound_option arena.old binding.now node)).fits ≡ false }
 {
     match node {
@@ -272,7 +272,7 @@ fn bind_four(
     a: u32,
     list: List,
     parts: Parts,
-) -> Result<(Option<u32>, u32, List, Parts), PushError>
+) -> Result<(Option<u32>, u32, List, Parts), Stop>
     requires within { i ≤ size arena.old }
     requires named { AreNamed arena.old binding.now }
     requires below { IsOptionBelow i node × (a < i) × IsListBelow arena.old.held i list
@@ -288,7 +288,7 @@ fn bind_four(
         × (tree_at (forest arena.new) r.1 ≡ bound_at arena.old binding.now a)
         × (trees_in arena.new.held (forest arena.new) r.2 ≡ bound_list arena.old binding.now list)
         × (parts_in arena.new.held (forest arena.new) r.3 ≡ bound_parts arena.old binding.now parts)) }
-    ensures limit { IsErrOf result PushError.Limit →
+    ensures limit { IsErrOf result Stop.Unreadable →
         (measure_each (bound_option arena.old binding.now node)).fits
         && ((measure (bound_at arena.old binding.now a)).fits
         && ((measure_each (bound_list arena.old binding.now list)).fits
@@ -307,7 +307,7 @@ fn bind_plain(
     binding: &Binding,
     i: u32,
     plain: Plain,
-) -> Result<Plain, PushError>
+) -> Result<Plain, Stop>
     requires within { i ≤ size arena.old }
     requires named { AreNamed arena.old binding.now }
     requires below { IsPlainBelow arena.old.held i plain }
@@ -317,7 +317,7 @@ fn bind_plain(
     ensures below { IfOk result (IsPlainBelow arena.new.held (size arena.new)) }
     ensures bound { IfOk result (λ n.
         plain_at arena.new n ≡ spec.bind (binding_at arena.old binding.now) (plain_at arena.old plain)) }
-    ensures limit { IsErrOf result PushError.Limit →
+    ensures limit { IsErrOf result Stop.Unreadable →
         (measure (spec.bind (binding_at arena.old binding.now) (plain_at arena.old plain))).fits ≡ false }
 {
     match plain {
@@ -375,7 +375,7 @@ fn bind_declaration(
     binding: &Binding,
     i: u32,
     declaration: Declaration,
-) -> Result<Declaration, PushError>
+) -> Result<Declaration, Stop>
     requires within { i ≤ size arena.old }
     requires named { AreNamed arena.old binding.now }
     requires below { IsDeclarationBelow arena.old.held i declaration }
@@ -385,7 +385,7 @@ fn bind_declaration(
     ensures bound { IfOk result (λ n.
         declaration_at arena.new n
         ≡ spec.bind (binding_at arena.old binding.now) (declaration_at arena.old declaration)) }
-    ensures limit { IsErrOf result PushError.Limit →
+    ensures limit { IsErrOf result Stop.Unreadable →
         (measure (spec.bind (binding_at arena.old binding.now) (declaration_at arena.old declaration))).fits ≡ false }
 {
     match declaration {
@@ -424,7 +424,7 @@ fn bind_function(
     binding: &Binding,
     i: u32,
     function: Function,
-) -> Result<Function, PushError>
+) -> Result<Function, Stop>
     requires within { i ≤ size arena.old }
     requires named { AreNamed arena.old binding.now }
     requires below { IsBelow arena.old.held i (Node.Function function) }
@@ -434,7 +434,7 @@ fn bind_function(
     ensures below { IfOk result (λ n. IsBelow arena.new.held (size arena.new) (Node.Function n)) }
     ensures bound { IfOk result (λ n. node_at arena.new (Node.Function n)
         ≡ spec.bind (binding_at arena.old binding.now) (node_at arena.old (Node.Function function))) }
-    ensures limit { IsErrOf result PushError.Limit →
+    ensures limit { IsErrOf result Stop.Unreadable →
         (measure (spec.bind (binding_at arena.old binding.now)
         (node_at arena.old (Node.Function function)))).fits ≡ false }
 {
@@ -464,7 +464,7 @@ fn bind_encoding(
     binding: &Binding,
     i: u32,
     encoding: Encoding,
-) -> Result<Encoding, PushError>
+) -> Result<Encoding, Stop>
     requires within { i ≤ size arena.old }
     requires named { AreNamed arena.old binding.now }
     requires below { IsBelow arena.old.held i (Node.Encoding encoding) }
@@ -474,7 +474,7 @@ fn bind_encoding(
     ensures below { IfOk result (λ n. IsBelow arena.new.held (size arena.new) (Node.Encoding n)) }
     ensures bound { IfOk result (λ n. node_at arena.new (Node.Encoding n)
         ≡ spec.bind (binding_at arena.old binding.now) (node_at arena.old (Node.Encoding encoding))) }
-    ensures limit { IsErrOf result PushError.Limit →
+    ensures limit { IsErrOf result Stop.Unreadable →
         (measure (spec.bind (binding_at arena.old binding.now)
         (node_at arena.old (Node.Encoding encoding)))).fits ≡ false }
 {
@@ -506,7 +506,7 @@ pub fn bind_node(
     binding: &Binding,
     i: u32,
     node: Node,
-) -> Result<Node, PushError>
+) -> Result<Node, Stop>
     requires within { i ≤ size arena.old }
     requires named { AreNamed arena.old binding.now }
     requires below { IsBelow arena.old.held i node }
@@ -516,7 +516,7 @@ pub fn bind_node(
     ensures below { IfOk result (IsBelow arena.new.held (size arena.new)) }
     ensures bound { IfOk result (λ n.
         node_at arena.new n ≡ spec.bind (binding_at arena.old binding.now) (node_at arena.old node)) }
-    ensures limit { IsErrOf result PushError.Limit →
+    ensures limit { IsErrOf result Stop.Unreadable →
         (measure (spec.bind (binding_at arena.old binding.now) (node_at arena.old node))).fits ≡ false }
 {
     match node {

@@ -104,9 +104,9 @@ fn and_parts(arena: &Arena, before: Measure, parts: Parts) -> Measure
     join(before, of_parts(arena, false, parts))
 }
 
-// The number of bytes of a text.
+/// Returns the number of bytes of a text.
 #[inline(always)]
-fn text_len(arena: &Arena, text: Text) -> usize
+pub fn text_len(arena: &Arena, text: Text) -> usize
     requires within { IsText arena.now.held text }
     ensures value { result ≡ length (text_at arena.now.held text) }
     ensures small { result < 9223372036854775808 }

@@ -1,9 +1,8 @@
 //! Trees at the limits and beyond them, texts that aren't ASCII or are long, and allocations that fail. The last line
 //! is `N passed, M failed`.
 
-use crate::extracted::cxx_nodes as rows;
 use crate::extracted::cxx_printer::{Mode, Style, Symbol, print_symbol};
-use crate::extracted::cxx_tree::{Arena, Cv, Encoding, Node, Plain, PushError, RefQual};
+use crate::extracted::cxx_tree::{Arena, Cv, Encoding, Node, Plain, Stop, RefQual};
 use crate::extracted::growing_text::Text;
 use crate::rattle::alloc::{AllocError, Global};
 use crate::stacks::stacks;
@@ -76,30 +75,29 @@ fn text_of(arena: &Arena, tree: u32) -> Vec<u8> {
     printed(arena, tree, Style::Llvm).expect("memory")
 }
 
-fn name(arena: &mut Arena, bytes: &[u8]) -> Result<u32, PushError> {
-    let text = arena.text(bytes)?;
-    rows::name(arena, text)
+fn name(arena: &mut Arena, bytes: &[u8]) -> Result<u32, Stop> {
+    arena.make_name(bytes)
 }
 
-fn list(arena: &mut Arena, items: &[u32]) -> Result<u32, PushError> {
+fn list(arena: &mut Arena, items: &[u32]) -> Result<u32, Stop> {
     let items = arena.list(items)?;
     arena.push(Node::Plain(Plain::List(items)))
 }
 
-fn pack(arena: &mut Arena, items: &[u32]) -> Result<u32, PushError> {
+fn pack(arena: &mut Arena, items: &[u32]) -> Result<u32, Stop> {
     let items = arena.list(items)?;
     arena.push(Node::Pack(items))
 }
 
-fn expansion(arena: &mut Arena, pattern: u32) -> Result<u32, PushError> {
+fn expansion(arena: &mut Arena, pattern: u32) -> Result<u32, Stop> {
     arena.push(Node::Plain(Plain::Expansion(pattern)))
 }
 
-fn is_limit(made: Result<u32, PushError>) -> bool {
-    matches!(made, Err(PushError::Limit))
+fn is_limit(made: Result<u32, Stop>) -> bool {
+    matches!(made, Err(Stop::Unreadable))
 }
 
-fn made_here(made: Result<u32, PushError>) -> u32 {
+fn made_here(made: Result<u32, Stop>) -> u32 {
     made.unwrap_or_else(|_| panic!("a tree within the limits"))
 }
 
@@ -151,7 +149,7 @@ fn packs(counts: &mut Counts) {
         let made = expansion(&mut arena, inner).and_then(|it| pack(&mut arena, &[it, it]));
         match made {
             Ok(next) => inner = next,
-            Err(error) => return matches!(error, PushError::Limit),
+            Err(error) => return matches!(error, Stop::Unreadable),
         }
         false
     });
@@ -174,11 +172,10 @@ fn texts(counts: &mut Counts) {
 const DECLARED: &[u8] = b"int* f<int*, (int)7>(int* const&, g)";
 
 /// Makes the nodes of a function. All memory that is allocated is that of the arena.
-fn declared(arena: &mut Arena) -> Result<u32, PushError> {
+fn declared(arena: &mut Arena) -> Result<u32, Stop> {
     let (f, g, int) = (name(arena, b"f")?, name(arena, b"g")?, name(arena, b"int")?);
     let pointer = arena.push(Node::Pointer(int))?;
-    let seven = arena.text(b"7")?;
-    let literal = rows::typed_literal(arena, int, seven)?;
+    let literal = arena.make_typed_literal(int, b"7")?;
     let args = arena.list(&[pointer, literal])?;
     let named = arena.push(Node::Plain(Plain::WithArgs(f, args)))?;
     let cv = Cv { is_const: true, is_volatile: false, is_restrict: false };
@@ -193,7 +190,7 @@ fn declared(arena: &mut Arena) -> Result<u32, PushError> {
 fn is_declared(arena: &mut Arena, out: &mut Text) -> Result<bool, bool> {
     arena.clear(usize::MAX);
     out.clear();
-    let tree = declared(arena).map_err(|error| matches!(error, PushError::Memory))?;
+    let tree = declared(arena).map_err(|error| matches!(error, Stop::Memory))?;
     let symbol = Symbol { tree, is_block: false, suffix: None };
     print_symbol(arena, symbol, Mode::Declaration, Style::Llvm, out).map_err(|_| true)?;
     Ok(out.as_slice() == DECLARED)

@@ -1,10 +1,9 @@
 //! Trees of the greatest height, printed with little stack. Each shape puts nodes of one kind around a tree, and the
 //! next ones around that.
 
-use crate::extracted::cxx_nodes as rows;
 use crate::extracted::cxx_printer::{Mode, Style, Symbol, print_symbol};
 use crate::extracted::cxx_tree::{
-    Arena, Cv, Declaration, Encoding, Function, Listing, Manner, Node, Part, Phrase, Plain, PushError, RefQual, Text,
+    Arena, Cv, Declaration, Encoding, Function, Listing, Manner, Node, Part, Phrase, Plain, Stop, RefQual, Text,
 };
 use crate::extracted::cxx_tree::{Context, Guard, Parts, Prec, Role};
 use crate::rattle::alloc::Global;
@@ -14,20 +13,20 @@ use std::thread;
 const STACK: usize = 256 << 10;
 
 /// Makes a tree that is one higher than the given one.
-type Shape = fn(&mut Arena, u32, u32) -> Result<u32, PushError>;
+type Shape = fn(&mut Arena, u32, u32) -> Result<u32, Stop>;
 
 const NO_CV: Cv = Cv { is_const: false, is_volatile: false, is_restrict: false };
 
-fn plain(arena: &mut Arena, plain: Plain) -> Result<u32, PushError> {
+fn plain(arena: &mut Arena, plain: Plain) -> Result<u32, Stop> {
     arena.push(Node::Plain(plain))
 }
 
-fn declaration(arena: &mut Arena, declaration: Declaration) -> Result<u32, PushError> {
+fn declaration(arena: &mut Arena, declaration: Declaration) -> Result<u32, Stop> {
     arena.push(Node::Declaration(declaration))
 }
 
 /// A phrase of one part, looser than any operand may be.
-fn phrase(arena: &mut Arena, guard: Guard, part: Part) -> Result<u32, PushError> {
+fn phrase(arena: &mut Arena, guard: Guard, part: Part) -> Result<u32, Stop> {
     let attributes = Phrase {
         own: 1,
         prec: Prec::Comma,
@@ -41,26 +40,26 @@ fn phrase(arena: &mut Arena, guard: Guard, part: Part) -> Result<u32, PushError>
     plain(arena, Plain::Phrase(attributes, parts))
 }
 
-fn manner(arena: &mut Arena, manner: Manner, t: u32) -> Result<u32, PushError> {
+fn manner(arena: &mut Arena, manner: Manner, t: u32) -> Result<u32, Stop> {
     phrase(arena, Guard::Open, Part::Tree(manner, t))
 }
 
-fn listing(arena: &mut Arena, listing: Listing, t: u32) -> Result<u32, PushError> {
+fn listing(arena: &mut Arena, listing: Listing, t: u32) -> Result<u32, Stop> {
     let list = arena.list(&[t])?;
     phrase(arena, Guard::Open, Part::Trees(listing, list))
 }
 
 /// The tree as the only part.
-fn part(arena: &mut Arena, t: u32) -> Result<Parts, PushError> {
+fn part(arena: &mut Arena, t: u32) -> Result<Parts, Stop> {
     Ok(arena.parts(&[Part::Tree(Manner::Whole(Context::Same), t)])?)
 }
 
-fn function(arena: &mut Arena, ret: u32, params: &[u32], exception: Parts) -> Result<u32, PushError> {
+fn function(arena: &mut Arena, ret: u32, params: &[u32], exception: Parts) -> Result<u32, Stop> {
     let params = arena.list(params)?;
     arena.push(Node::Function(Function { ret, params, cv: NO_CV, ref_qual: RefQual::None, exception }))
 }
 
-fn encoding(arena: &mut Arena, ret: Option<u32>, name: u32, params: &[u32], rest: Parts) -> Result<u32, PushError> {
+fn encoding(arena: &mut Arena, ret: Option<u32>, name: u32, params: &[u32], rest: Parts) -> Result<u32, Stop> {
     let params = arena.list(params)?;
     arena.push(Node::Encoding(Encoding { ret, name, params, cv: NO_CV, ref_qual: RefQual::None, rest }))
 }
@@ -174,7 +173,7 @@ const SHAPES: &[(&str, Shape)] = &[
 /// it prints something.
 fn is_printed(shapes: &[Shape], height: usize) -> bool {
     let mut arena = Arena::new(Global);
-    let name = |arena: &mut Arena| rows::name(arena, Text::Fixed(b"x"));
+    let name = |arena: &mut Arena| arena.make_name(b"x");
     let Ok(x) = name(&mut arena) else { return false };
     let mut tree = x;
     for shape in shapes.iter().cycle() {

@@ -2,8 +2,9 @@
 //! fields in the same order. A `Lambda` has a `Closure` as its only field, whose number isn't used.
 
 use crate::extracted::cxx_printer::Symbol;
-use crate::extracted::cxx_nodes::{self as rows, Rest, Signature};
-use crate::extracted::cxx_tree::{Arena, Cv, Declaration, List, Node, Plain, Prec, PushError, RefQual, Std, Text};
+use crate::extracted::cxx_tree::{
+    Arena, Clauses, Cv, Declaration, List, Node, Plain, Prec, RefQual, Signature, Std, Stop, Text,
+};
 use crate::rattle::alloc::Global;
 use crate::value::Value;
 
@@ -20,7 +21,7 @@ const GNU: [(&[u8], &[u8]); 5] = [
 ];
 
 /// Makes the nodes of a tree, with what stands at its top for a block or a suffix.
-pub fn made(arena: &mut Arena, tree: &Value) -> Result<Symbol, PushError> {
+pub fn made(arena: &mut Arena, tree: &Value) -> Result<Symbol, Stop> {
     let mut maker = Maker { arena };
     match (tree.name(), tree.fields()) {
         ("DotSuffix", [tree, suffix]) => {
@@ -97,12 +98,12 @@ struct Maker<'a> {
 }
 
 impl Maker<'_> {
-    fn text(&mut self, value: &Value) -> Result<Text, PushError> {
+    fn text(&mut self, value: &Value) -> Result<Text, Stop> {
         Ok(self.arena.text(value.bytes())?)
     }
 
     /// A text, and that of GNU's style.
-    fn texts(&mut self, value: &Value) -> Result<(Text, Text), PushError> {
+    fn texts(&mut self, value: &Value) -> Result<(Text, Text), Stop> {
         let llvm = self.text(value)?;
         match GNU.iter().find(|(text, _)| *text == value.bytes()) {
             Some((_, text)) => Ok((llvm, self.arena.text(text)?)),
@@ -111,37 +112,37 @@ impl Maker<'_> {
     }
 
     /// A count, and its number in GNU's style.
-    fn count(&mut self, value: &Value) -> Result<(Text, Text), PushError> {
+    fn count(&mut self, value: &Value) -> Result<(Text, Text), Stop> {
         Ok((self.text(value)?, self.arena.text(ordinal(value.bytes()).as_bytes())?))
     }
 
-    fn nodes(&mut self, value: &Value) -> Result<Vec<u32>, PushError> {
-        value.items().iter().map(|item| self.tree(item)).collect()
+    fn list(&mut self, value: &Value) -> Result<List, Stop> {
+        let from = self.arena.pending_len();
+        for item in value.items() {
+            let node = self.tree(item)?;
+            self.arena.add(node)?;
+        }
+        self.arena.list_from(from)
     }
 
-    fn list(&mut self, value: &Value) -> Result<List, PushError> {
-        let nodes = self.nodes(value)?;
-        Ok(self.arena.list(&nodes)?)
-    }
-
-    fn option(&mut self, value: &Value) -> Result<Option<u32>, PushError> {
+    fn option(&mut self, value: &Value) -> Result<Option<u32>, Stop> {
         value.option().map(|tree| self.tree(tree)).transpose()
     }
 
-    fn options(&mut self, value: &Value) -> Result<Option<Vec<u32>>, PushError> {
-        value.option().map(|trees| self.nodes(trees)).transpose()
+    fn lists(&mut self, value: &Value) -> Result<Option<List>, Stop> {
+        value.option().map(|trees| self.list(trees)).transpose()
     }
 
-    fn plain(&mut self, plain: Plain) -> Result<u32, PushError> {
+    fn plain(&mut self, plain: Plain) -> Result<u32, Stop> {
         self.arena.push(Node::Plain(plain))
     }
 
-    fn declaration(&mut self, declaration: Declaration) -> Result<u32, PushError> {
+    fn declaration(&mut self, declaration: Declaration) -> Result<u32, Stop> {
         self.arena.push(Node::Declaration(declaration))
     }
 
     /// The node of a tree.
-    fn tree(&mut self, value: &Value) -> Result<u32, PushError> {
+    fn tree(&mut self, value: &Value) -> Result<u32, Stop> {
         let (name, fields) = (value.name(), value.fields());
         let made = match self.name(name, fields)? {
             Some(node) => Some(node),
@@ -154,27 +155,26 @@ impl Maker<'_> {
     }
 
     /// The node of a name, if the constructor is that of one.
-    fn name(&mut self, name: &str, fields: &[Value]) -> Result<Option<u32>, PushError> {
+    fn name(&mut self, name: &str, fields: &[Value]) -> Result<Option<u32>, Stop> {
         Ok(Some(match (name, fields) {
             ("Name", [text]) => {
-                let text = self.text(text)?;
-                rows::name(self.arena, text)?
+                self.arena.make_name(text.bytes())?
             }
             ("Word", [llvm, gnu]) => {
                 let (llvm, gnu) = (self.text(llvm)?, self.text(gnu)?);
-                rows::word(self.arena, llvm, gnu)?
+                self.arena.make_word(llvm, gnu)?
             }
             ("Literal", [llvm, gnu]) => {
                 let (llvm, gnu) = (self.text(llvm)?, self.text(gnu)?);
-                rows::literal(self.arena, llvm, gnu)?
+                self.arena.make_literal(llvm, gnu)?
             }
             ("LambdaParam", [_, llvm, gnu]) => {
                 let (llvm, gnu) = (self.text(llvm)?, self.text(gnu)?);
-                rows::lambda_param(self.arena, llvm, gnu)?
+                self.arena.make_lambda_param(llvm, gnu)?
             }
             ("DefaultArg", [e, count]) => {
                 let (e, (count, ordinal)) = (self.tree(e)?, self.count(count)?);
-                rows::default_arg(self.arena, e, count, ordinal)?
+                self.arena.make_default_arg(e, count, ordinal)?
             }
             ("Nested", [scope, n]) => {
                 let scope = self.tree(scope)?;
@@ -190,7 +190,7 @@ impl Maker<'_> {
             }
             ("ModuleName", [parent, n, is_partition]) => {
                 let (parent, n) = (self.option(parent)?, self.tree(n)?);
-                rows::module_name(self.arena, parent, n, is_partition.is_true())?
+                self.arena.make_module_name(parent, n, is_partition.is_true())?
             }
             ("InModule", [n, module]) => {
                 let node = Plain::InModule(self.tree(n)?, self.tree(module)?);
@@ -207,33 +207,33 @@ impl Maker<'_> {
             ("StdName", [std, is_expanded]) => self.plain(Plain::StdName(abbreviation(std), is_expanded.is_true()))?,
             ("CtorDtor", [class, is_destructor]) => {
                 let class = self.text(class)?;
-                rows::ctor_dtor(self.arena, class, is_destructor.is_true())?
+                self.arena.make_ctor_dtor(class, is_destructor.is_true())?
             }
             ("DtorName", [t]) => {
                 let t = self.tree(t)?;
-                rows::dtor_name(self.arena, t)?
+                self.arena.make_dtor_name(t)?
             }
             ("Unnamed", [count]) => {
                 let (count, ordinal) = self.count(count)?;
-                rows::unnamed(self.arena, count, ordinal)?
+                self.arena.make_unnamed(count, ordinal)?
             }
             ("Closure", [declarations, before, params, behind, count]) => {
-                let (declarations, before) = (self.nodes(declarations)?, self.option(before)?);
-                let (params, behind) = (self.nodes(params)?, self.option(behind)?);
+                let (declarations, before) = (self.list(declarations)?, self.option(before)?);
+                let (params, behind) = (self.list(params)?, self.option(behind)?);
                 let (count, ordinal) = self.count(count)?;
-                let signature = Signature { declarations: &declarations, before, params: &params, behind };
-                rows::closure(self.arena, Global, &signature, count, ordinal)?
+                let signature = Signature { declarations, before, params, behind };
+                self.arena.make_closure(Global, signature, count, ordinal)?
             }
             ("Bindings", [names]) => {
-                let names = self.nodes(names)?;
-                rows::bindings(self.arena, &names)?
+                let names = self.list(names)?;
+                self.arena.make_bindings(names)?
             }
             _ => return Ok(None),
         }))
     }
 
     /// The node of a type, a declaration, a pack or an encoding, if the constructor is that of one.
-    fn ty(&mut self, name: &str, fields: &[Value]) -> Result<Option<u32>, PushError> {
+    fn ty(&mut self, name: &str, fields: &[Value]) -> Result<Option<u32>, Stop> {
         Ok(Some(match (name, fields) {
             ("Qualified", [t, cv]) => {
                 let node = Node::Qualified(self.tree(t)?, qualifiers(cv));
@@ -253,20 +253,20 @@ impl Maker<'_> {
             }
             ("Array", [t, dimension]) => {
                 let (t, dimension) = (self.tree(t)?, self.option(dimension)?);
-                rows::array(self.arena, t, dimension)?
+                self.arena.make_array(t, dimension)?
             }
             ("Function", [ret, params, cv, ref_qual, exception]) => {
-                let (ret, params) = (self.tree(ret)?, self.nodes(params)?);
+                let (ret, params) = (self.tree(ret)?, self.list(params)?);
                 let exception = self.option(exception)?;
-                rows::function(self.arena, ret, &params, qualifiers(cv), reference(ref_qual), exception)?
+                self.arena.make_function_type(ret, params, qualifiers(cv), reference(ref_qual), exception)?
             }
             ("Suffixed", [t, word]) => {
                 let (t, (llvm, gnu)) = (self.tree(t)?, self.texts(word)?);
-                rows::suffixed(self.arena, t, llvm, gnu)?
+                self.arena.make_suffixed(t, llvm, gnu)?
             }
             ("VendorQualified", [t, qualifier, args]) => {
-                let (t, qualifier, args) = (self.tree(t)?, self.text(qualifier)?, self.options(args)?);
-                rows::vendor_qualified(self.arena, t, qualifier, args.as_deref())?
+                let (t, qualifier, args) = (self.tree(t)?, self.text(qualifier)?, self.lists(args)?);
+                self.arena.make_vendor_qualified(t, qualifier, args)?
             }
             ("ObjcProtocol", [t, protocol]) => {
                 let node = Plain::ObjcProtocol(self.tree(t)?, self.text(protocol)?);
@@ -274,7 +274,7 @@ impl Maker<'_> {
             }
             ("Vector", [t, dimension]) => {
                 let (t, dimension) = (self.tree(t)?, self.option(dimension)?);
-                rows::vector(self.arena, t, dimension)?
+                self.arena.make_vector(t, dimension)?
             }
             ("TypeParam", [constraint, n]) => {
                 let node = Declaration::TypeParam(self.tree(constraint)?, self.tree(n)?);
@@ -285,9 +285,9 @@ impl Maker<'_> {
                 self.declaration(node)?
             }
             ("TemplateParam", [n, declarations, constraint]) => {
-                let (n, declarations) = (self.tree(n)?, self.nodes(declarations)?);
+                let (n, declarations) = (self.tree(n)?, self.list(declarations)?);
                 let constraint = self.option(constraint)?;
-                rows::template_param(self.arena, n, &declarations, constraint)?
+                self.arena.make_template_param(n, declarations, constraint)?
             }
             ("PackParam", [d]) => {
                 let node = Declaration::PackParam(self.tree(d)?);
@@ -306,10 +306,10 @@ impl Maker<'_> {
                 self.plain(node)?
             }
             ("FunctionEncoding", [ret, n, params, enable_if, constraint, cv, ref_qual]) => {
-                let (ret, n, params) = (self.option(ret)?, self.tree(n)?, self.nodes(params)?);
-                let (enable_if, constraint) = (self.options(enable_if)?, self.option(constraint)?);
-                let rest = Rest { enable_if: enable_if.as_deref(), constraint };
-                rows::encoding(self.arena, ret, n, &params, qualifiers(cv), reference(ref_qual), &rest)?
+                let (ret, n, params) = (self.option(ret)?, self.tree(n)?, self.list(params)?);
+                let (enable_if, constraint) = (self.lists(enable_if)?, self.option(constraint)?);
+                let clauses = Clauses { enable_if, constraint };
+                self.arena.make_encoding(ret, n, params, qualifiers(cv), reference(ref_qual), clauses)?
             }
             ("Data", [n]) => {
                 let node = Plain::Data(self.tree(n)?);
@@ -317,114 +317,114 @@ impl Maker<'_> {
             }
             ("CtorVtable", [a, b]) => {
                 let (a, b) = (self.tree(a)?, self.tree(b)?);
-                rows::ctor_vtable(self.arena, a, b)?
+                self.arena.make_ctor_vtable(a, b)?
             }
             ("Prefixed", [word, t, prec]) => {
                 let ((llvm, gnu), t) = (self.texts(word)?, self.tree(t)?);
-                rows::prefixed(self.arena, llvm, gnu, t, precedence(prec))?
+                self.arena.make_prefixed(llvm, gnu, t, precedence(prec))?
             }
             ("Enclosing", [word, t, _]) if word.bytes() == b"sizeof..." || word.bytes() == b"sizeof... " => {
                 let pack = self.tree(t)?;
-                rows::count(self.arena, word.bytes().ends_with(b" "), pack)?
+                self.arena.make_pack_count(word.bytes().ends_with(b" "), pack)?
             }
             ("Enclosing", [word, t, prec]) => {
                 let ((llvm, gnu), t) = (self.texts(word)?, self.tree(t)?);
-                rows::enclosing(self.arena, llvm, gnu, t, precedence(prec))?
+                self.arena.make_enclosing(llvm, gnu, t, precedence(prec))?
             }
             _ => return Ok(None),
         }))
     }
 
     /// The node of an expression, if the constructor is that of one.
-    fn expression(&mut self, name: &str, fields: &[Value]) -> Result<Option<u32>, PushError> {
+    fn expression(&mut self, name: &str, fields: &[Value]) -> Result<Option<u32>, Stop> {
         Ok(Some(match (name, fields) {
             ("Binary", [a, symbol, b, prec]) => {
                 let (a, symbol, b) = (self.tree(a)?, self.text(symbol)?, self.tree(b)?);
-                rows::binary(self.arena, a, symbol, b, precedence(prec))?
+                self.arena.make_binary(a, symbol, b, precedence(prec))?
             }
             ("Subscript", [a, index]) => {
                 let (a, index) = (self.tree(a)?, self.tree(index)?);
-                rows::subscript(self.arena, a, index)?
+                self.arena.make_subscript(a, index)?
             }
             ("PostfixOp", [a, symbol]) => {
                 let (a, symbol) = (self.tree(a)?, self.text(symbol)?);
-                rows::postfix_op(self.arena, a, symbol)?
+                self.arena.make_postfix_op(a, symbol)?
             }
             ("PrefixOp", [symbol, a, prec]) => {
                 let (symbol, a) = (self.text(symbol)?, self.tree(a)?);
-                rows::prefix_op(self.arena, symbol, a, precedence(prec))?
+                self.arena.make_prefix_op(symbol, a, precedence(prec))?
             }
             ("Conditional", [a, b, c]) => {
                 let (a, b, c) = (self.tree(a)?, self.tree(b)?, self.tree(c)?);
-                rows::conditional(self.arena, a, b, c)?
+                self.arena.make_conditional(a, b, c)?
             }
             ("Member", [a, symbol, b, prec]) => {
                 let (a, symbol, b) = (self.tree(a)?, self.text(symbol)?, self.tree(b)?);
-                rows::member(self.arena, a, symbol, b, precedence(prec))?
+                self.arena.make_member(a, symbol, b, precedence(prec))?
             }
             ("Subobject", [t, e, offset]) => {
                 let (t, e, offset) = (self.tree(t)?, self.tree(e)?, self.text(offset)?);
-                rows::subobject(self.arena, t, e, offset)?
+                self.arena.make_subobject(t, e, offset)?
             }
             ("NamedCast", [word, t, e]) => {
                 let (word, t, e) = (self.text(word)?, self.tree(t)?, self.tree(e)?);
-                rows::named_cast(self.arena, word, t, e)?
+                self.arena.make_named_cast(word, t, e)?
             }
             ("Call", [function, args]) => {
-                let (function, args) = (self.tree(function)?, self.nodes(args)?);
-                rows::call(self.arena, function, &args)?
+                let (function, args) = (self.tree(function)?, self.list(args)?);
+                self.arena.make_call(function, args)?
             }
             ("New", [placement, t, inits, is_global, is_array]) => {
-                let (placement, t, inits) = (self.nodes(placement)?, self.tree(t)?, self.nodes(inits)?);
+                let (placement, t, inits) = (self.list(placement)?, self.tree(t)?, self.list(inits)?);
                 let (is_global, is_array) = (is_global.is_true(), is_array.is_true());
-                rows::new_expression(self.arena, &placement, t, &inits, is_global, is_array)?
+                self.arena.make_new(placement, t, inits, is_global, is_array)?
             }
             ("Conversion", [t, es, prec]) => {
-                let (t, es) = (self.tree(t)?, self.nodes(es)?);
-                rows::conversion(self.arena, t, &es, precedence(prec))?
+                let (t, es) = (self.tree(t)?, self.list(es)?);
+                self.arena.make_conversion(t, es, precedence(prec))?
             }
             ("InitList", [t, es]) => {
-                let (t, es) = (self.option(t)?, self.nodes(es)?);
-                rows::init_list(self.arena, t, &es)?
+                let (t, es) = (self.option(t)?, self.list(es)?);
+                self.arena.make_init_list(t, es)?
             }
             ("Designated", [d, e, is_index]) => {
                 let (d, e) = (self.tree(d)?, self.tree(e)?);
-                rows::designated(self.arena, d, e, is_index.is_true())?
+                self.arena.make_designated(d, e, is_index.is_true())?
             }
             ("DesignatedRange", [first, last, e]) => {
                 let (first, last, e) = (self.tree(first)?, self.tree(last)?, self.tree(e)?);
-                rows::designated_range(self.arena, first, last, e)?
+                self.arena.make_designated_range(first, last, e)?
             }
             ("Fold", [is_left, symbol, pack, init]) => {
                 let (symbol, pack, init) = (self.text(symbol)?, self.tree(pack)?, self.option(init)?);
-                rows::fold(self.arena, is_left.is_true(), symbol, pack, init)?
+                self.arena.make_fold(is_left.is_true(), symbol, pack, init)?
             }
             ("StringLiteral", [t]) => {
                 let t = self.tree(t)?;
-                rows::string_literal(self.arena, t)?
+                self.arena.make_string_literal(t)?
             }
             ("Lambda", [closure]) => {
                 let [declarations, before, params, behind, _] = closure.fields() else { panic!("no closure") };
-                let (declarations, before) = (self.nodes(declarations)?, self.option(before)?);
-                let (params, behind) = (self.nodes(params)?, self.option(behind)?);
-                let signature = Signature { declarations: &declarations, before, params: &params, behind };
-                rows::lambda(self.arena, Global, &signature)?
+                let (declarations, before) = (self.list(declarations)?, self.option(before)?);
+                let (params, behind) = (self.list(params)?, self.option(behind)?);
+                let signature = Signature { declarations, before, params, behind };
+                self.arena.make_lambda(Global, signature)?
             }
             ("TypedLiteral", [t, value]) => {
-                let (t, value) = (self.tree(t)?, self.text(value)?);
-                rows::typed_literal(self.arena, t, value)?
+                let t = self.tree(t)?;
+                self.arena.make_typed_literal(t, value.bytes())?
             }
             ("Requires", [params, requirements]) => {
-                let (params, requirements) = (self.nodes(params)?, self.nodes(requirements)?);
-                rows::requires_expression(self.arena, &params, &requirements)?
+                let (params, requirements) = (self.list(params)?, self.list(requirements)?);
+                self.arena.make_requires(params, requirements)?
             }
             ("ExprRequirement", [e, is_noexcept, t]) => {
                 let (e, t) = (self.tree(e)?, self.option(t)?);
-                rows::expr_requirement(self.arena, e, is_noexcept.is_true(), t)?
+                self.arena.make_expr_requirement(e, is_noexcept.is_true(), t)?
             }
             ("Requirement", [word, t]) => {
                 let (word, t) = (self.text(word)?, self.tree(t)?);
-                rows::requirement(self.arena, word, t)?
+                self.arena.make_requirement(word, t)?
             }
             _ => return Ok(None),
         }))

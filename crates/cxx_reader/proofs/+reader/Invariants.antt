@@ -2,7 +2,7 @@ use Rattle.std.proofs.Common.{◌+◌, ◌*◌, length, drop}
 use Rattle.std.specs.List.{AllByRecursion}
 use Rattle.cxx_grammar.specs.Grammar.{productions, parse_list, parse_rest}
 use Rattle.cxx_reader.specs.Items.{ends, item_of}
-use Rattle.cxx_reader.specs.Table.{IsNode}
+use Rattle.cxx_tree.specs.Kept.{IsNode}
 use Rattle.cxx_reader.specs.Outcome.{state, IsNamed, named_at, Keeps, KeepsFront}
 use Rattle.cxx_reader.proofs.Lists.{trees_behind}
 use Rattle.cxx_reader.proofs.Turns.{ListSoFar, ComponentsSoFar}
@@ -112,8 +112,8 @@ decreases-items::read_item l = 16 * l.depth + 1
 
 abbrev pub invariant-items::read_items-loop-items : goal.invariant-items::read_items-loop-items
 invariant-items::read_items-loop-items l = record {
-  reads : ListSoFar (parse_list (ends l.items) (item_of l.items (productions l.depth)) (state l.fn.reader)) (ends l.items) (item_of l.items (productions l.depth)) (trees_behind (length l.fn.reader.tables.pending) l.reader.tables) (state l.reader);
-  below : AllByRecursion (IsNode l.reader.tables) (drop (length l.fn.reader.tables.pending) l.reader.tables.pending);
+  reads : ListSoFar (parse_list (ends l.items) (item_of l.items (productions l.depth)) (state l.fn.reader)) (ends l.items) (item_of l.items (productions l.depth)) (trees_behind (length l.fn.reader.arena.pending) l.reader.arena) (state l.reader);
+  below : AllByRecursion (IsNode l.reader.arena) (drop (length l.fn.reader.arena.pending) l.reader.arena.pending);
   keeps : KeepsFront l.fn.reader l.reader;
 }
 
@@ -122,8 +122,8 @@ decreases-items::read_items-loop-items l = length l.reader.rest.now
 
 abbrev pub invariant-names::read_components-loop-reader : goal.invariant-names::read_components-loop-reader
 invariant-names::read_components-loop-reader l = record {
-  reads : ComponentsSoFar (parse_rest (productions l.depth) (named_at l.fn.reader.tables l.fn.name) (state l.fn.reader)) (productions l.depth) (named_at l.reader.tables l.last) (state l.reader);
-  named : IsNamed l.reader.tables l.last;
+  reads : ComponentsSoFar (parse_rest (productions l.depth) (named_at l.fn.reader.arena l.fn.name) (state l.fn.reader)) (productions l.depth) (named_at l.reader.arena l.last) (state l.reader);
+  named : IsNamed l.reader.arena l.last;
   keeps : Keeps l.fn.reader l.reader;
 }
 

@@ -13,9 +13,9 @@ returns-clause-reads c =
     let mid = c.read_type.new.reader in
     let i = c.in-Ok.value in
     let read = c.in-Ok.ensures {u = tt} in
-    let start : Reader = record { rest = mid.rest; tables = c.add.new.self; replaced = mid.replaced; alloc = mid.alloc } in
+    let start : Reader = record { rest = mid.rest; arena = c.add.new.self; replaced = mid.replaced; alloc = mid.alloc } in
     let one : Pushed ((productions c.args.depth).type (state old)) old start i =
-    pushed old mid start i read.moves.keeps c.add.ensures.store c.add.ensures.saved (c.in-Ok-add.ensures {u = tt}).pending refl refl read.reads in
+    pushed old mid start i read.moves.keeps c.add.ensures.same c.add.ensures.saved (c.in-Ok-add.ensures {u = tt}).pending refl refl read.reads in
     params_gives c.read_items.result old start c.read_items.new.reader i (productions c.args.depth) one c.read_items.ensures.keeps c.read_items.ensures.reads
 
 pub returns-clause-keeps : goal.returns-clause-keeps
@@ -24,7 +24,7 @@ returns-clause-keeps c =
     let mid = c.read_type.new.reader in
     let i = c.in-Ok.value in
     let read = c.in-Ok.ensures {u = tt} in
-    let start : Reader = record { rest = mid.rest; tables = c.add.new.self; replaced = mid.replaced; alloc = mid.alloc } in
+    let start : Reader = record { rest = mid.rest; arena = c.add.new.self; replaced = mid.replaced; alloc = mid.alloc } in
     let one : Pushed ((productions c.args.depth).type (state old)) old start i =
-    pushed old mid start i read.moves.keeps c.add.ensures.store c.add.ensures.saved (c.in-Ok-add.ensures {u = tt}).pending refl refl read.reads in
+    pushed old mid start i read.moves.keeps c.add.ensures.same c.add.ensures.saved (c.in-Ok-add.ensures {u = tt}).pending refl refl read.reads in
     params_keeps c.read_items.result old start c.read_items.new.reader i one (omega (arith, read.moves.takes)) c.read_items.ensures.keeps

@@ -1,6 +1,6 @@
 use Rattle.std.proofs.Common.{◌≡◌, Some, rules}
 use Rattle.abi_scalars.specs.Symbol.{after_prefix}
-use Rattle.cxx_reader.specs.Table.{stands}
+use Rattle.cxx_tree.specs.Stored.{stands}
 use Rattle.cxx_demangle.proofs.Whole.{one_reading, no_encoding, answered}
 use Rattle.cxx_demangle.proofs.demangler.Demangler.prepare.Goals as goal
 
@@ -21,7 +21,7 @@ returns-in_err-print-clause-one c = one_reading c.args.symbol.now
 pub returns-clause-answer : goal.returns-clause-answer
 returns-clause-answer c =
     let prefix : after_prefix c.args.symbol.now ≡ Some c.in-Some.bytes.now = search rules in
-    answered c.args.printing c.args.symbol.now c.in-Some.bytes.now (stands c.read.new.tables c.in-Some-2.tree) c.print.new.text prefix (search rules) (search rules)
+    answered c.args.printing c.args.symbol.now c.in-Some.bytes.now (stands c.read.new.arena c.in-Some-2.tree) c.print.new.text prefix (search rules) (search rules)
     c.is_answer-is_answered.result (search rules) (search rules)
 
 pub returns-clause-one : goal.returns-clause-one

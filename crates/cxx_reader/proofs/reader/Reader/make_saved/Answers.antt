@@ -6,5 +6,5 @@ use Rattle.cxx_reader.proofs.reader.Reader.make_saved.Goals as goal
 pub returns-clause-reads : goal.returns-clause-reads
 returns-clause-reads c =
     let r = c.args.self.now in
-    let after : Reader = record { rest = r.rest; tables = c.save.new.self; replaced = r.replaced; alloc = r.alloc } in
-    gives_saved _ after _ _ _ _ (c.in-Ok.ensures {u = tt}).makes (c.in-Ok-save.ensures {u = tt}).saved c.save.ensures.store refl
+    let after : Reader = record { rest = r.rest; arena = c.save.new.self; replaced = r.replaced; alloc = r.alloc } in
+    gives_saved _ after _ _ _ _ (c.in-Ok.ensures {u = tt}).makes (c.in-Ok-save.ensures {u = tt}).saved c.save.ensures.same refl

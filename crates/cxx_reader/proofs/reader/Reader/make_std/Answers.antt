@@ -8,5 +8,5 @@ pub returns-clause-reads : goal.returns-clause-reads
 unfolding measure
 returns-clause-reads c =
     let r = c.args.self.now in
-    let after : Reader = record { rest = r.rest; tables = c.make_fixed.new.self; replaced = r.replaced; alloc = r.alloc } in
+    let after : Reader = record { rest = r.rest; arena = c.make_fixed.new.self; replaced = r.replaced; alloc = r.alloc } in
     gives_made _ after _ _ _ c.make_fixed.ensures.makes refl

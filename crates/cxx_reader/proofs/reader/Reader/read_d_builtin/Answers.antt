@@ -6,7 +6,7 @@ use Rattle.cxx_reader.proofs.reader.Reader.read_d_builtin.Goals as goal
 pub returns-then-skip_letter-clause-reads : goal.returns-then-skip_letter-clause-reads
 returns-then-skip_letter-clause-reads c =
     let r = c.skip_letter.new.self in
-    let after : Reader = record { rest = r.rest; tables = c.make_leaf.new.self; replaced = r.replaced; alloc = r.alloc } in
+    let after : Reader = record { rest = r.rest; arena = c.make_leaf.new.self; replaced = r.replaced; alloc = r.alloc } in
     let is = sym c.skip_letter.ensures.value ∙ c.if-skip_letter.true in
     let same = rw is at c.skip_letter.ensures.state in
     rw is (gives_made _ after _ _ _ c.make_leaf.ensures.makes (sym same))

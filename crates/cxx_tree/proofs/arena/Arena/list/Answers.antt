@@ -1,10 +1,9 @@
 use Rattle.std.proofs.Common.{ℕ, refl, sym, subst, ap, ◌∙◌, arith, length, length-append}
 use Rattle.cxx_tree.specs.declared.node.Part.{Part}
 use Rattle.cxx_tree.specs.Stored.{Store, Held, Extends, forest}
-use Rattle.cxx_tree.specs.Counts.{AreCounted}
 use Rattle.cxx_tree.specs.Grows.{Grows}
 use Rattle.cxx_tree.specs.View.{store_of}
-use Rattle.cxx_tree.proofs.Forest.{grown, grown-forest, Begins-end, Begins-same}
+use Rattle.cxx_tree.proofs.Forest.{grown-forest, kept-held, Begins-end, Begins-same}
 use Rattle.cxx_tree.proofs.Grown.{Grows-held}
 use Rattle.cxx_tree.proofs.arena.Arena.list.Goals as goal
 
@@ -18,14 +17,9 @@ invariant_of-self-2 c =
       Begins-same Part h.parts h.parts refl,
       Begins-same ℕ h.texts h.texts refl,
     ) in
-    let w = c.self.invariant.2.within in (
-      grown s g e c.self.invariant.0,
-      subst (AreCounted c.self.inside.entries.items) (sym (grown-forest s g e c.self.invariant.0)) c.self.invariant.1,
-      record {
-        within = record { nodes = w.nodes; items = omega (arith, ap length (c.in_ok-extend_from_slice.ensures {u = tt}).items, length-append h.lists c.args.items.now, (c.in_ok-range.ensures {u = tt}).to, (c.in_ok-range.ensures {u = tt}).within, c.len.ensures); parts = w.parts; texts = w.texts };
-        small = c.self.invariant.2.small;
-      },
-    )
+    let b : Store = record { nodes = s.nodes; held = g; saved = s.saved; pending = s.pending; limit = s.limit } in
+    let w = c.self.invariant.2.within in
+    kept-held c.self.inside.entries.items s b c.self.invariant refl e refl refl refl (omega (arith, ap length (c.in_ok-extend_from_slice.ensures {u = tt}).items, length-append h.lists c.args.items.now, (c.in_ok-range.ensures {u = tt}).to, (c.in_ok-range.ensures {u = tt}).within, c.len.ensures)) w.parts w.texts
 
 pub returns-clause-forest : goal.returns-clause-forest
 returns-clause-forest c =
@@ -37,7 +31,8 @@ returns-clause-forest c =
       Begins-same Part h.parts h.parts refl,
       Begins-same ℕ h.texts h.texts refl,
     ) in
-    grown-forest s g e c.self.invariant.0 ∙ ap forest c.self.view_is
+    let b : Store = record { nodes = s.nodes; held = g; saved = s.saved; pending = s.pending; limit = s.limit } in
+    grown-forest s b refl e c.self.invariant.0 ∙ ap forest c.self.view_is
 
 pub returns-clause-grows : goal.returns-clause-grows
 returns-clause-grows c =
@@ -49,5 +44,5 @@ returns-clause-grows c =
       Begins-same Part h.parts h.parts refl,
       Begins-same ℕ h.texts h.texts refl,
     ) in
-    let b : Store = record { nodes = s.nodes; held = g; limit = s.limit } in
-    subst (λ (r : Store). Grows r b) c.self.view_is (Grows-held s b refl (grown-forest s g e c.self.invariant.0) e refl)
+    let b : Store = record { nodes = s.nodes; held = g; saved = s.saved; pending = s.pending; limit = s.limit } in
+    subst (λ (r : Store). Grows r b) c.self.view_is (Grows-held s b c.self.invariant.0 refl e refl refl refl)

@@ -6,8 +6,8 @@ use Rattle.cxx_tree.specs.Tree.{Tree}
 use Rattle.cxx_tree.specs.Measure.{measure}
 use Rattle.cxx_tree.specs.Counts.{AreCounted, Row, AreExact}
 use Rattle.cxx_tree.specs.Stored.{Store, Held, forest, size, tree_of, IsBelow}
-use Rattle.cxx_tree.specs.View.{store_of, nodes_of, AreStored}
-use Rattle.cxx_tree.proofs.Forest.{pushed-forest, stored-push}
+use Rattle.cxx_tree.specs.View.{store_of, nodes_of, AreStored, HasNodes}
+use Rattle.cxx_tree.proofs.Forest.{pushed-forest, stored-push, below-more}
 use Rattle.cxx_tree.proofs.Measured.{counted-push, row-fit}
 use Rattle.cxx_tree.proofs.Grown.{Makes-refused, Makes-node, Grows-same, Grows-push, new-tree}
 use Rattle.cxx_tree.proofs.arena.Arena.push_counted.Goals as goal
@@ -19,9 +19,10 @@ returns-then-index-self-clause-makes c =
 pub returns-in-Err-clause-makes : goal.returns-in-Err-clause-makes
 returns-in-Err-clause-makes c =
     let a = c.args.self.now in
-    let h : Held = (store_of c.self.inside).held in
-    let b : Store = record { nodes = nodes_of c.push.new.self.items; held = h; limit = (store_of c.self.inside).limit } in
-    let same : b ≡ a = ap (λ (es : List entry.Entry). record { nodes = nodes_of es; held = h; limit = (store_of c.self.inside).limit }) (c.in-Err.ensures {u = tt}).items ∙ c.self.view_is in
+    let s = store_of c.self.inside in
+    let b : Store = record { nodes = nodes_of c.push.new.self.items; held = s.held; saved = s.saved; pending = s.pending; limit = s.limit } in
+    let same : b ≡ a =
+    ap (λ (es : List entry.Entry). record { nodes = nodes_of es; held = s.held; saved = s.saved; pending = s.pending; limit = s.limit }) (c.in-Err.ensures {u = tt}).items ∙ c.self.view_is in
     Makes-refused a b (tree_of a.held (forest a) c.args.node) (Grows-same a b same)
 
 pub invariant_of-self-2 : goal.invariant_of-self-2
@@ -38,10 +39,11 @@ invariant_of-self-2 c =
     let items = (c.in-Ok.ensures {u = tt}).items in
     let nodes : nodes_of c.push.new.self.items ≡ s.nodes ++ node ∷ [] =
     ap nodes_of items ∙ map-append (λ (d : entry.Entry). d.node) c.self.inside.entries.items (e ∷ []) in
-    let grown : forest (record { nodes = nodes_of c.push.new.self.items; held = h; limit = s.limit }) ≡ forest s ++ t ∷ [] =
-    ap (λ (ns : List Node). forest (record { nodes = ns; held = h; limit = s.limit })) nodes ∙ pushed-forest h s.limit s.nodes node in
-    let b : Store = record { nodes = nodes_of c.push.new.self.items; held = h; limit = s.limit } in
-    let long : size b ≡ size s + 1 = ap length nodes ∙ length-append s.nodes (node ∷ []) in (
+    let b : Store = record { nodes = nodes_of c.push.new.self.items; held = h; saved = s.saved; pending = s.pending; limit = s.limit } in
+    let grown : forest b ≡ forest s ++ t ∷ [] = pushed-forest s b node nodes refl in
+    let long : size b ≡ size s + 1 = ap length nodes ∙ length-append s.nodes (node ∷ []) in
+    let w = c.self.invariant.2.within in
+    let has = c.self.invariant.3 in (
       subst (λ (ns : List Node). AreStored h 0 ns) (sym nodes) (stored-push h s.nodes node (size s) refl c.self.invariant.0 below),
       subst (λ (ts : List Tree). AreCounted c.push.new.self.items ts) (sym grown)
           (subst (λ (es : List entry.Entry). AreCounted es (forest s ++ t ∷ [])) (sym items)
@@ -50,31 +52,35 @@ invariant_of-self-2 c =
         within =
             record {
               nodes = omega (arith, long, c.if-index-self.false, c.len-index.ensures, length-map c.self.inside.entries.items (λ (d : entry.Entry). d.node));
-              items = c.self.invariant.2.within.items;
-              parts = c.self.invariant.2.within.parts;
-              texts = c.self.invariant.2.within.texts;
+              items = w.items;
+              parts = w.parts;
+              texts = w.texts;
+              saved = w.saved;
+              pending = w.pending;
             };
         small = c.self.invariant.2.small;
+      },
+      record {
+        saved = below-more (size s) (size b) s.saved (omega (arith, long)) has.saved;
+        pending = below-more (size s) (size b) s.pending (omega (arith, long)) has.pending;
       },
     )
 
 pub returns-clause-forest : goal.returns-clause-forest
 returns-clause-forest c =
     let s = store_of c.self.inside in
-    let h : Held = s.held in
     let e : entry.Entry = record { node = c.args.node; counts = c.args.counts } in
     let items = (c.in-Ok.ensures {u = tt}).items in
     let nodes : nodes_of c.push.new.self.items ≡ s.nodes ++ c.args.node ∷ [] =
     ap nodes_of items ∙ map-append (λ (d : entry.Entry). d.node) c.self.inside.entries.items (e ∷ []) in
-    subst (λ (r : Store). forest (record { nodes = nodes_of c.push.new.self.items; held = h; limit = (store_of c.self.inside).limit }) ≡ forest r ++ tree_of r.held (forest r) c.args.node ∷ []) c.self.view_is
-    (ap (λ (ns : List Node). forest (record { nodes = ns; held = h; limit = (store_of c.self.inside).limit })) nodes ∙ pushed-forest h s.limit s.nodes c.args.node)
+    let b : Store = record { nodes = nodes_of c.push.new.self.items; held = s.held; saved = s.saved; pending = s.pending; limit = s.limit } in
+    subst (λ (r : Store). forest b ≡ forest r ++ tree_of r.held (forest r) c.args.node ∷ []) c.self.view_is (pushed-forest s b c.args.node nodes refl)
 
 pub returns-clause-makes : goal.returns-clause-makes
 returns-clause-makes c =
     let a = c.args.self.now in
     let s = store_of c.self.inside in
-    let h : Held = s.held in
-    let b : Store = record { nodes = nodes_of c.push.new.self.items; held = h; limit = (store_of c.self.inside).limit } in
+    let b : Store = record { nodes = nodes_of c.push.new.self.items; held = s.held; saved = s.saved; pending = s.pending; limit = s.limit } in
     let t : Tree = tree_of a.held (forest a) c.args.node in
     let e : entry.Entry = record { node = c.args.node; counts = c.args.counts } in
     let items = (c.in-Ok.ensures {u = tt}).items in
@@ -83,6 +89,7 @@ returns-clause-makes c =
     let long : size b ≡ size a + 1 = ap length nodes ∙ length-append s.nodes (c.args.node ∷ []) ∙ ap (λ (r : Store). size r + 1) c.self.view_is in
     let index : c.len-index.result ≡ size a = omega (arith, c.len-index.ensures, ap size c.self.view_is, length-map c.self.inside.entries.items (λ (d : entry.Entry). d.node), c.self.inside.entries.ok) in
     let made = returns-clause-forest c in
+    let has = subst HasNodes c.self.view_is c.self.invariant.3 in
     Makes-node a b t c.len-index.result (omega (arith, long, index)) (new-tree a b t c.len-index.result index made)
-    (Grows-push a b t long made (ap (λ (r : Store). r.held) c.self.view_is) (ap (λ (r : Store). r.limit) c.self.view_is))
+    (Grows-push a b t has long made (ap (λ (r : Store). r.held) c.self.view_is) (ap (λ (r : Store). r.saved) c.self.view_is) (ap (λ (r : Store). r.pending) c.self.view_is) (ap (λ (r : Store). r.limit) c.self.view_is))
     (row-fit _ _ c.requires.counts)

@@ -1,6 +1,0 @@
-use Rattle.cxx_nodes.proofs.expressions.fold_between.Goals as goal
-
-pub returns : goal.returns
-returns c = record {
-  makes = simp (c.styled-blank.ensures.value, c.fixed.ensures.value, c.held.ensures.value, c.styled.ensures.value, c.held-2.ensures.value, c.fixed-2.ensures.value) at c.phrase.ensures.makes;
-}

@@ -1,6 +1,0 @@
-use Rattle.cxx_nodes.proofs.names.unnamed.Goals as goal
-
-pub returns : goal.returns
-returns c = record {
-  makes = simp (c.styled.ensures.value, c.styled-2.ensures.value, c.primary-attributes.ensures.value, c.length.ensures.value) at c.phrase.ensures.makes;
-}
