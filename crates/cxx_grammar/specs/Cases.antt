@@ -65,6 +65,7 @@ case_of_type bytes =
     if begins (codes "P") bytes then type_case.Pointer else
     if begins (codes "R") bytes then type_case.Reference true else
     if begins (codes "O") bytes then type_case.Reference false else
+    if begins (codes "M") bytes then type_case.MemberPointer else
     if begins (codes "St") bytes then type_case.Class else
     if begins (codes "S") bytes then type_case.Substitution else
     if begins_builtin bytes then type_case.Builtin else type_case.Class

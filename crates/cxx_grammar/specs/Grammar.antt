@@ -1,7 +1,7 @@
 -- The grammar: what the bytes of a symbol are read as.
 use Rattle.std.specs.Prelude.{Bool, List, None, Option, Some, [], codes, drop, false, if◌then◌else◌, length, not, suc, true, zero, ℕ, ◌&&◌, ◌+◌, ◌∷◌, ◌≡◌}
 use Rattle.cxx_tree.specs.declared.kinds.Prec.TheVariants.{Primary}
-use Rattle.cxx_tree.specs.Tree.{Tree, data_name, expansion, listed, named, pointer, qualified, reference, scoped, with_args}
+use Rattle.cxx_tree.specs.Tree.{Tree, data_name, expansion, listed, member_pointer, named, pointer, qualified, reference, scoped, with_args}
 use Rattle.cxx_tree.specs.Stored.{trees_from_list}
 use Rattle.cxx_tree.specs.Rows.{ctor_dtor, function_encoding, typed_literal}
 use Rattle.abi_scalars.specs.Bytes.{begins}
@@ -226,6 +226,11 @@ parse_type_args p t s =
 abbrev pub parse_around : Productions → (Tree → Tree) → ℕ → Parses Tree
 parse_around p around n s = p.type (skip n s) >>= λ t. make_saved (around t.0) t.1
 
+-- <pointer-to-member-type> ::= M <class type> <member type>
+abbrev pub parse_member_pointer : Productions → Parses Tree
+parse_member_pointer p s =
+    p.type (skip 1 s) >>= λ class. p.type class.1 >>= λ member. make_saved (member_pointer class.0 member.0) member.1
+
 abbrev pub reference_to : Bool → Tree → Tree
 reference_to is_lvalue t = reference t is_lvalue
 
@@ -252,6 +257,7 @@ type_as type_case.Builtin p s = parse_builtin s
 type_as type_case.Param p s = parse_param_type p s
 type_as type_case.Pointer p s = parse_around p pointer 1 s
 type_as (type_case.Reference is_lvalue) p s = parse_around p (reference_to is_lvalue) 1 s
+type_as type_case.MemberPointer p s = parse_member_pointer p s
 type_as type_case.Substitution p s = parse_substituted_type p s
 type_as type_case.Class p s = parse_class p s
 

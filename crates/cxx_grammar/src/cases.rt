@@ -67,6 +67,8 @@ pub enum TypeCase {
     Pointer,
     /// `R`, which is an lvalue reference, or `O`
     Reference(bool),
+    /// `M`
+    MemberPointer,
     /// `S`, and not `St`
     Substitution,
     /// A name.

@@ -90,6 +90,20 @@ unfolding Makes
 pending-made (Ok i) a b from t m = m.2.pending
 pending-made (Err e) a b from t m = tt
 
+-- the nodes are the same, and so are the lists that are read
+pub Keeps-kept : (a b : Reader) → SameNodes a.arena b.arena → b.arena.pending ≡ a.arena.pending → length b.rest.now ≤ length a.rest.now → Keeps a b
+Keeps-kept a b s p w = record { grows = nodes-same a.arena b.arena s; pending = p; within = w }
+
+-- a node was made, and saved
+pub Keeps-saved : (i : ℕ) (a b : Reader) (m : Store) (t : Tree) → Makes (Ok i) a.arena m t → SameNodes m b.arena → b.arena.pending ≡ m.pending → length b.rest.now ≤ length a.rest.now → Keeps a b
+unfolding Makes
+Keeps-saved i a b m t made s p w =
+    record {
+      grows = nodes-trans a.arena m b.arena (nodes-grow a.arena m made.2) (nodes-same m b.arena s);
+      pending = p ∙ made.2.pending;
+      within = w;
+    }
+
 pub Keeps-arena : (a b : Reader) → b.arena ≡ a.arena → length b.rest.now ≤ length a.rest.now → Keeps a b
 Keeps-arena a b e w =
     record {
@@ -106,4 +120,4 @@ Keeps-after (Err e) a b c k l = tt
 pub Moves-of : (a b : Reader) → Keeps a b → length b.rest.now < length a.rest.now → Moves a b
 Moves-of a b k l = record { keeps = k; takes = l }
 
-pub ruleset readers = (gives_made, Keeps-made, Keeps-same, Keeps-trans, Moves-of)
+pub ruleset readers = (gives_made, Keeps-made, Keeps-same, Keeps-kept, Keeps-trans, Moves-of)

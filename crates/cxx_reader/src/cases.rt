@@ -99,6 +99,7 @@ pub fn type_case(bytes: &[u8]) -> TypeCase
         [b'P', ..] => TypeCase::Pointer,
         [b'R', ..] => TypeCase::Reference(true),
         [b'O', ..] => TypeCase::Reference(false),
+        [b'M', ..] => TypeCase::MemberPointer,
         [b'S', b't', ..] => TypeCase::Class,
         [b'S', ..] => TypeCase::Substitution,
         [letter, ..] => if builtin_of(*letter).is_some() {

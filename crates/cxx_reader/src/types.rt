@@ -35,6 +35,7 @@ pub fn read_type(reader: &mut Reader, depth: usize) -> Result<u32, Stop>
         TypeCase::Param => read_param_type(reader, depth),
         TypeCase::Pointer => read_pointer(reader, depth),
         TypeCase::Reference(is_lvalue) => read_reference(reader, depth, is_lvalue),
+        TypeCase::MemberPointer => read_member_pointer(reader, depth),
         TypeCase::Substitution => read_substituted_type(reader, depth),
         TypeCase::Class => read_class(reader, depth),
     }
@@ -119,6 +120,20 @@ fn read_reference(reader: &mut Reader, depth: usize, is_lvalue: bool) -> Result<
     reader.skip(1);
     let t = tri!(read_type(reader, depth));
     reader.make_saved(Node::Reference(t, is_lvalue))
+}
+
+// Reads `<pointer-to-member-type> ::= M <class type> <member type>`.
+#[cycle(reader)]
+#[inline(never)]
+fn read_member_pointer(reader: &mut Reader, depth: usize) -> Result<u32, Stop>
+    requires some { 0 < length reader.old.rest.now }
+    ensures reads { Gives result reader.new (spec.parse_member_pointer (spec.productions depth) (state reader.old)) }
+    ensures moves { OnOk result (Moves reader.old reader.new) }
+{
+    reader.skip(1);
+    let class = tri!(read_type(reader, depth));
+    let member = tri!(read_type(reader, depth));
+    reader.make_saved(Node::MemberPointer(class, member))
 }
 
 // Reads `<template-param> [<template-args>]`.

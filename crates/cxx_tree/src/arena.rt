@@ -290,9 +290,10 @@ impl Arena {
         ensures text { text_at self.now.held result ≡ drop from self.now.held.texts }
         ensures within { IsText self.now.held result }
     {
+        let to = self.texts.len();
         Text::Stored(Range {
             from: from as u32,
-            to: self.texts.len() as u32,
+            to: to as u32,
         })
     }
 
@@ -353,6 +354,7 @@ impl Arena {
         requires node { IsNode self.old i }
         ensures saved { OnOk result (saved_trees self.new ≡ saved_trees self.old ++ stands self.old i ∷ []) }
         ensures same { SameNodes self.old self.new }
+        ensures forest { forest self.new ≡ forest self.old }
         ensures pending { self.new.pending ≡ self.old.pending }
         ensures memory { IsOkUnless result Stop.Memory }
     {
@@ -401,6 +403,7 @@ impl Arena {
         requires node { IsNode self.old i }
         ensures pending { OnOk result (self.new.pending ≡ self.old.pending ++ i ∷ []) }
         ensures same { SameNodes self.old self.new }
+        ensures forest { forest self.new ≡ forest self.old }
         ensures saved { self.new.saved ≡ self.old.saved }
         ensures memory { IsOkUnless result Stop.Memory }
     {
@@ -417,6 +420,9 @@ impl Arena {
     /// Cuts off the nodes that are collected from an index on.
     pub fn cut(&mut self, from: usize)
         ensures taken { self.new ≡ taken from self.old }
+        ensures same { SameNodes self.old self.new }
+        ensures forest { forest self.new ≡ forest self.old }
+        ensures saved { saved_trees self.new ≡ saved_trees self.old }
     {
         self.pending.truncate(from);
     }

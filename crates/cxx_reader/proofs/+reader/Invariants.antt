@@ -92,6 +92,9 @@ decreases-types::read_pointer l = 16 * l.depth + 1
 abbrev pub decreases-types::read_reference : goal.decreases-types::read_reference
 decreases-types::read_reference l = 16 * l.depth + 1
 
+abbrev pub decreases-types::read_member_pointer : goal.decreases-types::read_member_pointer
+decreases-types::read_member_pointer l = 16 * l.depth + 1
+
 abbrev pub decreases-types::read_param_type : goal.decreases-types::read_param_type
 decreases-types::read_param_type l = 16 * l.depth + 5
 

@@ -1,4 +1,5 @@
-use Rattle.std.proofs.Common.{ℕ, ◌<◌, drop, length-drop, refl, sym, subst, ap, ◌∙◌, arith, length, length-append}
+use Rattle.std.proofs.lemmas.List.{length-drop}
+use Rattle.std.proofs.Common.{ℕ, ◌<◌, ◌-◌, drop, take, length-take, refl, sym, subst, ap, ◌∙◌, arith, length, length-append}
 use Rattle.std.specs.List.{AllByRecursion}
 use Rattle.cxx_tree.specs.declared.node.Part.{Part}
 use Rattle.cxx_tree.specs.Stored.{Store, Held, Extends, forest, size}
@@ -14,13 +15,13 @@ invariant_of-self-2 c =
     let h : Held = s.held in
     let g : Held = record { lists = c.extend_from_slice.new.self.items; parts = h.parts; texts = h.texts } in
     let e : Extends h g = (
-      Begins-end ℕ h.lists (drop c.args.from c.deref.result.now) c.extend_from_slice.new.self.items (c.in_ok-extend_from_slice.ensures {u = tt}).items,
+      Begins-end ℕ h.lists (take (length c.deref.result.now - c.args.from) (drop c.args.from c.deref.result.now)) c.extend_from_slice.new.self.items (c.in_ok-extend_from_slice.ensures {u = tt}).items,
       Begins-same Part h.parts h.parts refl,
       Begins-same ℕ h.texts h.texts refl,
     ) in
     let b : Store = record { nodes = s.nodes; held = g; saved = s.saved; pending = s.pending; limit = s.limit } in
     let w = c.self.invariant.2.within in
-    kept-held c.self.inside.entries.items s b c.self.invariant refl e refl refl refl (omega (arith, ap length (c.in_ok-extend_from_slice.ensures {u = tt}).items, length-append h.lists (drop c.args.from c.deref.result.now), length-drop c.args.from c.deref.result.now, ap length c.deref.ensures.value, (c.in_ok-range.ensures {u = tt}).to, (c.in_ok-range.ensures {u = tt}).within, c.len.ensures, c.len-2.ensures)) w.parts w.texts
+    kept-held c.self.inside.entries.items s b c.self.invariant refl e refl refl refl (omega (arith, ap length (c.in_ok-extend_from_slice.ensures {u = tt}).items, length-append h.lists (take (length c.deref.result.now - c.args.from) (drop c.args.from c.deref.result.now)), length-take (length c.deref.result.now - c.args.from) (drop c.args.from c.deref.result.now), length-drop c.args.from c.deref.result.now, ap length c.deref.ensures.value, (c.in_ok-range.ensures {u = tt}).to, (c.in_ok-range.ensures {u = tt}).within, c.len.ensures, c.len-2.ensures)) w.parts w.texts
 
 pub returns-clause-forest : goal.returns-clause-forest
 returns-clause-forest c =
@@ -28,7 +29,7 @@ returns-clause-forest c =
     let h : Held = s.held in
     let g : Held = record { lists = c.extend_from_slice.new.self.items; parts = h.parts; texts = h.texts } in
     let e : Extends h g = (
-      Begins-end ℕ h.lists (drop c.args.from c.deref.result.now) c.extend_from_slice.new.self.items (c.in_ok-extend_from_slice.ensures {u = tt}).items,
+      Begins-end ℕ h.lists (take (length c.deref.result.now - c.args.from) (drop c.args.from c.deref.result.now)) c.extend_from_slice.new.self.items (c.in_ok-extend_from_slice.ensures {u = tt}).items,
       Begins-same Part h.parts h.parts refl,
       Begins-same ℕ h.texts h.texts refl,
     ) in
@@ -41,7 +42,7 @@ returns-clause-grows c =
     let h : Held = s.held in
     let g : Held = record { lists = c.extend_from_slice.new.self.items; parts = h.parts; texts = h.texts } in
     let e : Extends h g = (
-      Begins-end ℕ h.lists (drop c.args.from c.deref.result.now) c.extend_from_slice.new.self.items (c.in_ok-extend_from_slice.ensures {u = tt}).items,
+      Begins-end ℕ h.lists (take (length c.deref.result.now - c.args.from) (drop c.args.from c.deref.result.now)) c.extend_from_slice.new.self.items (c.in_ok-extend_from_slice.ensures {u = tt}).items,
       Begins-same Part h.parts h.parts refl,
       Begins-same ℕ h.texts h.texts refl,
     ) in

@@ -9,5 +9,5 @@ returns c =
     let a = c.args.self.now in
     let made = simp (c.fixed-2.ensures.value, c.enclosed-2.ensures.value, c.fixed-3.ensures.value, c.expression.ensures.value) at c.make_phrase-2.ensures.makes in
     record {
-      makes = subst (Makes c.make_phrase-2.result a c.make_phrase-2.new.self) (sym (conversion-others (tree_at (forest a) c.args.t) (forest a) (list_at a.held c.args.es) c.args.prec c.if-items-eq1.false)) made;
+      makes = subst (Makes c.make_phrase-2.result a c.make_phrase-2.new.self) (sym (conversion-others (tree_at (forest a) c.args.t) (forest a) (list_at a.held c.args.es) c.args.prec (λ e. c.if-items-eq1.false (ap length c.items.ensures.value ∙ e)))) made;
     }
