@@ -120,4 +120,14 @@ Keeps-after (Err e) a b c k l = tt
 pub Moves-of : (a b : Reader) → Keeps a b → length b.rest.now < length a.rest.now → Moves a b
 Moves-of a b k l = record { keeps = k; takes = l }
 
-pub ruleset readers = (gives_made, Keeps-made, Keeps-same, Keeps-kept, Keeps-trans, Moves-of)
+pub Moves-skip : (a b c : Reader) → b.arena ≡ a.arena → length b.rest.now ≤ length a.rest.now → Moves b c → Moves a c
+Moves-skip a b c e w m = record { keeps = Keeps-trans a b c (Keeps-arena a b e w) m.keeps; takes = omega (arith, w, m.takes) }
+
+pub Moves-trans : (a b c : Reader) → Moves a b → Keeps b c → Moves a c
+Moves-trans a b c m k = record { keeps = Keeps-trans a b c m.keeps k; takes = omega (arith, m.takes, k.within) }
+
+pub Moves-after : {A : Type 0} (r : Result A Stop) (a b c : Reader) → Moves a b → OnOk r (Keeps b c) → OnOk r (Moves a c)
+Moves-after (Ok x) a b c m k = Moves-trans a b c m k
+Moves-after (Err e) a b c m k = tt
+
+pub ruleset readers = (gives_made, nodes-grow, Keeps-made, Keeps-same, Keeps-kept, Keeps-trans, Moves-of)

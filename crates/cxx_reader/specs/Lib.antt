@@ -1,5 +1,3 @@
-pub mod Store
-pub mod View
 pub mod Outcome
 pub mod Unbound
 pub mod Heads

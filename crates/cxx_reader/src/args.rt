@@ -1,5 +1,5 @@
 //! Template arguments (Itanium C++ ABI 5.1.5.4, 5.1.6).
-#![tactic(auto, using(crate::proofs::Rules::productions), unfolding(cxx_tree::specs::Stored::tree_of, cxx_tree::specs::Stored::plain_tree, cxx_tree::specs::Stored::IsBelow, cxx_tree::specs::Stored::IsPlainBelow, cxx_tree::specs::Stored::stands, crate::specs::Outcome::list_trees, crate::specs::Items::ends, crate::specs::Items::item_of, cxx_grammar::specs::Grammar::arg_as, cxx_grammar::specs::Grammar::literal_as))]
+#![tactic(auto, using(crate::proofs::Rules::productions), unfolding(cxx_tree::specs::Grows::Makes, cxx_tree::specs::Stored::tree_of, cxx_tree::specs::Stored::plain_tree, cxx_tree::specs::Stored::IsBelow, cxx_tree::specs::Stored::IsPlainBelow, cxx_tree::specs::Stored::stands, crate::specs::Outcome::list_trees, crate::specs::Items::ends, crate::specs::Items::item_of, cxx_grammar::specs::Grammar::arg_as, cxx_grammar::specs::Grammar::literal_as))]
 
 ghost use Rattle.std.specs.Prelude.{◌≡◌, ℕ, ◌<◌, ◌≤◌, length, OnOk, Some};
 ghost use Rattle.cxx_tree.specs.Rows as rows;

@@ -1,5 +1,5 @@
 //! Literals that have no type inside (Itanium C++ ABI 5.1.6, `<expr-primary>`).
-#![tactic(auto, using(crate::proofs::Kept::readers))]
+#![tactic(auto, using(crate::proofs::Kept::readers), unfolding(cxx_tree::specs::Stored::stands, cxx_tree::specs::Grows::Makes))]
 
 ghost use Rattle.std.specs.Prelude.{◌≡◌, ◌<◌, length, OnOk, option_map};
 ghost use Rattle.cxx_grammar.specs.Leaves as leaves;

@@ -1,5 +1,5 @@
 //! The state of the readers, and what is read by itself.
-#![tactic(auto, using(crate::proofs::Kept::readers), unfolding(cxx_grammar::specs::Leaves::base_as, cxx_tree::specs::Stored::tree_of, cxx_tree::specs::Stored::plain_tree, cxx_tree::specs::Stored::IsBelow, cxx_tree::specs::Stored::IsPlainBelow))]
+#![tactic(auto, using(crate::proofs::Kept::readers), unfolding(cxx_tree::specs::Stored::stands, cxx_tree::specs::Grows::Makes, cxx_grammar::specs::Leaves::base_as, cxx_tree::specs::Stored::tree_of, cxx_tree::specs::Stored::plain_tree, cxx_tree::specs::Stored::IsBelow, cxx_tree::specs::Stored::IsPlainBelow))]
 
 ghost use Rattle.std.specs.Prelude.{◌≡◌, ℕ, ◌-◌, ◌<◌, ◌≤◌, [], ◌∷◌, codes, length, true, false, IfOk, IfSome, OnOk, option_map};
 ghost use Rattle.abi_scalars.specs.Bytes.{begins};

@@ -10,7 +10,7 @@ use Rattle.cxx_reader.specs.Items.{ends, item_of}
 use Rattle.cxx_tree.specs.Stored.{Store, stands}
 use Rattle.cxx_reader.specs.Outcome.{state, IsNamed, named_at, GivesNamed}
 use Rattle.cxx_tree.proofs.Grown.{nodes-taken, saved-taken}
-use Rattle.cxx_reader.proofs.Kept.{Keeps-trans}
+use Rattle.cxx_reader.proofs.Kept.{Keeps-trans, Moves-skip, Moves-trans, Moves-after}
 use Rattle.cxx_reader.proofs.Turns.{ListSoFar, items_more, items_end, components_more, components_end}
 use Rattle.cxx_reader.proofs.Lists.{trees_behind, list_start, none-below, one-more, one-more-below, close_moves, pushed, KeepsFront-same, KeepsFront-push, items_stop, components_stop, close_gives}
 use Rattle.cxx_reader.proofs.Heads.{source_component, source_stop, source_ok, inherited_stays}
@@ -137,3 +137,10 @@ names::read_component-returns-then-begins_source-clause-reads t c =
     let s = state c.args.reader.now in
     let is = source_component (productions c.args.depth) (named_at c.args.reader.now.arena c.args.scope) s (sym c.begins_source.ensures.value ∙ c.if-begins_source.true) in
     subst (GivesNamed c.read_scoped_source.result c.read_scoped_source.new.reader) (sym is) c.read_scoped_source.ensures.reads
+
+pub types::read_member_pointer-returns-clause-moves : goal.types::read_member_pointer-returns-clause-moves
+types::read_member_pointer-returns-clause-moves t c =
+    let old = c.args.reader.now in
+    let class = Moves-skip old c.skip.new.self c.read_type.new.reader c.skip.ensures.arena (omega (arith, c.skip.ensures.takes)) (c.in-Ok.ensures {u = tt}).moves in
+    let member = Moves-trans old c.read_type.new.reader c.read_type-2.new.reader class (c.in-Ok-read_type.ensures {u = tt}).moves.keeps in
+    Moves-after c.make_saved.result old c.read_type-2.new.reader c.make_saved.new.self member c.make_saved.ensures.keeps

@@ -11,6 +11,5 @@ pub returns-in-Some-clause-reads : goal.returns-in-Some-clause-reads
 unfolding measure stands tree_of plain_tree
 returns-in-Some-clause-reads c =
     let is = (c.in-Some.ensures {u = tt}).value in
-    let same = ap (λ (s : Store). expand (tree_at (forest s) c.args.i)) (sym c.arena.ensures.value) in
     subst (λ (t : Tree). Gives c.make.result c.make.new.self (Some (t, state c.args.self.now)))
-    (sym (same ∙ is)) c.make.ensures.reads
+    (sym is) c.make.ensures.reads
