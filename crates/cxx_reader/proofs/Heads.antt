@@ -22,7 +22,8 @@ use Rattle.cxx_reader.specs.declared.reader.Reader.{Reader}
 use Rattle.cxx_tree.specs.declared.arena.Stop.{Stop}
 use Rattle.cxx_tree.specs.declared.arena.Stop.TheVariants.{Unreadable, Memory}
 use Rattle.cxx_tree.specs.Stored.{Store, stands}
-use Rattle.cxx_reader.specs.Outcome.{Gives, GivesNamed}
+use Rattle.cxx_reader.specs.declared.reader.Named as read
+use Rattle.cxx_reader.specs.Outcome.{Gives, GivesNamed, IsNamed, named_at}
 use Rattle.cxx_reader.proofs.Rules.{productions}
 use Rattle.cxx_reader.specs.Heads.{next_source, source_in, named_in, head_as, begins_name}
 
@@ -123,6 +124,12 @@ pub inherited_stays : (a b : Store) (o : Option ℕ) → KeepsNodes a b → IfSo
 unfolding stands
 inherited_stays a b None g h = (tt, refl)
 inherited_stays a b (Some k) g h = (omega (arith, g.longer, h), ap (λ (t : Tree). Some t) (g.same k h))
+
+-- what was learned of a name stays
+pub named_stays : (a b : Store) (n : read.Named) → KeepsNodes a b → IsNamed a n → named_at b n ≡ named_at a n
+unfolding named_at stands
+named_stays a b n g h =
+    let tree = g.same n.node h.0 in let inherited = (inherited_stays a b n.info.inherited g h.1).1 in cc
 
 after_tree : {A : Type 0} (f : Tree → State → Option (A × State)) (o : Option (Tree × State)) (g : A → State → Option (Named × State))
     → (o >>= λ t. f t.0 t.1 >>= λ c. g c.0 c.1) ≡ ((o >>= λ t. f t.0 t.1) >>= λ c. g c.0 c.1)

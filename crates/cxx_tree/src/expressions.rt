@@ -19,11 +19,7 @@ use crate::phrases::{
 
 impl Arena {
     /// Makes `LLVM` or in GNU's style `GNU`, and `TREE` after it, which is an operand in the latter if it is unary.
-    pub fn make_prefixed(&mut self, llvm: Text,
-        gnu: Text,
-        t: u32,
-        prec: Prec,
-    ) -> Result<u32, Stop>
+    pub fn make_prefixed(&mut self, llvm: Text, gnu: Text, t: u32, prec: Prec) -> Result<u32, Stop>
         requires llvm { IsText self.old.held llvm }
         requires gnu { IsText self.old.held gnu }
         requires t { t < size self.old }
@@ -36,11 +32,7 @@ impl Arena {
     }
 
     /// Makes `LLVM(TREE)`, in GNU's style `GNU(TREE)`.
-    pub fn make_enclosing(&mut self, llvm: Text,
-        gnu: Text,
-        t: u32,
-        prec: Prec,
-    ) -> Result<u32, Stop>
+    pub fn make_enclosing(&mut self, llvm: Text, gnu: Text, t: u32, prec: Prec) -> Result<u32, Stop>
         requires llvm { IsText self.old.held llvm }
         requires gnu { IsText self.old.held gnu }
         requires t { t < size self.old }
@@ -48,7 +40,8 @@ impl Arena {
             (text_at self.old.held gnu) (tree_at (forest self.old) t) prec) }
     {
         let attributes = expression(text_len(self, llvm), prec);
-        self.make_phrase(attributes,
+        self.make_phrase(
+            attributes,
             &[Part::Text(llvm, gnu), fixed(b"("), enclosed(t), fixed(b")")],
         )
     }
@@ -156,9 +149,7 @@ impl Arena {
             (text_at self.old.held symbol) (tree_at (forest self.old) b) prec) }
     {
         let attributes = open(text_len(self, symbol), prec);
-        self.make_phrase(attributes,
-            &[loose(prec, a), held(symbol), tight(prec, b)],
-        )
+        self.make_phrase(attributes, &[loose(prec, a), held(symbol), tight(prec, b)])
     }
 
     /// Makes `E.<TYPE at offset OFFSET>`, with an offset of 0 if its text is empty.
@@ -222,7 +213,9 @@ impl Arena {
 
     /// Makes `new TYPE(INITS)`, with a placement `new(PLACEMENT) TYPE(INITS)`, or in GNU's style `new (PLACEMENT)
     /// TYPE(INITS)`. If it is global, `::` stands in front.
-    pub fn make_new(&mut self, placement: List,
+    pub fn make_new(
+        &mut self,
+        placement: List,
         t: u32,
         inits: List,
         is_global: bool,
@@ -261,7 +254,8 @@ impl Arena {
     {
         if self.items(es).len() == 1 {
             let argument = Part::Tree(Manner::Argument, self.items(es)[0]);
-            return self.make_phrase(open(0, prec),
+            return self.make_phrase(
+                open(0, prec),
                 &[fixed(b"("), enclosed(t), fixed(b")"), argument],
             );
         }
@@ -287,9 +281,7 @@ impl Arena {
         };
         let items = Part::Trees(Listing::Items, es);
         match ty {
-            Some(t) => self.make_phrase(attributes,
-                &[whole(t), fixed(b"{"), items, fixed(b"}")],
-            ),
+            Some(t) => self.make_phrase(attributes, &[whole(t), fixed(b"{"), items, fixed(b"}")]),
             None => self.make_phrase(attributes, &[fixed(b"{"), items, fixed(b"}")]),
         }
     }
@@ -303,9 +295,7 @@ impl Arena {
     {
         let value = Part::Tree(Manner::Value, e);
         if is_index {
-            return self.make_phrase(designator(),
-                &[fixed(b"["), whole(d), fixed(b"]"), value],
-            );
+            return self.make_phrase(designator(), &[fixed(b"["), whole(d), fixed(b"]"), value]);
         }
         self.make_phrase(designator(), &[fixed(b"."), whole(d), value])
     }
@@ -330,7 +320,9 @@ impl Arena {
     }
 
     // Makes `(A SYMBOL ... SYMBOL B)`.
-    fn fold_between(&mut self, attributes: Phrase,
+    fn fold_between(
+        &mut self,
+        attributes: Phrase,
         symbol: Text,
         a: (Manner, u32),
         b: (Manner, u32),
@@ -357,7 +349,9 @@ impl Arena {
     }
 
     // Makes `(... SYMBOL PACK)` or `(PACK SYMBOL ...)`.
-    fn fold_alone(&mut self, attributes: Phrase,
+    fn fold_alone(
+        &mut self,
+        attributes: Phrase,
         is_left: bool,
         symbol: Text,
         pack: u32,
@@ -371,19 +365,20 @@ impl Arena {
         let blank = styled(b" ", b"");
         if is_left {
             let front = styled(b"(... ", b"(...");
-            return self.make_phrase(attributes,
+            return self.make_phrase(
+                attributes,
                 &[front, held(symbol), blank, folded, fixed(b")")],
             );
         }
         let end = styled(b" ...)", b"...)");
-        self.make_phrase(attributes,
-            &[fixed(b"("), folded, blank, held(symbol), end],
-        )
+        self.make_phrase(attributes, &[fixed(b"("), folded, blank, held(symbol), end])
     }
 
     /// Makes `(... SYMBOL PACK)`, `(PACK SYMBOL ...)`, `(INIT SYMBOL ... SYMBOL PACK)` or `(PACK SYMBOL ... SYMBOL INIT)`,
     /// in GNU's style without blanks.
-    pub fn make_fold(&mut self, is_left: bool,
+    pub fn make_fold(
+        &mut self,
+        is_left: bool,
         symbol: Text,
         pack: u32,
         init: Option<u32>,
@@ -425,7 +420,10 @@ impl Arena {
     {
         let value = self.joined(b"", number, b"")?;
         let attributes = primary(text_len(self, value));
-        self.make_phrase(attributes, &[fixed(b"("), enclosed(t), fixed(b")"), held(value)])
+        self.make_phrase(
+            attributes,
+            &[fixed(b"("), enclosed(t), fixed(b")"), held(value)],
+        )
     }
 
     /// Makes the literal of an integer: a number, between the texts around it.
@@ -439,9 +437,7 @@ impl Arena {
     }
 
     /// Makes `requires {REQUIREMENTS }`, or `requires (PARAMS) {REQUIREMENTS }`.
-    pub fn make_requires(&mut self, params: List,
-        requirements: List,
-    ) -> Result<u32, Stop>
+    pub fn make_requires(&mut self, params: List, requirements: List) -> Result<u32, Stop>
         requires params { IsListBelow self.old.held (size self.old) params }
         requires requirements { IsListBelow self.old.held (size self.old) requirements }
         ensures makes { Makes result self.old self.new (rows.requires_expression
@@ -449,9 +445,7 @@ impl Arena {
     {
         let sequence = Part::Trees(Listing::Sequence, requirements);
         if self.items(params).is_empty() {
-            return self.make_phrase(primary(0),
-                &[fixed(b"requires {"), sequence, fixed(b" }")],
-            );
+            return self.make_phrase(primary(0), &[fixed(b"requires {"), sequence, fixed(b" }")]);
         }
         let parts = [
             fixed(b"requires "),
@@ -464,7 +458,9 @@ impl Arena {
     }
 
     /// Makes ` E;`, ` {E} noexcept;`, ` {E} -> TYPE;` or ` {E} noexcept -> TYPE;`.
-    pub fn make_expr_requirement(&mut self, e: u32,
+    pub fn make_expr_requirement(
+        &mut self,
+        e: u32,
         is_noexcept: bool,
         ty: Option<u32>,
     ) -> Result<u32, Stop>
@@ -476,13 +472,16 @@ impl Arena {
         let front = fixed(b" {");
         match (is_noexcept, ty) {
             (false, None) => self.make_phrase(primary(0), &[fixed(b" "), whole(e), fixed(b";")]),
-            (true, None) => self.make_phrase(primary(0),
+            (true, None) => self.make_phrase(
+                primary(0),
                 &[front, enclosed(e), fixed(b"} noexcept;")],
             ),
-            (false, Some(t)) => self.make_phrase(primary(0),
+            (false, Some(t)) => self.make_phrase(
+                primary(0),
                 &[front, enclosed(e), fixed(b"} -> "), whole(t), fixed(b";")],
             ),
-            (true, Some(t)) => self.make_phrase(primary(0),
+            (true, Some(t)) => self.make_phrase(
+                primary(0),
                 &[
                     front,
                     enclosed(e),
@@ -502,11 +501,11 @@ impl Arena {
             (rows.requirement (text_at self.old.held text) (tree_at (forest self.old) t)) }
     {
         let attributes = primary(text_len(self, text));
-        self.make_phrase(attributes,
+        self.make_phrase(
+            attributes,
             &[fixed(b" "), held(text), fixed(b" "), whole(t), fixed(b";")],
         )
     }
-
 }
 
 // How the operand of a prefix is printed.

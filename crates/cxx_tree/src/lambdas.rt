@@ -17,7 +17,9 @@ use std::alloc::{AllocError, Global};
 
 impl Arena {
     /// Makes `'lambdaCOUNT'SIGNATURE`, in GNU's style `{lambdaSIGNATURE#ORDINAL}`.
-    pub fn make_closure(&mut self, alloc: Global,
+    pub fn make_closure(
+        &mut self,
+        alloc: Global,
         signature: Signature,
         count: Text,
         ordinal: Text,

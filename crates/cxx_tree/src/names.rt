@@ -103,7 +103,9 @@ impl Arena {
     }
 
     /// Makes the name of a module: `NAME`, `PARENT.NAME`, or with a `:` if it is that of a partition.
-    pub fn make_module_name(&mut self, parent: Option<u32>,
+    pub fn make_module_name(
+        &mut self,
+        parent: Option<u32>,
         n: u32,
         is_partition: bool,
     ) -> Result<u32, Stop>
@@ -194,5 +196,3 @@ impl Arena {
         self.make_phrase(open(0, Prec::Primary), &parts)
     }
 }
-
-

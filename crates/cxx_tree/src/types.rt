@@ -41,7 +41,8 @@ impl Arena {
         };
         let front = styled(b" vector[", b" __vector(");
         match dimension {
-            Some(d) => self.make_phrase(attributes,
+            Some(d) => self.make_phrase(
+                attributes,
                 &[whole(t), front, whole(d), styled(b"]", b")")],
             ),
             None => self.make_phrase(attributes, &[whole(t), front, styled(b"]", b")")]),
@@ -76,7 +77,9 @@ impl Arena {
     }
 
     /// Makes a type with a vendor's qualifier: `TYPE QUALIFIER` or `TYPE QUALIFIER<ARGS>`.
-    pub fn make_vendor_qualified(&mut self, t: u32,
+    pub fn make_vendor_qualified(
+        &mut self,
+        t: u32,
         qualifier: Text,
         args: Option<List>,
     ) -> Result<u32, Stop>
@@ -91,13 +94,9 @@ impl Arena {
             Some(args) => {
                 let args = Part::Trees(Listing::Angles, args);
                 let attributes = open(len, Prec::Primary);
-                self.make_phrase(attributes,
-                    &[whole(t), fixed(b" "), held(qualifier), args],
-                )
+                self.make_phrase(attributes, &[whole(t), fixed(b" "), held(qualifier), args])
             }
-            None => self.make_phrase(primary(len),
-                &[whole(t), fixed(b" "), held(qualifier)],
-            ),
+            None => self.make_phrase(primary(len), &[whole(t), fixed(b" "), held(qualifier)]),
         }
     }
 
@@ -118,7 +117,9 @@ impl Arena {
     }
 
     /// Makes the type of a function.
-    pub fn make_function_type(&mut self, ret: u32,
+    pub fn make_function_type(
+        &mut self,
+        ret: u32,
         params: List,
         cv: Cv,
         ref_qual: RefQual,
@@ -157,7 +158,9 @@ impl Arena {
     }
 
     /// Makes the declaration of a template template parameter.
-    pub fn make_template_param(&mut self, n: u32,
+    pub fn make_template_param(
+        &mut self,
+        n: u32,
         declarations: List,
         constraint: Option<u32>,
     ) -> Result<u32, Stop>
@@ -190,7 +193,9 @@ impl Arena {
     }
 
     // ` [enable_if:CONDITIONS]`, then ` requires CONSTRAINT`, if there is one.
-    fn enabled_parts(&mut self, conditions: List,
+    fn enabled_parts(
+        &mut self,
+        conditions: List,
         constraint: Option<u32>,
     ) -> Result<Parts, AllocError>
         requires conditions { IsListBelow self.old.held (size self.old) conditions }
@@ -212,7 +217,9 @@ impl Arena {
     }
 
     /// Makes a function with its name.
-    pub fn make_encoding(&mut self, ret: Option<u32>,
+    pub fn make_encoding(
+        &mut self,
+        ret: Option<u32>,
         n: u32,
         params: List,
         cv: Cv,

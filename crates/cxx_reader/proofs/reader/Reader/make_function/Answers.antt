@@ -4,7 +4,7 @@ use Rattle.cxx_tree.specs.Stored.{stands}
 use Rattle.cxx_tree.proofs.Grown.{Makes-after}
 use Rattle.cxx_reader.specs.declared.reader.Reader.{Reader}
 use Rattle.cxx_reader.specs.Outcome.{named_at}
-use Rattle.cxx_reader.proofs.Kept.{gives_taken, Grows-made}
+use Rattle.cxx_reader.proofs.Kept.{gives_taken, Grows-made, pending-made}
 use Rattle.cxx_reader.proofs.reader.Reader.make_function.Goals as goal
 
 pub returns-clause-reads : goal.returns-clause-reads
@@ -24,3 +24,10 @@ returns-clause-grows c =
     let b = c.list_from.new.self in
     let d = c.make_encoding.new.self in
     Grows-made c.make_encoding.result a d c.args.from _ (Makes-after c.make_encoding.result (taken c.args.from a) b d _ c.list_from.ensures.grows c.make_encoding.ensures.makes)
+
+pub returns-clause-pending : goal.returns-clause-pending
+returns-clause-pending c =
+    let a = c.args.self.now.arena in
+    let b = c.list_from.new.self in
+    let d = c.make_encoding.new.self in
+    pending-made c.make_encoding.result a d c.args.from _ (Makes-after c.make_encoding.result (taken c.args.from a) b d _ c.list_from.ensures.grows c.make_encoding.ensures.makes)
