@@ -81,88 +81,6 @@ pack-past ts is us env k e f h =
     ∙ ap (λ (j : ℕ). element_of (printed_at (items_of (trees_at ts is)) j env)) (sym f)
     ∙ ap element_of (printed_at-past ts is env k h)
 
--- what is no reference is its own base
-plain-own : (h : Held) (ts : List Tree) (p : Plain) (env : Env) → (print (plain_tree h ts p) env).base ≡ (print (plain_tree h ts p) env).text
-unfolding print plain_tree
-plain-own h ts (plain.Name x) env = refl
-plain-own h ts (plain.Leaf a x y) env = refl
-plain-own h ts (plain.StdName k x) env = refl
-plain-own h ts (plain.Phrase a x) env = refl
-plain-own h ts (plain.Scoped true q n) env = refl
-plain-own h ts (plain.Scoped false q n) env = refl
-plain-own h ts (plain.ScopedName q x) env = refl
-plain-own h ts (plain.WithArgs n x) env = refl
-plain-own h ts (plain.AbiTag n x) env = refl
-plain-own h ts (plain.InModule n m) env = refl
-plain-own h ts (plain.Data n) env = refl
-plain-own h ts (plain.ObjcProtocol t x) env = refl
-plain-own h ts (plain.List x) env = refl
-plain-own h ts (plain.Expansion t) env = refl
-plain-own h ts (plain.Param l i) env = refl
-
-plain-none : (h : Held) (ts : List Tree) (p : Plain) (env : Env) → (print (plain_tree h ts p) env).kind ≡ None
-unfolding print plain_tree
-plain-none h ts (plain.Name x) env = refl
-plain-none h ts (plain.Leaf a x y) env = refl
-plain-none h ts (plain.StdName k x) env = refl
-plain-none h ts (plain.Phrase a x) env = refl
-plain-none h ts (plain.Scoped true q n) env = refl
-plain-none h ts (plain.Scoped false q n) env = refl
-plain-none h ts (plain.ScopedName q x) env = refl
-plain-none h ts (plain.WithArgs n x) env = refl
-plain-none h ts (plain.AbiTag n x) env = refl
-plain-none h ts (plain.InModule n m) env = refl
-plain-none h ts (plain.Data n) env = refl
-plain-none h ts (plain.ObjcProtocol t x) env = refl
-plain-none h ts (plain.List x) env = refl
-plain-none h ts (plain.Expansion t) env = refl
-plain-none h ts (plain.Param l i) env = refl
-
-declaration-own : (h : Held) (ts : List Tree) (d : Declaration) (env : Env) → (print (declaration_tree h ts d) env).base ≡ (print (declaration_tree h ts d) env).text
-unfolding print declaration_tree
-declaration-own h ts (declaration.TypeParam a b) env = refl
-declaration-own h ts (declaration.NonTypeParam a b) env = refl
-declaration-own h ts (declaration.TemplateParam a b r) env = refl
-declaration-own h ts (declaration.PackParam a) env = refl
-
-declaration-none : (h : Held) (ts : List Tree) (d : Declaration) (env : Env) → (print (declaration_tree h ts d) env).kind ≡ None
-unfolding print declaration_tree
-declaration-none h ts (declaration.TypeParam a b) env = refl
-declaration-none h ts (declaration.NonTypeParam a b) env = refl
-declaration-none h ts (declaration.TemplateParam a b r) env = refl
-declaration-none h ts (declaration.PackParam a) env = refl
-
-pub plain-base : (h : Held) (ts : List Tree) (p : Plain) (t : Tree) (env : Env) → t ≡ plain_tree h ts p → (print t env).base ≡ (print t env).text
-plain-base h ts p t env e = ap (λ (u : Tree). (print u env).base) e ∙ plain-own h ts p env ∙ ap (λ (u : Tree). (print u env).text) (sym e)
-
-pub plain-kind : (h : Held) (ts : List Tree) (p : Plain) (t : Tree) (env : Env) → t ≡ plain_tree h ts p → (print t env).kind ≡ None
-plain-kind h ts p t env e = ap (λ (u : Tree). (print u env).kind) e ∙ plain-none h ts p env
-
-pub declaration-base : (h : Held) (ts : List Tree) (d : Declaration) (t : Tree) (env : Env) → t ≡ declaration_tree h ts d → (print t env).base ≡ (print t env).text
-declaration-base h ts d t env e = ap (λ (u : Tree). (print u env).base) e ∙ declaration-own h ts d env ∙ ap (λ (u : Tree). (print u env).text) (sym e)
-
-pub declaration-kind : (h : Held) (ts : List Tree) (d : Declaration) (t : Tree) (env : Env) → t ≡ declaration_tree h ts d → (print t env).kind ≡ None
-declaration-kind h ts d t env e = ap (λ (u : Tree). (print u env).kind) e ∙ declaration-none h ts d env
-
-pub pointed-base : (o : Option (List ℕ)) (p : Printed) → (pointed o p).base ≡ (pointed o p).text
-pointed-base None p = refl
-pointed-base (Some w) p = refl
-
-pub pointed-none : (o : Option (List ℕ)) (p : Printed) → (pointed o p).kind ≡ None
-pointed-none None p = refl
-pointed-none (Some w) p = refl
-
--- what a reference refers to, further on
-pub Refers-more : (o : Option ℕ) (t i : ℕ) (b c : Text) (f : ℕ → Printed) → t ≤ i → c ≡ b → Refers o t b f → Refers o i c f
-Refers-more None t i b c f l e r = e ∙ r
-Refers-more (Some j) t i b c f l e r = (omega (arith, l, r.0), e ∙ r.1)
-
-pub Refers-itself : (i : ℕ) (b : Text) (f : ℕ → Printed) → b ≡ (f i).text → Refers (Some i) i b f
-Refers-itself i b f e = (omega arith, e)
-
-pub Refers-none : (i : ℕ) (b : Text) (f : ℕ → Printed) → b ≡ simple [] → Refers None i b f
-Refers-none i b f e = e
-
 -- how parts end
 abbrev last_of : Ending → Option Ending → Option Ending
 last_of ends rest = Some (unwrap_or rest ends)
@@ -265,9 +183,9 @@ reference-one_sided u l t e h =
     ((closed_nothing (print u env).base (h env).1, refl, refl), (h env).1)
 
 -- a reference to nothing
-pub refers-none : (o : Option ℕ) (i : ℕ) (b : Text) (f : ℕ → Printed) → o ≡ None → Refers o i b f → b ≡ simple []
-refers-none None i b f e r = r
-refers-none (Some j) i b f e r = absurd (true≢false (ap is_some e))
+pub refers-none : (o : Option ℕ) (b : Text) (f : ℕ → Printed) → o ≡ None → Refers o b f → b ≡ simple []
+refers-none None b f e r = r
+refers-none (Some j) b f e r = absurd (true≢false (ap is_some e))
 
 pub left-none : (b : Text) (k : List ℕ) → b ≡ simple [] → b.left ++ (opened b.form ++ k) ≡ k
 unfolding opened

@@ -1,26 +1,27 @@
 -- What private functions of the printer return and append.
-use Rattle.std.specs.Prelude.{ℕ, ◌≡◌, ◌≤◌, ◌++◌, Bool, false, List, [], Option, MatchOption, unwrap_or, Result, Ok, Err}
-use Rattle.std.specs.declared.alloc.AllocError.{AllocError}
+use Rattle.std.specs.Prelude.{ℕ, ◌≡◌, false, List, [], Option, MatchOption, unwrap_or}
 use Rattle.cxx_tree.specs.declared.node.Part.{Part}
 use Rattle.cxx_tree.specs.declared.node.Part.TheVariants as part
-use Rattle.cxx_tree.specs.Tree.{Tree}
+use Rattle.cxx_tree.specs.Tree.{Tree, Trees}
+use Rattle.cxx_tree.specs.Measure.{measure, measure_each}
 use Rattle.cxx_tree.specs.Stored.{Held, tree_at, trees_in, text_at}
 use Rattle.cxx_printer.specs.declared.env.Env.{Env}
 use Rattle.cxx_printer.specs.declared.shapes.Ending.{Ending}
 use Rattle.cxx_printer.specs.declared.shapes.Ending.TheVariants.{Other}
 use Rattle.cxx_printer.specs.declared.words.Form.TheVariants.{Plain}
 use Rattle.cxx_printer.specs.Words.{ending, styled}
-use Rattle.cxx_printer.specs.Printing.{Printed, Text, Item, print, simple, items_of, part_text, part_ends, list_of, list_ends, item_behind, is_still_first}
+use Rattle.cxx_printer.specs.Printing.{Printed, Text, Item, print, simple, items_of, part_text, part_ends, list_of, list_ends}
 
 -- a tree as a part of another
 abbrev pub item : Tree → Item
 item t = record { tree = t; printed = print t }
 
--- the call appends an item of a list, and says whether the next one is the first
-abbrev pub PrintsItem : Result Bool AllocError → List ℕ → List ℕ → Bool → List ℕ → Type 0
-PrintsItem (Ok first) old new was_first text =
-    (new ≡ old ++ item_behind was_first text) × (first ≡ is_still_first was_first text)
-PrintsItem (Err e) old new was_first text = Unit {0}
+-- the height of a tree, and that of the highest of trees in a row
+abbrev pub height : Tree → ℕ
+height t = (measure t).height
+
+abbrev pub highest : Trees → ℕ
+highest ts = (measure_each ts).height
 
 -- what a part of a phrase prints
 unfoldable pub text_of_part : Held → List Tree → Env → Part → List ℕ
@@ -47,5 +48,5 @@ unfoldable pub OneSided : Tree → Type 0
 OneSided t = (env : Env) → IsLeft (print t env).text × IsLeft (print t env).base
 
 -- what a reference refers to: nothing, or what the node at an index prints
-abbrev pub Refers : Option ℕ → ℕ → Text → (ℕ → Printed) → Type 0
-Refers o i base f = MatchOption o (base ≡ simple []) (λ j. (j ≤ i) × (base ≡ (f j).text))
+abbrev pub Refers : Option ℕ → Text → (ℕ → Printed) → Type 0
+Refers o base f = MatchOption o (base ≡ simple []) (λ j. base ≡ (f j).text)

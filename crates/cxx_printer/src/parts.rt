@@ -1,6 +1,6 @@
 //! The parts of a symbol of a function or of data: the base of its name, the scopes around it, the parameters and the
 //! return type. Any other symbol has none, and then nothing is appended.
-#![tactic(auto, using(crate::proofs::Appended::prints), unfolding(cxx_tree::specs::Stored::tree_of, cxx_tree::specs::Stored::plain_tree, cxx_tree::specs::Stored::declaration_tree, cxx_tree::specs::Stored::IsBelow, cxx_tree::specs::Stored::IsPlainBelow, crate::specs::Parts::named_of, crate::specs::Parts::split, crate::specs::Parts::colons, crate::specs::Parts::joined, crate::specs::Printing::print, crate::specs::Parts::return_type_text, crate::specs::Parts::parameters_text))]
+#![tactic(auto, using(crate::proofs::Appended::prints), unfolding(cxx_tree::specs::Stored::tree_of, cxx_tree::specs::Stored::plain_tree, cxx_tree::specs::Stored::declaration_tree, cxx_tree::specs::Stored::IsBelow, cxx_tree::specs::Stored::IsPlainBelow, crate::specs::Parts::named_of, crate::specs::Parts::split, crate::specs::Parts::colons, crate::specs::Parts::joined, crate::specs::Printing::print, crate::specs::Parts::return_type_text, crate::specs::Parts::parameters_text, cxx_tree::specs::Measure::measure))]
 
 ghost use Rattle.std.specs.Prelude.{◌≡◌, ◌<◌, ◌≤◌, [], ◌∷◌, Some, None, MatchOption, IfSome};
 ghost use Rattle.cxx_tree.specs.Stored.{forest, size, tree_at, option_at, plain_tree, IsOptionBelow, IsPlainBelow};
@@ -12,6 +12,7 @@ ghost use Rattle.cxx_printer.specs.Parts as spec;
 
 use crate::env::{Env, Style};
 use crate::print::{print, print_node, print_parens, print_scope};
+use crate::shapes::node_at;
 use crate::writing::{write, write_text};
 use cxx_tree::{Arena, Node, Plain};
 use growing_text::Text;
@@ -56,14 +57,8 @@ pub fn print_parameters(
     requires within { i < size arena.now }
     ensures prints { Prints result out.old out.new (spec.parameters_text (top style) (tree_at (forest arena.now) i)) }
 {
-    match *arena.node(i) {
-        Node::Encoding(ref encoding) => print_parens(
-            arena,
-            Env::top(style),
-            i,
-            encoding.params,
-            out,
-        ),
+    match *node_at(arena, i) {
+        Node::Encoding(ref encoding) => print_parens(arena, Env::top(style), encoding.params, out),
         _ => Ok(()),
     }
 }
@@ -140,8 +135,8 @@ fn print_scopes(
     ensures prints { Prints result out.old out.new
         (spec.joined is_first env (spec.split (tree_at (forest arena.now) i)).0) }
 {
-    match *arena.node(i) {
-        Node::Plain(ref plain) => scopes_of_plain(arena, env, is_first, i, plain, out),
+    match *node_at(arena, i) {
+        Node::Plain(ref plain) => scopes_of_plain(arena, env, is_first, plain, out),
         _ => Ok(()),
     }
 }
@@ -151,12 +146,10 @@ fn scopes_of_plain(
     arena: &Arena,
     env: Env,
     is_first: bool,
-    bound: u32,
     plain: &Plain,
     out: &mut Text,
 ) -> Result<(), AllocError>
-    requires bound { bound ≤ size arena.now }
-    requires below { IsPlainBelow arena.now.held bound plain.now }
+    requires below { IsPlainBelow arena.now.held (size arena.now) plain.now }
     ensures prints { Prints result out.old out.new
         (spec.joined is_first env (spec.split (plain_tree arena.now.held (forest arena.now) plain.now)).0) }
 {

@@ -1,10 +1,8 @@
 //! Printing.
 //!
-//! Functions that print what a node holds take a `bound` too: the nodes that are printed stand before it.
-//!
 //! A function that looks at the kind of a node calls the function for that kind last. That call is a jump, so the first
 //! function takes no stack. `#[inline(never)]` keeps the two apart.
-#![tactic(auto, using(crate::proofs::Appended::prints), unfolding(cxx_tree::specs::Stored::tree_of, cxx_tree::specs::Stored::plain_tree, cxx_tree::specs::Stored::declaration_tree, cxx_tree::specs::Stored::IsBelow, cxx_tree::specs::Stored::IsPlainBelow, cxx_tree::specs::Stored::IsDeclarationBelow, crate::specs::Printing::print, crate::specs::Asked::text_of_part))]
+#![tactic(auto, using(crate::proofs::Appended::prints), unfolding(cxx_tree::specs::Stored::tree_of, cxx_tree::specs::Stored::plain_tree, cxx_tree::specs::Stored::declaration_tree, cxx_tree::specs::Stored::IsBelow, cxx_tree::specs::Stored::IsPlainBelow, cxx_tree::specs::Stored::IsDeclarationBelow, crate::specs::Printing::print, crate::specs::Asked::text_of_part, cxx_tree::specs::Measure::measure))]
 
 ghost use Rattle.std.specs.Prelude.{◌≡◌, ℕ, nat_eq, ◌+◌, ◌<◌, ◌≤◌, Bool, true, false, List, [], ◌∷◌, ◌++◌, codes, length, Option, Some, None, if◌then◌else◌, IfOk};
 ghost use Rattle.std.specs.List.{AllByRecursion};
@@ -20,7 +18,7 @@ ghost use Rattle.cxx_printer.specs.Heads as heads;
 ghost use Rattle.cxx_printer.specs.Printing as spec;
 ghost use Rattle.cxx_printer.specs.Words as words;
 ghost use Rattle.cxx_printer.specs.Prints.{Prints};
-ghost use Rattle.cxx_printer.specs.Asked.{item, text_of_part};
+ghost use Rattle.cxx_printer.specs.Asked.{height, item, text_of_part};
 
 use crate::env::Env;
 use crate::operands::{
@@ -28,7 +26,7 @@ use crate::operands::{
 };
 use crate::shapes::{
     Ending, element, ending_of, ending_of_list, form_of, has_right, is_closed, is_one_sided,
-    is_plain, is_starred, referent_of, two_names,
+    is_plain, is_starred, node_at, referent_of, two_names,
 };
 use crate::words::member_opened;
 use crate::writing::{
@@ -51,7 +49,7 @@ pub fn print(arena: &Arena, env: Env, i: u32, out: &mut Text) -> Result<(), Allo
     requires within { i < size arena.now }
     ensures prints { Prints result out.old out.new (spec.whole (spec.print (tree_at (forest arena.now) i) env)) }
 {
-    match *arena.node(i) {
+    match *node_at(arena, i) {
         Node::Plain(Plain::ScopedName(scope, ref name)) => print_scoped_name(
             arena, env, scope, name, out,
         ),
@@ -66,14 +64,12 @@ pub fn print_node(arena: &Arena, env: Env, i: u32, out: &mut Text) -> Result<(),
     requires within { i < size arena.now }
     ensures prints { Prints result out.old out.new (spec.whole (spec.print (tree_at (forest arena.now) i) env)) }
 {
-    match *arena.node(i) {
+    match *node_at(arena, i) {
         Node::Plain(Plain::ScopedName(scope, ref name)) => print_scoped_name(
             arena, env, scope, name, out,
         ),
-        Node::Plain(Plain::WithArgs(name, args)) => print_with_args(arena, env, i, name, args, out),
-        Node::Plain(Plain::Phrase(phrase, parts)) => print_phrase(
-            arena, env, i, phrase, parts, out,
-        ),
+        Node::Plain(Plain::WithArgs(name, args)) => print_with_args(arena, env, name, args, out),
+        Node::Plain(Plain::Phrase(phrase, parts)) => print_phrase(arena, env, phrase, parts, out),
         Node::Plain(Plain::Name(ref text)) => write_text(arena, text, out),
         _ => print_type(arena, env, i, out),
     }
@@ -86,8 +82,8 @@ fn print_type(arena: &Arena, env: Env, i: u32, out: &mut Text) -> Result<(), All
     requires within { i < size arena.now }
     ensures prints { Prints result out.old out.new (spec.whole (spec.print (tree_at (forest arena.now) i) env)) }
 {
-    match *arena.node(i) {
-        Node::Encoding(ref encoding) => print_encoding(arena, env, i, encoding, out),
+    match *node_at(arena, i) {
+        Node::Encoding(ref encoding) => print_encoding(arena, env, encoding, out),
         Node::Qualified(t, cv) => print_qualified(arena, env, i, t, cv, out),
         Node::Pointer(t) => print_pointer(arena, env, i, t, out),
         Node::Reference(t, is_lvalue) => print_reference(arena, env, i, is_lvalue, t, out),
@@ -102,8 +98,8 @@ fn print_other(arena: &Arena, env: Env, i: u32, out: &mut Text) -> Result<(), Al
     requires within { i < size arena.now }
     ensures prints { Prints result out.old out.new (spec.whole (spec.print (tree_at (forest arena.now) i) env)) }
 {
-    match *arena.node(i) {
-        Node::Plain(ref plain) => print_plain(arena, env, i, plain, out),
+    match *node_at(arena, i) {
+        Node::Plain(ref plain) => print_plain(arena, env, plain, out),
         _ => print_sides(arena, env, i, out),
     }
 }
@@ -120,7 +116,8 @@ fn print_qualified(
     out: &mut Text,
 ) -> Result<(), AllocError>
     requires within { i < size arena.now }
-    requires below { t < i }
+    requires child { t < size arena.now }
+    requires height { height (tree_at (forest arena.now) i) ≡ height (qualified (tree_at (forest arena.now) t) cv) }
     requires tree { tree_at (forest arena.now) i ≡ qualified (tree_at (forest arena.now) t) cv }
     ensures prints { Prints result out.old out.new (spec.whole (spec.print (tree_at (forest arena.now) i) env)) }
 {
@@ -136,11 +133,12 @@ fn print_qualified(
 #[cycle(printer)]
 fn print_pointer(arena: &Arena, env: Env, i: u32, t: u32, out: &mut Text) -> Result<(), AllocError>
     requires within { i < size arena.now }
-    requires below { t < i }
+    requires child { t < size arena.now }
+    requires height { height (tree_at (forest arena.now) i) ≡ height (pointer (tree_at (forest arena.now) t)) }
     requires tree { tree_at (forest arena.now) i ≡ pointer (tree_at (forest arena.now) t) }
     ensures prints { Prints result out.old out.new (spec.whole (spec.print (tree_at (forest arena.now) i) env)) }
 {
-    match *arena.node(t) {
+    match *node_at(arena, t) {
         Node::Plain(ref plain) => match *plain {
             Plain::ObjcProtocol(_, _) => print_sides(arena, env, i, out),
             _ => print_plain_pointer(arena, env, t, out),
@@ -197,11 +195,13 @@ fn print_reference(
     out: &mut Text,
 ) -> Result<(), AllocError>
     requires within { i < size arena.now }
-    requires below { t < i }
+    requires child { t < size arena.now }
+    requires height { height (tree_at (forest arena.now) i) ≡ height (reference (tree_at (forest arena.now) t)
+        is_lvalue) }
     requires tree { tree_at (forest arena.now) i ≡ reference (tree_at (forest arena.now) t) is_lvalue }
     ensures prints { Prints result out.old out.new (spec.whole (spec.print (tree_at (forest arena.now) i) env)) }
 {
-    match *arena.node(t) {
+    match *node_at(arena, t) {
         Node::Plain(_) => print_plain_reference(arena, env, is_lvalue, t, out),
         Node::Qualified(u, cv) => {
             if !is_plain(arena, u) {
@@ -270,17 +270,15 @@ fn print_sides(arena: &Arena, env: Env, i: u32, out: &mut Text) -> Result<(), Al
 pub fn print_encoding(
     arena: &Arena,
     env: Env,
-    bound: u32,
     encoding: &Encoding,
     out: &mut Text,
 ) -> Result<(), AllocError>
-    requires bound { bound ≤ size arena.now }
-    requires below { IsBelow arena.now.held bound (node.Encoding encoding.now) }
+    requires below { IsBelow arena.now.held (size arena.now) (node.Encoding encoding.now) }
     ensures prints { Prints result out.old out.new
         (spec.whole (spec.print (tree_of arena.now.held (forest arena.now) (node.Encoding encoding.now)) env)) }
 {
-    tri!(left_encoding(arena, env, bound, encoding, out));
-    right_encoding(arena, env, bound, encoding, out)
+    tri!(left_encoding(arena, env, encoding, out));
+    right_encoding(arena, env, encoding, out)
 }
 
 /// Appends what a tree prints on the left of a name.
@@ -290,36 +288,29 @@ pub fn print_left(arena: &Arena, env: Env, i: u32, out: &mut Text) -> Result<(),
     requires within { i < size arena.now }
     ensures prints { Prints result out.old out.new ((spec.print (tree_at (forest arena.now) i) env).text.left) }
 {
-    match *arena.node(i) {
-        Node::Plain(ref plain) => left_plain(arena, env, i, plain, out),
-        Node::Declaration(ref declaration) => left_declaration(arena, env, i, declaration, out),
+    match *node_at(arena, i) {
+        Node::Plain(ref plain) => left_plain(arena, env, plain, out),
+        Node::Declaration(ref declaration) => left_declaration(arena, env, declaration, out),
         Node::Qualified(t, cv) => left_qualified(arena, env, t, cv, out),
         Node::Pointer(t) => left_pointer(arena, env, t, out),
         Node::Reference(t, is_lvalue) => left_reference(arena, env, is_lvalue, t, out),
         Node::MemberPointer(class, member) => left_member(arena, env, class, member, out),
         Node::Array(element, _) => print_left(arena, env, element, out),
         Node::Function(ref function) => left_function(arena, env, function.ret, out),
-        Node::Encoding(ref encoding) => left_encoding(arena, env, i, encoding, out),
-        Node::Pack(items) => left_pack(arena, env, i, items, out),
+        Node::Encoding(ref encoding) => left_encoding(arena, env, encoding, out),
+        Node::Pack(items) => left_pack(arena, env, items, out),
     }
 }
 
 // Appends what a tree with one side prints.
 #[inline(always)]
 #[cycle(printer)]
-fn left_plain(
-    arena: &Arena,
-    env: Env,
-    bound: u32,
-    plain: &Plain,
-    out: &mut Text,
-) -> Result<(), AllocError>
-    requires bound { bound ≤ size arena.now }
-    requires below { IsPlainBelow arena.now.held bound plain.now }
+fn left_plain(arena: &Arena, env: Env, plain: &Plain, out: &mut Text) -> Result<(), AllocError>
+    requires below { IsPlainBelow arena.now.held (size arena.now) plain.now }
     ensures prints { Prints result out.old out.new ((spec.print (plain_tree arena.now.held (forest arena.now)
         plain.now) env).text.left) }
 {
-    print_plain(arena, env, bound, plain, out)
+    print_plain(arena, env, plain, out)
 }
 
 /// Appends what a tree prints on the right of a name. If `joined` holds, no blank is before the bracket of an array.
@@ -336,19 +327,17 @@ pub fn print_right(
     ensures prints { Prints result out.old out.new (spec.right_behind joined (spec.print (tree_at (forest
         arena.now) i) env).text) }
 {
-    match *arena.node(i) {
+    match *node_at(arena, i) {
         Node::Plain(ref plain) => right_plain(arena, env, plain, joined, out),
-        Node::Declaration(ref declaration) => right_declaration(arena, env, i, declaration, out),
+        Node::Declaration(ref declaration) => right_declaration(arena, env, declaration, out),
         Node::Qualified(t, _) => print_right(arena, env, t, joined, out),
         Node::Pointer(t) => right_pointer(arena, env, t, out),
         Node::Reference(t, is_lvalue) => right_reference(arena, env, is_lvalue, t, out),
         Node::MemberPointer(_, member) => right_behind(arena, env, member, out),
-        Node::Array(element, dimension) => right_array(
-            arena, env, i, element, dimension, joined, out,
-        ),
-        Node::Function(ref function) => right_function(arena, env, i, function, out),
-        Node::Encoding(ref encoding) => right_encoding(arena, env, i, encoding, out),
-        Node::Pack(items) => right_pack(arena, env, i, items, joined, out),
+        Node::Array(element, dimension) => right_array(arena, env, element, dimension, joined, out),
+        Node::Function(ref function) => right_function(arena, env, function, out),
+        Node::Encoding(ref encoding) => right_encoding(arena, env, encoding, out),
+        Node::Pack(items) => right_pack(arena, env, items, joined, out),
     }
 }
 
@@ -381,15 +370,8 @@ fn right_plain(
 // Appends what a tree with one side prints.
 #[inline(always)]
 #[cycle(printer)]
-fn print_plain(
-    arena: &Arena,
-    env: Env,
-    bound: u32,
-    plain: &Plain,
-    out: &mut Text,
-) -> Result<(), AllocError>
-    requires bound { bound ≤ size arena.now }
-    requires below { IsPlainBelow arena.now.held bound plain.now }
+fn print_plain(arena: &Arena, env: Env, plain: &Plain, out: &mut Text) -> Result<(), AllocError>
+    requires below { IsPlainBelow arena.now.held (size arena.now) plain.now }
     ensures prints { Prints result out.old out.new ((spec.print (plain_tree arena.now.held (forest arena.now)
         plain.now) env).text.left) }
 {
@@ -397,17 +379,17 @@ fn print_plain(
         Plain::Name(ref text) => write_text(arena, text, out),
         Plain::Leaf(_, ref llvm, ref gnu) => write_styled(arena, env, llvm, gnu, out),
         Plain::StdName(std, is_expanded) => write_std(env, std, is_expanded, out),
-        Plain::Phrase(phrase, parts) => print_phrase(arena, env, bound, phrase, parts, out),
+        Plain::Phrase(phrase, parts) => print_phrase(arena, env, phrase, parts, out),
         Plain::Scoped(is_friend, scope, name) => print_in_scope(
             arena, env, is_friend, scope, name, out,
         ),
         Plain::ScopedName(scope, ref name) => print_scoped_name(arena, env, scope, name, out),
-        Plain::WithArgs(name, args) => print_with_args(arena, env, bound, name, args, out),
+        Plain::WithArgs(name, args) => print_with_args(arena, env, name, args, out),
         Plain::AbiTag(name, ref tag) => print_abi_tag(arena, env, name, tag, out),
         Plain::InModule(name, owner) => print_in_module(arena, env, name, owner, out),
         Plain::Data(name) => print_node(arena, env, name, out),
         Plain::ObjcProtocol(t, ref protocol) => print_protocol(arena, env, t, protocol, out),
-        Plain::List(items) => print_list(arena, env, bound, arena.items(items), out),
+        Plain::List(items) => print_list(arena, env, arena.items(items), out),
         Plain::Expansion(t) => print_expansion(arena, env, t, out),
         Plain::Param(_, _) => Ok(()),
     }
@@ -575,9 +557,9 @@ fn print_gnu_scope(arena: &Arena, env: Env, i: u32, out: &mut Text) -> Result<()
     ensures prints { Prints result out.old out.new (spec.without_return (spec.print (tree_at (forest arena.now) i)
         env)) }
 {
-    match *arena.node(i) {
-        Node::Encoding(ref encoding) => print_signature(arena, env, i, encoding, out),
-        Node::Plain(ref plain) => scope_plain(arena, env, i, plain, out),
+    match *node_at(arena, i) {
+        Node::Encoding(ref encoding) => print_signature(arena, env, encoding, out),
+        Node::Plain(ref plain) => scope_plain(arena, env, plain, out),
         _ => print(arena, env, i, out),
     }
 }
@@ -585,19 +567,12 @@ fn print_gnu_scope(arena: &Arena, env: Env, i: u32, out: &mut Text) -> Result<()
 // Appends what a tree with one side prints as a scope.
 #[inline(always)]
 #[cycle(printer)]
-fn scope_plain(
-    arena: &Arena,
-    env: Env,
-    bound: u32,
-    plain: &Plain,
-    out: &mut Text,
-) -> Result<(), AllocError>
-    requires bound { bound ≤ size arena.now }
-    requires below { IsPlainBelow arena.now.held bound plain.now }
+fn scope_plain(arena: &Arena, env: Env, plain: &Plain, out: &mut Text) -> Result<(), AllocError>
+    requires below { IsPlainBelow arena.now.held (size arena.now) plain.now }
     ensures prints { Prints result out.old out.new (spec.without_return (spec.print (plain_tree arena.now.held (forest
         arena.now) plain.now) env)) }
 {
-    print_plain(arena, env, bound, plain, out)
+    print_plain(arena, env, plain, out)
 }
 
 /// Appends a function without its return type.
@@ -606,12 +581,10 @@ fn scope_plain(
 pub fn print_signature(
     arena: &Arena,
     env: Env,
-    bound: u32,
     encoding: &Encoding,
     out: &mut Text,
 ) -> Result<(), AllocError>
-    requires bound { bound ≤ size arena.now }
-    requires below { IsBelow arena.now.held bound (node.Encoding encoding.now) }
+    requires below { IsBelow arena.now.held (size arena.now) (node.Encoding encoding.now) }
     ensures prints { Prints result out.old out.new
         (spec.whole (spec.print (tree_at (forest arena.now) encoding.now.name) env)
         ++ spec.signature_right env [] (spec.items_of (trees_in arena.now.held (forest arena.now) encoding.now.params))
@@ -619,7 +592,7 @@ pub fn print_signature(
         (spec.print_parts (parts_in arena.now.held (forest arena.now) encoding.now.rest) env)) }
 {
     tri!(print_node(arena, env, encoding.name, out));
-    right_signature(arena, env, bound, encoding, out)
+    right_signature(arena, env, encoding, out)
 }
 
 #[inline(never)]
@@ -627,20 +600,18 @@ pub fn print_signature(
 fn print_with_args(
     arena: &Arena,
     env: Env,
-    bound: u32,
     name: u32,
     args: List,
     out: &mut Text,
 ) -> Result<(), AllocError>
-    requires bound { bound ≤ size arena.now }
-    requires name { name < bound }
-    requires args { IsListBelow arena.now.held bound args }
+    requires name { name < size arena.now }
+    requires args { IsListBelow arena.now.held (size arena.now) args }
     ensures prints { Prints result out.old out.new ((spec.with_list env (spec.print (tree_at (forest arena.now)
         name) env) (spec.items_of (trees_in arena.now.held (forest arena.now) args))).text.left) }
 {
     tri!(print(arena, env, name, out));
     tri!(blank_behind_less(arena, env, name, out));
-    print_args(arena, env, bound, args, out)
+    print_args(arena, env, args, out)
 }
 
 // Appends a blank after a name that ends with a `<`, in GNU's style.
@@ -768,32 +739,18 @@ fn print_element(arena: &Arena, env: Env, k: u32, t: u32, out: &mut Text) -> Res
 /// Appends a list. What prints nothing has no comma.
 #[inline(never)]
 #[cycle(printer)]
-fn print_list(
-    arena: &Arena,
-    env: Env,
-    bound: u32,
-    items: &[u32],
-    out: &mut Text,
-) -> Result<(), AllocError>
-    requires bound { bound ≤ size arena.now }
-    requires below { AllByRecursion (λ t. t < bound) items.now }
+fn print_list(arena: &Arena, env: Env, items: &[u32], out: &mut Text) -> Result<(), AllocError>
+    requires below { AllByRecursion (λ t. t < size arena.now) items.now }
     ensures prints { Prints result out.old out.new (spec.list_from true env (spec.items_of (trees_at (forest arena.now)
         items.now))) }
 {
-    print_items(arena, env, bound, items, out)
+    print_items(arena, env, items, out)
 }
 
 #[inline(always)]
 #[cycle(printer)]
-fn print_items(
-    arena: &Arena,
-    env: Env,
-    bound: u32,
-    items: &[u32],
-    out: &mut Text,
-) -> Result<(), AllocError>
-    requires bound { bound ≤ size arena.now }
-    requires below { AllByRecursion (λ t. t < bound) items.now }
+fn print_items(arena: &Arena, env: Env, items: &[u32], out: &mut Text) -> Result<(), AllocError>
+    requires below { AllByRecursion (λ t. t < size arena.now) items.now }
     ensures prints { Prints result out.old out.new (spec.list_from true env (spec.items_of (trees_at (forest arena.now)
         items.now))) }
 {
@@ -819,7 +776,7 @@ fn print_item(
         (item (tree_at (forest arena.now) t)))) }
 {
     let is_first = out.len() == start;
-    match *arena.node(t) {
+    match *node_at(arena, t) {
         Node::Plain(Plain::ScopedName(scope, ref name)) => print_scoped_item(
             arena, env, is_first, t, scope, name, out,
         ),
@@ -842,7 +799,7 @@ fn print_plain_item(
     out: &mut Text,
 ) -> Result<(), AllocError>
     requires within { t < size arena.now }
-    requires below { IsPlainBelow arena.now.held t plain.now }
+    requires below { IsPlainBelow arena.now.held (size arena.now) plain.now }
     requires tree { tree_at (forest arena.now) t ≡ plain_tree arena.now.held (forest arena.now) plain.now }
     ensures prints { Prints result out.old out.new (spec.item_behind is_first (spec.item_text env (item (tree_at
         (forest arena.now) t)))) }
@@ -878,7 +835,7 @@ fn print_type_item(
     ensures prints { Prints result out.old out.new (spec.item_behind is_first (spec.item_text env (item (tree_at
         (forest arena.now) t)))) }
 {
-    match *arena.node(t) {
+    match *node_at(arena, t) {
         Node::Pointer(u) => print_pointer_item(arena, env, is_first, t, u, out),
         Node::Reference(u, is_lvalue) => print_reference_item(
             arena, env, is_first, t, is_lvalue, u, out,
@@ -899,7 +856,8 @@ fn print_scoped_item(
     out: &mut Text,
 ) -> Result<(), AllocError>
     requires within { t < size arena.now }
-    requires scope { scope < t }
+    requires scope { scope < size arena.now }
+    requires lower { height (tree_at (forest arena.now) scope) < height (tree_at (forest arena.now) t) }
     requires name { IsText arena.now.held name.now }
     requires tree { tree_at (forest arena.now) t ≡ scoped false (tree_at (forest arena.now) scope)
         (named (text_at arena.now.held name.now)) }
@@ -924,8 +882,10 @@ fn print_args_item(
     out: &mut Text,
 ) -> Result<(), AllocError>
     requires within { t < size arena.now }
-    requires name { name < t }
-    requires args { IsListBelow arena.now.held t args }
+    requires name { name < size arena.now }
+    requires args { IsListBelow arena.now.held (size arena.now) args }
+    requires height { height (tree_at (forest arena.now) t) ≡ height (with_args (tree_at (forest arena.now) name)
+        (trees_in arena.now.held (forest arena.now) args)) }
     requires tree { tree_at (forest arena.now) t ≡ with_args (tree_at (forest arena.now) name) (trees_in arena.now.held
         (forest arena.now) args) }
     ensures prints { Prints result out.old out.new (spec.item_behind is_first (spec.item_text env (item (tree_at
@@ -934,7 +894,7 @@ fn print_args_item(
     if !try_separator(is_first, out) {
         return print_any_item(arena, env, is_first, t, out);
     }
-    print_with_args(arena, env, t, name, args, out)
+    print_with_args(arena, env, name, args, out)
 }
 
 #[inline(always)]
@@ -948,7 +908,8 @@ fn print_pointer_item(
     out: &mut Text,
 ) -> Result<(), AllocError>
     requires within { t < size arena.now }
-    requires below { u < t }
+    requires child { u < size arena.now }
+    requires height { height (tree_at (forest arena.now) t) ≡ height (pointer (tree_at (forest arena.now) u)) }
     requires tree { tree_at (forest arena.now) t ≡ pointer (tree_at (forest arena.now) u) }
     ensures prints { Prints result out.old out.new (spec.item_behind is_first (spec.item_text env (item (tree_at
         (forest arena.now) t)))) }
@@ -971,7 +932,9 @@ fn print_reference_item(
     out: &mut Text,
 ) -> Result<(), AllocError>
     requires within { t < size arena.now }
-    requires below { u < t }
+    requires child { u < size arena.now }
+    requires height { height (tree_at (forest arena.now) t) ≡ height (reference (tree_at (forest arena.now) u)
+        is_lvalue) }
     requires tree { tree_at (forest arena.now) t ≡ reference (tree_at (forest arena.now) u) is_lvalue }
     ensures prints { Prints result out.old out.new (spec.item_behind is_first (spec.item_text env (item (tree_at
         (forest arena.now) t)))) }
@@ -1072,80 +1035,57 @@ fn print_enclosed(arena: &Arena, env: Env, t: u32, out: &mut Text) -> Result<(),
 fn print_phrase(
     arena: &Arena,
     env: Env,
-    bound: u32,
     phrase: Phrase,
     parts: Parts,
     out: &mut Text,
 ) -> Result<(), AllocError>
-    requires bound { bound ≤ size arena.now }
-    requires parts { IsPartsBelow arena.now.held bound parts }
+    requires parts { IsPartsBelow arena.now.held (size arena.now) parts }
     ensures prints { Prints result out.old out.new ((spec.phrased phrase env (spec.print_parts (parts_in
         arena.now.held (forest arena.now) parts) (words.within env phrase.guard))).text.left) }
 {
     let inner = env.within(phrase.guard);
     if !env.is_guarded(phrase.guard) {
-        return print_parts(arena, inner, bound, parts, out);
+        return print_parts(arena, inner, parts, out);
     }
-    print_guarded(arena, inner, bound, parts, out)
+    print_guarded(arena, inner, parts, out)
 }
 
 #[inline(never)]
 #[cycle(printer)]
-fn print_guarded(
-    arena: &Arena,
-    env: Env,
-    bound: u32,
-    parts: Parts,
-    out: &mut Text,
-) -> Result<(), AllocError>
-    requires bound { bound ≤ size arena.now }
-    requires parts { IsPartsBelow arena.now.held bound parts }
+fn print_guarded(arena: &Arena, env: Env, parts: Parts, out: &mut Text) -> Result<(), AllocError>
+    requires parts { IsPartsBelow arena.now.held (size arena.now) parts }
     ensures prints { Prints result out.old out.new (codes "(" ++ ((spec.print_parts (parts_in arena.now.held
         (forest arena.now) parts) env).text ++ codes ")")) }
 {
     tri!(write(out, b"("));
-    tri!(print_parts(arena, env, bound, parts, out));
+    tri!(print_parts(arena, env, parts, out));
     write(out, b")")
 }
 
 #[inline(never)]
 #[cycle(printer)]
-fn print_parts(
-    arena: &Arena,
-    env: Env,
-    bound: u32,
-    parts: Parts,
-    out: &mut Text,
-) -> Result<(), AllocError>
-    requires bound { bound ≤ size arena.now }
-    requires parts { IsPartsBelow arena.now.held bound parts }
+fn print_parts(arena: &Arena, env: Env, parts: Parts, out: &mut Text) -> Result<(), AllocError>
+    requires parts { IsPartsBelow arena.now.held (size arena.now) parts }
     ensures prints { Prints result out.old out.new ((spec.print_parts (parts_in arena.now.held (forest arena.now)
         parts) env).text) }
 {
     let list = arena.parts_of(parts);
     for part in list {
-        tri!(print_part(arena, env, bound, part, out));
+        tri!(print_part(arena, env, part, out));
     }
     Ok(())
 }
 
 #[inline(always)]
 #[cycle(printer)]
-fn print_part(
-    arena: &Arena,
-    env: Env,
-    bound: u32,
-    part: &Part,
-    out: &mut Text,
-) -> Result<(), AllocError>
-    requires bound { bound ≤ size arena.now }
-    requires below { IsPartBelow arena.now.held bound part.now }
+fn print_part(arena: &Arena, env: Env, part: &Part, out: &mut Text) -> Result<(), AllocError>
+    requires below { IsPartBelow arena.now.held (size arena.now) part.now }
     ensures prints { Prints result out.old out.new (text_of_part arena.now.held (forest arena.now) env part.now) }
 {
     match *part {
         Part::Text(ref llvm, ref gnu) => write_styled(arena, env, llvm, gnu, out),
         Part::Tree(manner, t) => print_tree(arena, env, manner, t, out),
-        Part::Trees(listing, items) => print_trees(arena, env, bound, listing, items, out),
+        Part::Trees(listing, items) => print_trees(arena, env, listing, items, out),
     }
 }
 
@@ -1185,7 +1125,7 @@ fn print_callee(arena: &Arena, env: Env, t: u32, out: &mut Text) -> Result<(), A
     if env.is_llvm() {
         return print_node(arena, env, t, out);
     }
-    match *arena.node(t) {
+    match *node_at(arena, t) {
         Node::Encoding(ref encoding) => print_operand(
             arena,
             env,
@@ -1215,7 +1155,7 @@ fn print_address(
     if env.is_llvm() {
         return print_operand(arena, env, prec, false, t, out);
     }
-    match *arena.node(t) {
+    match *node_at(arena, t) {
         Node::Encoding(ref encoding) => {
             if is_named_address(arena, encoding.name, encoding.cv, encoding.ref_qual) {
                 return print_node(arena, env, encoding.name, out);
@@ -1319,96 +1259,66 @@ fn print_folded(arena: &Arena, env: Env, t: u32, out: &mut Text) -> Result<(), A
 fn print_trees(
     arena: &Arena,
     env: Env,
-    bound: u32,
     listing: Listing,
     list: List,
     out: &mut Text,
 ) -> Result<(), AllocError>
-    requires bound { bound ≤ size arena.now }
-    requires below { IsListBelow arena.now.held bound list }
+    requires below { IsListBelow arena.now.held (size arena.now) list }
     ensures prints { Prints result out.old out.new (spec.list_of listing env (spec.items_of (trees_in
         arena.now.held (forest arena.now) list))) }
 {
     match listing {
-        Listing::Items => print_list(arena, env, bound, arena.items(list), out),
-        Listing::Enclosed => print_list(arena, env.enclosed(), bound, arena.items(list), out),
-        Listing::Parens => print_parens(arena, env, bound, list, out),
-        Listing::Angles => print_angles(arena, env, bound, list, out),
-        Listing::Declarations => print_declarations(arena, env, bound, list, out),
-        Listing::Sequence => print_sequence(arena, env.enclosed(), bound, arena.items(list), out),
+        Listing::Items => print_list(arena, env, arena.items(list), out),
+        Listing::Enclosed => print_list(arena, env.enclosed(), arena.items(list), out),
+        Listing::Parens => print_parens(arena, env, list, out),
+        Listing::Angles => print_angles(arena, env, list, out),
+        Listing::Declarations => print_declarations(arena, env, list, out),
+        Listing::Sequence => print_sequence(arena, env.enclosed(), arena.items(list), out),
     }
 }
 
 #[inline(never)]
 #[cycle(printer)]
-pub fn print_parens(
-    arena: &Arena,
-    env: Env,
-    bound: u32,
-    list: List,
-    out: &mut Text,
-) -> Result<(), AllocError>
-    requires bound { bound ≤ size arena.now }
-    requires below { IsListBelow arena.now.held bound list }
+pub fn print_parens(arena: &Arena, env: Env, list: List, out: &mut Text) -> Result<(), AllocError>
+    requires below { IsListBelow arena.now.held (size arena.now) list }
     ensures prints { Prints result out.old out.new (spec.parens env (spec.items_of (trees_in arena.now.held (forest
         arena.now) list))) }
 {
-    print_params(arena, env, bound, list, out)
+    print_params(arena, env, list, out)
 }
 
 #[inline(always)]
 #[cycle(printer)]
-fn print_params(
-    arena: &Arena,
-    env: Env,
-    bound: u32,
-    list: List,
-    out: &mut Text,
-) -> Result<(), AllocError>
-    requires bound { bound ≤ size arena.now }
-    requires below { IsListBelow arena.now.held bound list }
+fn print_params(arena: &Arena, env: Env, list: List, out: &mut Text) -> Result<(), AllocError>
+    requires below { IsListBelow arena.now.held (size arena.now) list }
     ensures prints { Prints result out.old out.new (spec.parens env (spec.items_of (trees_in arena.now.held (forest
         arena.now) list))) }
 {
     tri!(write_byte(out, b'('));
-    tri!(print_items(arena, env.enclosed(), bound, arena.items(list), out));
+    tri!(print_items(arena, env.enclosed(), arena.items(list), out));
     write_byte(out, b')')
 }
 
 #[inline(never)]
 #[cycle(printer)]
-fn print_angles(
-    arena: &Arena,
-    env: Env,
-    bound: u32,
-    list: List,
-    out: &mut Text,
-) -> Result<(), AllocError>
-    requires bound { bound ≤ size arena.now }
-    requires below { IsListBelow arena.now.held bound list }
+fn print_angles(arena: &Arena, env: Env, list: List, out: &mut Text) -> Result<(), AllocError>
+    requires below { IsListBelow arena.now.held (size arena.now) list }
     ensures prints { Prints result out.old out.new (spec.angles env (spec.items_of (trees_in arena.now.held (forest
         arena.now) list))) }
 {
-    print_args(arena, env, bound, list, out)
+    print_args(arena, env, list, out)
 }
 
 #[inline(always)]
 #[cycle(printer)]
-fn print_args(
-    arena: &Arena,
-    env: Env,
-    bound: u32,
-    list: List,
-    out: &mut Text,
-) -> Result<(), AllocError>
-    requires bound { bound ≤ size arena.now }
-    requires below { IsListBelow arena.now.held bound list }
+fn print_args(arena: &Arena, env: Env, list: List, out: &mut Text) -> Result<(), AllocError>
+    requires below { IsListBelow arena.now.held (size arena.now) list }
     ensures prints { Prints result out.old out.new (spec.angles env (spec.items_of (trees_in arena.now.held (forest
         arena.now) list))) }
 {
     tri!(write_byte(out, b'<'));
-    tri!(print_items(arena, env.in_angle(), bound, arena.items(list), out));
-    tri!(blank_behind_greater(arena, env.in_angle(), bound, arena.items(list), out));
+    tri!(print_items(arena, env.in_angle(), arena.items(list), out));
+    tri!(blank_behind_greater(arena, env.in_angle(), arena.items(list), out));
     write_byte(out, b'>')
 }
 
@@ -1416,19 +1326,17 @@ fn print_args(
 fn blank_behind_greater(
     arena: &Arena,
     env: Env,
-    bound: u32,
     items: &[u32],
     out: &mut Text,
 ) -> Result<(), AllocError>
-    requires bound { bound ≤ size arena.now }
-    requires below { AllByRecursion (λ t. t < bound) items.now }
+    requires below { AllByRecursion (λ t. t < size arena.now) items.now }
     ensures prints { Prints result out.old out.new (spec.gnu_blank env ending.Greater (spec.last_ends env
         (spec.items_of (trees_at (forest arena.now) items.now)))) }
 {
     if env.is_llvm() {
         return Ok(());
     }
-    match ending_of_list(arena, env, bound, items) {
+    match ending_of_list(arena, env, items) {
         Ending::Greater => write(out, b" "),
         Ending::Less | Ending::Other => Ok(()),
     }
@@ -1436,15 +1344,8 @@ fn blank_behind_greater(
 
 #[inline(never)]
 #[cycle(printer)]
-fn print_sequence(
-    arena: &Arena,
-    env: Env,
-    bound: u32,
-    items: &[u32],
-    out: &mut Text,
-) -> Result<(), AllocError>
-    requires bound { bound ≤ size arena.now }
-    requires below { AllByRecursion (λ t. t < bound) items.now }
+fn print_sequence(arena: &Arena, env: Env, items: &[u32], out: &mut Text) -> Result<(), AllocError>
+    requires below { AllByRecursion (λ t. t < size arena.now) items.now }
     ensures prints { Prints result out.old out.new (spec.sequence env (spec.items_of (trees_at (forest arena.now)
         items.now))) }
 {
@@ -1457,23 +1358,16 @@ fn print_sequence(
 /// Appends the declarations of a closure's template parameters.
 #[inline(never)]
 #[cycle(printer)]
-fn print_declarations(
-    arena: &Arena,
-    env: Env,
-    bound: u32,
-    list: List,
-    out: &mut Text,
-) -> Result<(), AllocError>
-    requires bound { bound ≤ size arena.now }
-    requires below { IsListBelow arena.now.held bound list }
+fn print_declarations(arena: &Arena, env: Env, list: List, out: &mut Text) -> Result<(), AllocError>
+    requires below { IsListBelow arena.now.held (size arena.now) list }
     ensures prints { Prints result out.old out.new (spec.list_of listing.Declarations env (spec.items_of (trees_in
         arena.now.held (forest arena.now) list))) }
 {
     if env.is_llvm() {
-        return print_angles(arena, env, bound, list, out);
+        return print_angles(arena, env, list, out);
     }
     tri!(write(out, b"<"));
-    tri!(print_declared_list(arena, env.in_angle(), bound, arena.items(list), out));
+    tri!(print_declared_list(arena, env.in_angle(), arena.items(list), out));
     write(out, b">")
 }
 
@@ -1481,12 +1375,10 @@ fn print_declarations(
 fn print_declared_list(
     arena: &Arena,
     env: Env,
-    bound: u32,
     items: &[u32],
     out: &mut Text,
 ) -> Result<(), AllocError>
-    requires bound { bound ≤ size arena.now }
-    requires below { AllByRecursion (λ t. t < bound) items.now }
+    requires below { AllByRecursion (λ t. t < size arena.now) items.now }
     ensures prints { Prints result out.old out.new (spec.separated spec.declared true env (spec.items_of (trees_at
         (forest
         arena.now) items.now))) }
@@ -1537,39 +1429,30 @@ fn print_head(arena: &Arena, env: Env, t: u32, out: &mut Text) -> Result<(), All
     requires within { t < size arena.now }
     ensures prints { Prints result out.old out.new (spec.head (spec.print (tree_at (forest arena.now) t) env)) }
 {
-    match *arena.node(t) {
-        Node::Declaration(ref declaration) => head_of_declaration(arena, env, t, declaration, out),
-        Node::Plain(ref plain) => head_of_plain(arena, env, t, plain, out),
+    match *node_at(arena, t) {
+        Node::Declaration(ref declaration) => head_of_declaration(arena, env, declaration, out),
+        Node::Plain(ref plain) => head_of_plain(arena, env, plain, out),
         _ => print_node(arena, env, t, out),
     }
 }
 
 #[cycle(printer)]
-fn head_of_plain(
-    arena: &Arena,
-    env: Env,
-    bound: u32,
-    plain: &Plain,
-    out: &mut Text,
-) -> Result<(), AllocError>
-    requires bound { bound ≤ size arena.now }
-    requires below { IsPlainBelow arena.now.held bound plain.now }
+fn head_of_plain(arena: &Arena, env: Env, plain: &Plain, out: &mut Text) -> Result<(), AllocError>
+    requires below { IsPlainBelow arena.now.held (size arena.now) plain.now }
     ensures prints { Prints result out.old out.new (spec.head (spec.print (plain_tree arena.now.held (forest
         arena.now) plain.now) env)) }
 {
-    print_plain(arena, env, bound, plain, out)
+    print_plain(arena, env, plain, out)
 }
 
 #[cycle(printer)]
 fn head_of_declaration(
     arena: &Arena,
     env: Env,
-    bound: u32,
     declaration: &Declaration,
     out: &mut Text,
 ) -> Result<(), AllocError>
-    requires bound { bound ≤ size arena.now }
-    requires below { IsDeclarationBelow arena.now.held bound declaration.now }
+    requires below { IsDeclarationBelow arena.now.held (size arena.now) declaration.now }
     ensures prints { Prints result out.old out.new (spec.head (spec.print (declaration_tree arena.now.held (forest
         arena.now) declaration.now) env)) }
 {
@@ -1579,7 +1462,6 @@ fn head_of_declaration(
         Declaration::TemplateParam(_, declarations, _) => print_template_head(
             arena,
             env,
-            bound,
             arena.items(declarations),
             out,
         ),
@@ -1601,31 +1483,22 @@ fn print_pack_head(arena: &Arena, env: Env, d: u32, out: &mut Text) -> Result<()
 fn print_template_head(
     arena: &Arena,
     env: Env,
-    bound: u32,
     items: &[u32],
     out: &mut Text,
 ) -> Result<(), AllocError>
-    requires bound { bound ≤ size arena.now }
-    requires below { AllByRecursion (λ t. t < bound) items.now }
+    requires below { AllByRecursion (λ t. t < size arena.now) items.now }
     ensures prints { Prints result out.old out.new (codes "template<" ++ (spec.separated spec.head true env
         (spec.items_of
         (trees_at (forest arena.now) items.now)) ++ codes "> class")) }
 {
     tri!(write(out, b"template<"));
-    tri!(print_heads(arena, env, bound, items, out));
+    tri!(print_heads(arena, env, items, out));
     write(out, b"> class")
 }
 
 #[cycle(printer)]
-fn print_heads(
-    arena: &Arena,
-    env: Env,
-    bound: u32,
-    items: &[u32],
-    out: &mut Text,
-) -> Result<(), AllocError>
-    requires bound { bound ≤ size arena.now }
-    requires below { AllByRecursion (λ t. t < bound) items.now }
+fn print_heads(arena: &Arena, env: Env, items: &[u32], out: &mut Text) -> Result<(), AllocError>
+    requires below { AllByRecursion (λ t. t < size arena.now) items.now }
     ensures prints { Prints result out.old out.new (spec.separated spec.head true env (spec.items_of (trees_at
         (forest arena.now)
         items.now))) }
@@ -1662,8 +1535,8 @@ fn print_declared_name(arena: &Arena, env: Env, t: u32, out: &mut Text) -> Resul
     ensures prints { Prints result out.old out.new (spec.declared_name (spec.print (tree_at (forest arena.now) t)
         env)) }
 {
-    match *arena.node(t) {
-        Node::Declaration(ref declaration) => name_of_declaration(arena, env, t, declaration, out),
+    match *node_at(arena, t) {
+        Node::Declaration(ref declaration) => name_of_declaration(arena, env, declaration, out),
         Node::Plain(ref plain) => name_of_plain(arena, env, plain, out),
         _ => Ok(()),
     }
@@ -1684,12 +1557,10 @@ fn name_of_plain(arena: &Arena, env: Env, plain: &Plain, out: &mut Text) -> Resu
 fn name_of_declaration(
     arena: &Arena,
     env: Env,
-    bound: u32,
     declaration: &Declaration,
     out: &mut Text,
 ) -> Result<(), AllocError>
-    requires bound { bound ≤ size arena.now }
-    requires below { IsDeclarationBelow arena.now.held bound declaration.now }
+    requires below { IsDeclarationBelow arena.now.held (size arena.now) declaration.now }
     ensures prints { Prints result out.old out.new (spec.declared_name (spec.print (declaration_tree arena.now.held
         (forest arena.now) declaration.now) env)) }
 {
@@ -1706,12 +1577,10 @@ fn name_of_declaration(
 fn left_declaration(
     arena: &Arena,
     env: Env,
-    bound: u32,
     declaration: &Declaration,
     out: &mut Text,
 ) -> Result<(), AllocError>
-    requires bound { bound ≤ size arena.now }
-    requires below { IsDeclarationBelow arena.now.held bound declaration.now }
+    requires below { IsDeclarationBelow arena.now.held (size arena.now) declaration.now }
     ensures prints { Prints result out.old out.new ((spec.print (declaration_tree arena.now.held (forest arena.now)
         declaration.now) env).text.left) }
 {
@@ -1721,7 +1590,6 @@ fn left_declaration(
         Declaration::TemplateParam(_, declarations, _) => left_template(
             arena,
             env,
-            bound,
             declarations,
             out,
         ),
@@ -1757,20 +1625,13 @@ fn left_non_type(arena: &Arena, env: Env, t: u32, out: &mut Text) -> Result<(), 
 }
 
 #[cycle(printer)]
-fn left_template(
-    arena: &Arena,
-    env: Env,
-    bound: u32,
-    list: List,
-    out: &mut Text,
-) -> Result<(), AllocError>
-    requires bound { bound ≤ size arena.now }
-    requires below { IsListBelow arena.now.held bound list }
+fn left_template(arena: &Arena, env: Env, list: List, out: &mut Text) -> Result<(), AllocError>
+    requires below { IsListBelow arena.now.held (size arena.now) list }
     ensures prints { Prints result out.old out.new (codes "template" ++ (spec.angles env (spec.items_of (trees_in
         arena.now.held (forest arena.now) list)) ++ codes " typename ")) }
 {
     tri!(write(out, b"template"));
-    tri!(print_angles(arena, env, bound, list, out));
+    tri!(print_angles(arena, env, list, out));
     write(out, b" typename ")
 }
 
@@ -1789,21 +1650,17 @@ fn left_pack_param(arena: &Arena, env: Env, d: u32, out: &mut Text) -> Result<()
 fn right_declaration(
     arena: &Arena,
     env: Env,
-    bound: u32,
     declaration: &Declaration,
     out: &mut Text,
 ) -> Result<(), AllocError>
-    requires bound { bound ≤ size arena.now }
-    requires below { IsDeclarationBelow arena.now.held bound declaration.now }
+    requires below { IsDeclarationBelow arena.now.held (size arena.now) declaration.now }
     ensures prints { Prints result out.old out.new ((spec.print (declaration_tree arena.now.held (forest arena.now)
         declaration.now) env).text.right) }
 {
     match *declaration {
         Declaration::TypeParam(_, name) => print_node(arena, env, name, out),
         Declaration::NonTypeParam(name, t) => right_non_type(arena, env, name, t, out),
-        Declaration::TemplateParam(name, _, rest) => right_template(
-            arena, env, bound, name, rest, out,
-        ),
+        Declaration::TemplateParam(name, _, rest) => right_template(arena, env, name, rest, out),
         Declaration::PackParam(d) => print_right(arena, env, d, false, out),
     }
 }
@@ -1829,19 +1686,17 @@ fn right_non_type(
 fn right_template(
     arena: &Arena,
     env: Env,
-    bound: u32,
     name: u32,
     rest: Parts,
     out: &mut Text,
 ) -> Result<(), AllocError>
-    requires bound { bound ≤ size arena.now }
-    requires name { name < bound }
-    requires rest { IsPartsBelow arena.now.held bound rest }
+    requires name { name < size arena.now }
+    requires rest { IsPartsBelow arena.now.held (size arena.now) rest }
     ensures prints { Prints result out.old out.new (spec.whole (spec.print (tree_at (forest arena.now) name) env)
         ++ (spec.print_parts (parts_in arena.now.held (forest arena.now) rest) env).text) }
 {
     tri!(print_node(arena, env, name, out));
-    print_parts(arena, env, bound, rest, out)
+    print_parts(arena, env, rest, out)
 }
 
 #[inline(never)]
@@ -1986,21 +1841,19 @@ fn left_member(
 fn right_array(
     arena: &Arena,
     env: Env,
-    bound: u32,
     element: u32,
     dimension: Parts,
     joined: bool,
     out: &mut Text,
 ) -> Result<(), AllocError>
-    requires bound { bound ≤ size arena.now }
-    requires element { element < bound }
-    requires dimension { IsPartsBelow arena.now.held bound dimension }
+    requires element { element < size arena.now }
+    requires dimension { IsPartsBelow arena.now.held (size arena.now) dimension }
     ensures prints { Prints result out.old out.new (spec.right_behind joined (spec.arrayed (spec.print (tree_at
         (forest arena.now) element) env) (spec.print_parts (parts_in arena.now.held (forest arena.now) dimension)
         env)).text) }
 {
     tri!(write_blank_unless(joined, out));
-    right_bracket(arena, env, bound, element, dimension, out)
+    right_bracket(arena, env, element, dimension, out)
 }
 
 #[inline(never)]
@@ -2008,20 +1861,18 @@ fn right_array(
 fn right_bracket(
     arena: &Arena,
     env: Env,
-    bound: u32,
     element: u32,
     dimension: Parts,
     out: &mut Text,
 ) -> Result<(), AllocError>
-    requires bound { bound ≤ size arena.now }
-    requires element { element < bound }
-    requires dimension { IsPartsBelow arena.now.held bound dimension }
+    requires element { element < size arena.now }
+    requires dimension { IsPartsBelow arena.now.held (size arena.now) dimension }
     ensures prints { Prints result out.old out.new (codes "[" ++ ((spec.print_parts (parts_in arena.now.held
         (forest arena.now) dimension) env).text ++ (codes "]" ++ (spec.print (tree_at (forest arena.now) element)
         env).text.right))) }
 {
     tri!(write(out, b"["));
-    tri!(print_parts(arena, env, bound, dimension, out));
+    tri!(print_parts(arena, env, dimension, out));
     tri!(write(out, b"]"));
     print_joined(arena, env, element, out)
 }
@@ -2065,35 +1916,31 @@ fn blank_behind_ret(arena: &Arena, env: Env, ret: u32, out: &mut Text) -> Result
 fn right_function(
     arena: &Arena,
     env: Env,
-    bound: u32,
     function: &Function,
     out: &mut Text,
 ) -> Result<(), AllocError>
-    requires bound { bound ≤ size arena.now }
-    requires below { IsBelow arena.now.held bound (node.Function function.now) }
+    requires below { IsBelow arena.now.held (size arena.now) (node.Function function.now) }
     ensures prints { Prints result out.old out.new
         ((spec.called env (spec.print (tree_at (forest arena.now) function.now.ret) env)
         (spec.items_of (trees_in arena.now.held (forest arena.now) function.now.params))
         function.now.cv function.now.ref_qual
         (spec.print_parts (parts_in arena.now.held (forest arena.now) function.now.exception) env)).text.right) }
 {
-    tri!(print_parens(arena, env, bound, function.params, out));
+    tri!(print_parens(arena, env, function.params, out));
     if env.is_llvm() {
-        return after_params(arena, env, bound, function, out);
+        return after_params(arena, env, function, out);
     }
-    gnu_after_params(arena, env, bound, function, out)
+    gnu_after_params(arena, env, function, out)
 }
 
 #[cycle(printer)]
 fn after_params(
     arena: &Arena,
     env: Env,
-    bound: u32,
     function: &Function,
     out: &mut Text,
 ) -> Result<(), AllocError>
-    requires bound { bound ≤ size arena.now }
-    requires below { IsBelow arena.now.held bound (node.Function function.now) }
+    requires below { IsBelow arena.now.held (size arena.now) (node.Function function.now) }
     ensures prints { Prints result out.old out.new
         (spec.right_behind false (spec.print (tree_at (forest arena.now) function.now.ret) env).text
         ++ (words.cv_text function.now.cv ++ (words.ref_text function.now.ref_qual
@@ -2102,25 +1949,23 @@ fn after_params(
     tri!(print_right(arena, env, function.ret, false, out));
     tri!(write_cv(function.cv, out));
     tri!(write_ref(function.ref_qual, out));
-    print_parts(arena, env, bound, function.exception, out)
+    print_parts(arena, env, function.exception, out)
 }
 
 #[cycle(printer)]
 fn gnu_after_params(
     arena: &Arena,
     env: Env,
-    bound: u32,
     function: &Function,
     out: &mut Text,
 ) -> Result<(), AllocError>
-    requires bound { bound ≤ size arena.now }
-    requires below { IsBelow arena.now.held bound (node.Function function.now) }
+    requires below { IsBelow arena.now.held (size arena.now) (node.Function function.now) }
     ensures prints { Prints result out.old out.new
         ((spec.print_parts (parts_in arena.now.held (forest arena.now) function.now.exception) env).text
         ++ (words.cv_text function.now.cv ++ (words.ref_text function.now.ref_qual
         ++ spec.right_behind false (spec.print (tree_at (forest arena.now) function.now.ret) env).text))) }
 {
-    tri!(print_parts(arena, env, bound, function.exception, out));
+    tri!(print_parts(arena, env, function.exception, out));
     tri!(write_cv(function.cv, out));
     tri!(write_ref(function.ref_qual, out));
     print_right(arena, env, function.ret, false, out)
@@ -2131,30 +1976,21 @@ fn gnu_after_params(
 fn left_encoding(
     arena: &Arena,
     env: Env,
-    bound: u32,
     encoding: &Encoding,
     out: &mut Text,
 ) -> Result<(), AllocError>
-    requires bound { bound ≤ size arena.now }
-    requires below { IsBelow arena.now.held bound (node.Encoding encoding.now) }
+    requires below { IsBelow arena.now.held (size arena.now) (node.Encoding encoding.now) }
     ensures prints { Prints result out.old out.new
         (spec.of_return spec.left_of env (spec.items_of (option_at (forest arena.now) encoding.now.ret))
         ++ spec.whole (spec.print (tree_at (forest arena.now) encoding.now.name) env)) }
 {
-    tri!(left_ret(arena, env, bound, encoding.ret, out));
+    tri!(left_ret(arena, env, encoding.ret, out));
     print(arena, env, encoding.name, out)
 }
 
 #[cycle(printer)]
-fn left_ret(
-    arena: &Arena,
-    env: Env,
-    bound: u32,
-    ret: Option<u32>,
-    out: &mut Text,
-) -> Result<(), AllocError>
-    requires bound { bound ≤ size arena.now }
-    requires ret { IsOptionBelow bound ret }
+fn left_ret(arena: &Arena, env: Env, ret: Option<u32>, out: &mut Text) -> Result<(), AllocError>
+    requires ret { IsOptionBelow (size arena.now) ret }
     ensures prints { Prints result out.old out.new (spec.of_return spec.left_of env (spec.items_of (option_at
         (forest arena.now)
         ret))) }
@@ -2166,15 +2002,8 @@ fn left_ret(
 }
 
 #[cycle(printer)]
-fn right_ret(
-    arena: &Arena,
-    env: Env,
-    bound: u32,
-    ret: Option<u32>,
-    out: &mut Text,
-) -> Result<(), AllocError>
-    requires bound { bound ≤ size arena.now }
-    requires ret { IsOptionBelow bound ret }
+fn right_ret(arena: &Arena, env: Env, ret: Option<u32>, out: &mut Text) -> Result<(), AllocError>
+    requires ret { IsOptionBelow (size arena.now) ret }
     ensures prints { Prints result out.old out.new (spec.of_return spec.behind env (spec.items_of (option_at (forest
         arena.now) ret))) }
 {
@@ -2189,23 +2018,21 @@ fn right_ret(
 fn right_encoding(
     arena: &Arena,
     env: Env,
-    bound: u32,
     encoding: &Encoding,
     out: &mut Text,
 ) -> Result<(), AllocError>
-    requires bound { bound ≤ size arena.now }
-    requires below { IsBelow arena.now.held bound (node.Encoding encoding.now) }
+    requires below { IsBelow arena.now.held (size arena.now) (node.Encoding encoding.now) }
     ensures prints { Prints result out.old out.new (spec.signature_right env
         (spec.of_return spec.behind env (spec.items_of (option_at (forest arena.now) encoding.now.ret)))
         (spec.items_of (trees_in arena.now.held (forest arena.now) encoding.now.params))
         encoding.now.cv encoding.now.ref_qual
         (spec.print_parts (parts_in arena.now.held (forest arena.now) encoding.now.rest) env)) }
 {
-    tri!(print_params(arena, env, bound, encoding.params, out));
+    tri!(print_params(arena, env, encoding.params, out));
     if env.is_llvm() {
-        return after_signature(arena, env, bound, encoding, out);
+        return after_signature(arena, env, encoding, out);
     }
-    gnu_after_signature(arena, env, bound, encoding, out)
+    gnu_after_signature(arena, env, encoding, out)
 }
 
 #[inline(always)]
@@ -2213,19 +2040,17 @@ fn right_encoding(
 fn after_signature(
     arena: &Arena,
     env: Env,
-    bound: u32,
     encoding: &Encoding,
     out: &mut Text,
 ) -> Result<(), AllocError>
-    requires bound { bound ≤ size arena.now }
-    requires below { IsBelow arena.now.held bound (node.Encoding encoding.now) }
+    requires below { IsBelow arena.now.held (size arena.now) (node.Encoding encoding.now) }
     ensures prints { Prints result out.old out.new
         (spec.of_return spec.behind env (spec.items_of (option_at (forest arena.now) encoding.now.ret))
         ++ (words.cv_text encoding.now.cv ++ (words.ref_text encoding.now.ref_qual
         ++ (spec.print_parts (parts_in arena.now.held (forest arena.now) encoding.now.rest) env).text))) }
 {
-    tri!(right_ret(arena, env, bound, encoding.ret, out));
-    print_qualifiers(arena, env, bound, encoding, out)
+    tri!(right_ret(arena, env, encoding.ret, out));
+    print_qualifiers(arena, env, encoding, out)
 }
 
 // Appends the qualifiers of a function, and what follows them.
@@ -2234,52 +2059,41 @@ fn after_signature(
 fn print_qualifiers(
     arena: &Arena,
     env: Env,
-    bound: u32,
     encoding: &Encoding,
     out: &mut Text,
 ) -> Result<(), AllocError>
-    requires bound { bound ≤ size arena.now }
-    requires below { IsBelow arena.now.held bound (node.Encoding encoding.now) }
+    requires below { IsBelow arena.now.held (size arena.now) (node.Encoding encoding.now) }
     ensures prints { Prints result out.old out.new
         (words.cv_text encoding.now.cv ++ (words.ref_text encoding.now.ref_qual
         ++ (spec.print_parts (parts_in arena.now.held (forest arena.now) encoding.now.rest) env).text)) }
 {
     tri!(write_cv(encoding.cv, out));
     tri!(write_ref(encoding.ref_qual, out));
-    print_rest(arena, env, bound, encoding.rest, out)
+    print_rest(arena, env, encoding.rest, out)
 }
 
 // Appends parts, of which there are mostly none.
 #[inline(always)]
 #[cycle(printer)]
-fn print_rest(
-    arena: &Arena,
-    env: Env,
-    bound: u32,
-    parts: Parts,
-    out: &mut Text,
-) -> Result<(), AllocError>
-    requires bound { bound ≤ size arena.now }
-    requires parts { IsPartsBelow arena.now.held bound parts }
+fn print_rest(arena: &Arena, env: Env, parts: Parts, out: &mut Text) -> Result<(), AllocError>
+    requires parts { IsPartsBelow arena.now.held (size arena.now) parts }
     ensures prints { Prints result out.old out.new ((spec.print_parts (parts_in arena.now.held (forest arena.now)
         parts) env).text) }
 {
     if arena.parts_of(parts).is_empty() {
         return Ok(());
     }
-    print_parts(arena, env, bound, parts, out)
+    print_parts(arena, env, parts, out)
 }
 
 #[cycle(printer)]
 fn gnu_after_signature(
     arena: &Arena,
     env: Env,
-    bound: u32,
     encoding: &Encoding,
     out: &mut Text,
 ) -> Result<(), AllocError>
-    requires bound { bound ≤ size arena.now }
-    requires below { IsBelow arena.now.held bound (node.Encoding encoding.now) }
+    requires below { IsBelow arena.now.held (size arena.now) (node.Encoding encoding.now) }
     ensures prints { Prints result out.old out.new
         (words.cv_text encoding.now.cv ++ (words.ref_text encoding.now.ref_qual
         ++ (spec.of_return spec.behind env (spec.items_of (option_at (forest arena.now) encoding.now.ret))
@@ -2287,8 +2101,8 @@ fn gnu_after_signature(
 {
     tri!(write_cv(encoding.cv, out));
     tri!(write_ref(encoding.ref_qual, out));
-    tri!(right_ret(arena, env, bound, encoding.ret, out));
-    print_parts(arena, env, bound, encoding.rest, out)
+    tri!(right_ret(arena, env, encoding.ret, out));
+    print_parts(arena, env, encoding.rest, out)
 }
 
 // Appends what follows the name of a function without its return type.
@@ -2296,39 +2110,30 @@ fn gnu_after_signature(
 fn right_signature(
     arena: &Arena,
     env: Env,
-    bound: u32,
     encoding: &Encoding,
     out: &mut Text,
 ) -> Result<(), AllocError>
-    requires bound { bound ≤ size arena.now }
-    requires below { IsBelow arena.now.held bound (node.Encoding encoding.now) }
+    requires below { IsBelow arena.now.held (size arena.now) (node.Encoding encoding.now) }
     ensures prints { Prints result out.old out.new (spec.signature_right env []
         (spec.items_of (trees_in arena.now.held (forest arena.now) encoding.now.params))
         encoding.now.cv encoding.now.ref_qual
         (spec.print_parts (parts_in arena.now.held (forest arena.now) encoding.now.rest) env)) }
 {
-    tri!(print_parens(arena, env, bound, encoding.params, out));
+    tri!(print_parens(arena, env, encoding.params, out));
     if env.is_llvm() {
-        return print_qualifiers(arena, env, bound, encoding, out);
+        return print_qualifiers(arena, env, encoding, out);
     }
-    print_qualifiers(arena, env, bound, encoding, out)
+    print_qualifiers(arena, env, encoding, out)
 }
 
 #[inline(never)]
 #[cycle(printer)]
-fn left_pack(
-    arena: &Arena,
-    env: Env,
-    bound: u32,
-    items: List,
-    out: &mut Text,
-) -> Result<(), AllocError>
-    requires bound { bound ≤ size arena.now }
-    requires items { IsListBelow arena.now.held bound items }
+fn left_pack(arena: &Arena, env: Env, items: List, out: &mut Text) -> Result<(), AllocError>
+    requires items { IsListBelow arena.now.held (size arena.now) items }
     ensures prints { Prints result out.old out.new ((spec.print (pack (trees_in arena.now.held (forest arena.now)
         items)) env).text.left) }
 {
-    match element(arena, env, bound, items) {
+    match element(arena, env, items) {
         None => Ok(()),
         Some(t) => print_left(arena, env, t, out),
     }
@@ -2339,17 +2144,15 @@ fn left_pack(
 fn right_pack(
     arena: &Arena,
     env: Env,
-    bound: u32,
     items: List,
     joined: bool,
     out: &mut Text,
 ) -> Result<(), AllocError>
-    requires bound { bound ≤ size arena.now }
-    requires items { IsListBelow arena.now.held bound items }
+    requires items { IsListBelow arena.now.held (size arena.now) items }
     ensures prints { Prints result out.old out.new (spec.right_behind joined (spec.print (pack (trees_in
         arena.now.held (forest arena.now) items)) env).text) }
 {
-    match element(arena, env, bound, items) {
+    match element(arena, env, items) {
         None => Ok(()),
         Some(t) => print_right(arena, env, t, joined, out),
     }

@@ -1,29 +1,43 @@
 //! What is asked of a tree without printing it. Where a tree is a pack, its element is asked.
-#![tactic(auto, using(crate::proofs::Packs::packs), unfolding(cxx_tree::specs::Stored::tree_of, cxx_tree::specs::Stored::plain_tree, cxx_tree::specs::Stored::declaration_tree, cxx_tree::specs::Stored::IsBelow, cxx_tree::specs::Stored::IsPlainBelow, cxx_tree::specs::Stored::IsDeclarationBelow, crate::specs::Printing::print, crate::specs::Asked::ends_of_part))]
+#![tactic(auto, using(crate::proofs::Packs::packs), unfolding(cxx_tree::specs::Stored::tree_of, cxx_tree::specs::Stored::plain_tree, cxx_tree::specs::Stored::declaration_tree, cxx_tree::specs::Stored::IsBelow, cxx_tree::specs::Stored::IsPlainBelow, cxx_tree::specs::Stored::IsDeclarationBelow, crate::specs::Printing::print, crate::specs::Asked::ends_of_part, cxx_tree::specs::Measure::measure))]
 
 ghost use Rattle.std.specs.Prelude.{◌≡◌, ℕ, ◌<◌, ◌≤◌, Bool, true, false, Option, Some, None, MatchOption, IfSome};
 ghost use Rattle.std.specs.List.{AllByRecursion};
 ghost use Rattle.cxx_tree.specs.Tree.{named, pack, scoped};
-ghost use Rattle.cxx_tree.specs.Stored.{forest, size, tree_at, trees_at, trees_in, plain_tree, parts_in, parts_at, parts_of, IsListBelow, IsPlainBelow, IsPartsBelow, IsPartBelow};
+ghost use Rattle.cxx_tree.specs.Stored.{forest, size, tree_of, tree_at, trees_at, trees_in, plain_tree, parts_in, parts_at, parts_of, IsBelow, IsListBelow, IsPlainBelow, IsPartsBelow, IsPartBelow};
 ghost use Rattle.cxx_printer.specs.Printing as spec;
 ghost use Rattle.cxx_printer.specs.Words.{ending, ending_of_byte, within};
 ghost use Rattle.cxx_tree.specs.Measure.{measure};
 ghost use Rattle.cxx_printer.specs.Heads as heads;
-ghost use Rattle.cxx_printer.specs.Asked.{OneSided, Refers, ends_of_part, item, run_ends};
+ghost use Rattle.cxx_printer.specs.Asked.{OneSided, Refers, ends_of_part, height, highest, item, run_ends};
 
 use crate::env::Env;
 use crate::operands::{is_named_address, is_simple, protocol_of};
 use crate::words::{Form, std_text};
 use cxx_tree::{Arena, List, Listing, Manner, Node, Part, Parts, Phrase, Plain};
 
+/// Returns a node. Its children stand in the arena, and their trees are lower than its own.
+#[inline(always)]
+pub fn node_at(arena: &Arena, i: u32) -> &Node
+    requires within { i < size arena.now }
+    ensures tree { tree_at (forest arena.now) i ≡ tree_of arena.now.held (forest arena.now) result.now }
+    ensures height { height (tree_at (forest arena.now) i) ≡ height (tree_of arena.now.held (forest arena.now)
+        result.now) }
+    ensures within { IsBelow arena.now.held (size arena.now) result.now }
+{
+    arena.node(i)
+}
+
 /// Returns the element of a pack that is printed, if there is one.
-pub fn element(arena: &Arena, env: Env, bound: u32, list: List) -> Option<u32>
-    requires below { IsListBelow arena.now.held bound list }
+pub fn element(arena: &Arena, env: Env, list: List) -> Option<u32>
+    requires below { IsListBelow arena.now.held (size arena.now) list }
     ensures value { MatchOption result
         (spec.print (pack (trees_in arena.now.held (forest arena.now) list)) env ≡ spec.nothing)
         (λ t. spec.print (pack (trees_in arena.now.held (forest arena.now) list)) env
         ≡ spec.element_of (spec.print (tree_at (forest arena.now) t) env)) }
-    ensures below { IfSome result (λ t. t < bound) }
+    ensures within { IfSome result (λ t. t < size arena.now) }
+    ensures lower { IfSome result (λ t. height (tree_at (forest arena.now) t)
+        ≤ highest (trees_in arena.now.held (forest arena.now) list)) }
 {
     let items = arena.items(list);
     let k = env.pack as usize;
@@ -38,7 +52,7 @@ pub fn form_of(arena: &Arena, env: Env, i: u32) -> Form
     requires within { i < size arena.now }
     ensures value { result ≡ (spec.print (tree_at (forest arena.now) i) env).text.form }
 {
-    match *arena.node(i) {
+    match *node_at(arena, i) {
         Node::Plain(_) => Form::Plain,
         Node::Declaration(_)
         | Node::Pointer(_)
@@ -47,7 +61,7 @@ pub fn form_of(arena: &Arena, env: Env, i: u32) -> Form
         Node::Array(_, _) => Form::Arrayed,
         Node::Function(_) | Node::Encoding(_) => Form::Callable,
         Node::Qualified(t, _) => form_of(arena, env, t),
-        Node::Pack(items) => match element(arena, env, i, items) {
+        Node::Pack(items) => match element(arena, env, items) {
             None => Form::Plain,
             Some(t) => form_of(arena, env, t),
         },
@@ -112,7 +126,7 @@ pub fn has_right(arena: &Arena, env: Env, i: u32) -> bool
     requires within { i < size arena.now }
     ensures value { result ≡ (spec.print (tree_at (forest arena.now) i) env).has_right }
 {
-    match *arena.node(i) {
+    match *node_at(arena, i) {
         Node::Plain(_) => false,
         Node::Declaration(_) => true,
         Node::Array(_, _) | Node::Function(_) | Node::Encoding(_) => true,
@@ -120,7 +134,7 @@ pub fn has_right(arena: &Arena, env: Env, i: u32) -> bool
             arena, env, t,
         ),
         Node::MemberPointer(_, member) => has_right(arena, env, member),
-        Node::Pack(items) => match element(arena, env, i, items) {
+        Node::Pack(items) => match element(arena, env, items) {
             None => false,
             Some(t) => has_right(arena, env, t),
         },
@@ -132,10 +146,10 @@ pub fn is_starred(arena: &Arena, env: Env, i: u32) -> bool
     requires within { i < size arena.now }
     ensures value { result ≡ (spec.print (tree_at (forest arena.now) i) env).star }
 {
-    match *arena.node(i) {
+    match *node_at(arena, i) {
         Node::Plain(_) => false,
         Node::Pointer(_) | Node::MemberPointer(_, _) => true,
-        Node::Pack(items) => match element(arena, env, i, items) {
+        Node::Pack(items) => match element(arena, env, items) {
             None => false,
             Some(t) => is_starred(arena, env, t),
         },
@@ -149,10 +163,10 @@ pub fn is_closed(arena: &Arena, env: Env, i: u32) -> bool
     requires within { i < size arena.now }
     ensures value { result ≡ (spec.print (tree_at (forest arena.now) i) env).closed }
 {
-    match *arena.node(i) {
-        Node::Plain(ref plain) => is_plain_closed(arena, env, i, plain),
+    match *node_at(arena, i) {
+        Node::Plain(ref plain) => is_plain_closed(arena, env, plain),
         Node::Array(t, _) => is_closed(arena, env, t),
-        Node::Pack(items) => match element(arena, env, i, items) {
+        Node::Pack(items) => match element(arena, env, items) {
             None => false,
             Some(t) => is_closed(arena, env, t),
         },
@@ -161,9 +175,8 @@ pub fn is_closed(arena: &Arena, env: Env, i: u32) -> bool
 }
 
 #[cycle(closings)]
-fn is_plain_closed(arena: &Arena, env: Env, bound: u32, plain: &Plain) -> bool
-    requires bound { bound ≤ size arena.now }
-    requires below { IsPlainBelow arena.now.held bound plain.now }
+fn is_plain_closed(arena: &Arena, env: Env, plain: &Plain) -> bool
+    requires below { IsPlainBelow arena.now.held (size arena.now) plain.now }
     ensures value { result ≡ (spec.print (plain_tree arena.now.held (forest arena.now) plain.now) env).closed }
 {
     match *plain {
@@ -195,12 +208,15 @@ pub struct Referent {
 pub fn referent_of(arena: &Arena, env: Env, is_lvalue: bool, i: u32) -> Referent
     requires within { i < size arena.now }
     ensures kind { result.is_lvalue ≡ spec.collapsed is_lvalue (spec.print (tree_at (forest arena.now) i) env).kind }
-    ensures base { Refers result.base i (spec.print (tree_at (forest arena.now) i) env).base
+    ensures base { Refers result.base (spec.print (tree_at (forest arena.now) i) env).base
         (λ j. spec.print (tree_at (forest arena.now) j) env) }
+    ensures within { IfSome result.base (λ j. j < size arena.now) }
+    ensures lower { IfSome result.base (λ j. height (tree_at (forest arena.now) j)
+        ≤ height (tree_at (forest arena.now) i)) }
 {
-    match *arena.node(i) {
+    match *node_at(arena, i) {
         Node::Reference(t, inner) => referent_of(arena, env, is_lvalue || inner, t),
-        Node::Pack(items) => match element(arena, env, i, items) {
+        Node::Pack(items) => match element(arena, env, items) {
             None => Referent {
                 is_lvalue,
                 base: None,
@@ -263,10 +279,10 @@ pub fn ending_of(arena: &Arena, env: Env, i: u32) -> Ending
     requires within { i < size arena.now }
     ensures value { result ≡ (spec.print (tree_at (forest arena.now) i) env).ends }
 {
-    match *arena.node(i) {
-        Node::Plain(ref plain) => ending_of_plain(arena, env, i, plain),
+    match *node_at(arena, i) {
+        Node::Plain(ref plain) => ending_of_plain(arena, env, plain),
         Node::Pointer(t) => ending_of_pointer(arena, t),
-        Node::Pack(items) => match element(arena, env, i, items) {
+        Node::Pack(items) => match element(arena, env, items) {
             None => Ending::Other,
             Some(t) => ending_of(arena, env, t),
         },
@@ -286,16 +302,15 @@ fn ending_of_pointer(arena: &Arena, t: u32) -> Ending
 }
 
 #[cycle(endings)]
-fn ending_of_plain(arena: &Arena, env: Env, bound: u32, plain: &Plain) -> Ending
-    requires bound { bound ≤ size arena.now }
-    requires below { IsPlainBelow arena.now.held bound plain.now }
+fn ending_of_plain(arena: &Arena, env: Env, plain: &Plain) -> Ending
+    requires below { IsPlainBelow arena.now.held (size arena.now) plain.now }
     ensures value { result ≡ (spec.print (plain_tree arena.now.held (forest arena.now) plain.now) env).ends }
 {
     match *plain {
         Plain::Name(text) => ending_of_text(arena.bytes(text)),
         Plain::Leaf(_, _, _) => Ending::Other,
         Plain::StdName(std, is_expanded) => ending_of_text(std_text(env.style, std, is_expanded)),
-        Plain::Phrase(phrase, parts) => ending_of_phrase(arena, env, bound, phrase, parts),
+        Plain::Phrase(phrase, parts) => ending_of_phrase(arena, env, phrase, parts),
         Plain::Scoped(is_friend, _, name) => ending_of_scoped(arena, env, is_friend, name),
         Plain::ScopedName(_, name) => ending_of_text(arena.bytes(name)),
         Plain::WithArgs(_, _) => Ending::Greater,
@@ -303,7 +318,7 @@ fn ending_of_plain(arena: &Arena, env: Env, bound: u32, plain: &Plain) -> Ending
         Plain::InModule(_, owner) => ending_of(arena, env, owner),
         Plain::Data(name) => ending_of(arena, env, name),
         Plain::ObjcProtocol(_, _) => Ending::Greater,
-        Plain::List(items) => ending_of_list(arena, env, bound, arena.items(items)),
+        Plain::List(items) => ending_of_list(arena, env, arena.items(items)),
         Plain::Expansion(t) => ending_of_expansion(arena, env, t),
         Plain::Param(_, _) => Ending::Other,
     }
@@ -318,9 +333,8 @@ fn ending_of_scoped(arena: &Arena, env: Env, _is_friend: bool, name: u32) -> End
 }
 
 #[cycle(endings)]
-fn ending_of_phrase(arena: &Arena, env: Env, bound: u32, phrase: Phrase, parts: Parts) -> Ending
-    requires bound { bound ≤ size arena.now }
-    requires below { IsPartsBelow arena.now.held bound parts }
+fn ending_of_phrase(arena: &Arena, env: Env, phrase: Phrase, parts: Parts) -> Ending
+    requires below { IsPartsBelow arena.now.held (size arena.now) parts }
     ensures value { result ≡ (spec.phrased phrase env (spec.print_parts (parts_in arena.now.held (forest arena.now)
         parts)
         (within env phrase.guard))).ends }
@@ -328,19 +342,13 @@ fn ending_of_phrase(arena: &Arena, env: Env, bound: u32, phrase: Phrase, parts: 
     if !phrase.is_open {
         return Ending::Other;
     }
-    ending_of_parts(
-        arena,
-        env.within(phrase.guard),
-        bound,
-        arena.parts_of(parts),
-    )
+    ending_of_parts(arena, env.within(phrase.guard), arena.parts_of(parts))
 }
 
 // How parts end.
 #[cycle(endings)]
-fn ending_of_parts(arena: &Arena, env: Env, bound: u32, parts: &[Part]) -> Ending
-    requires bound { bound ≤ size arena.now }
-    requires below { AllByRecursion (IsPartBelow arena.now.held bound) parts.now }
+fn ending_of_parts(arena: &Arena, env: Env, parts: &[Part]) -> Ending
+    requires below { AllByRecursion (IsPartBelow arena.now.held (size arena.now)) parts.now }
     ensures value { result ≡ run_ends (spec.print_parts (parts_of arena.now.held (forest arena.now) parts.now)
         env).ends }
 {
@@ -348,13 +356,12 @@ fn ending_of_parts(arena: &Arena, env: Env, bound: u32, parts: &[Part]) -> Endin
     if n == 0 {
         return Ending::Other;
     }
-    ending_of_part(arena, env, bound, parts[n - 1])
+    ending_of_part(arena, env, parts[n - 1])
 }
 
 #[cycle(endings)]
-fn ending_of_part(arena: &Arena, env: Env, bound: u32, part: Part) -> Ending
-    requires bound { bound ≤ size arena.now }
-    requires below { IsPartBelow arena.now.held bound part }
+fn ending_of_part(arena: &Arena, env: Env, part: Part) -> Ending
+    requires below { IsPartBelow arena.now.held (size arena.now) part }
     ensures value { result ≡ ends_of_part arena.now.held (forest arena.now) env part }
 {
     match part {
@@ -385,7 +392,7 @@ fn ending_of_address(arena: &Arena, env: Env, t: u32) -> Ending
     requires within { t < size arena.now }
     ensures value { result ≡ spec.address_ends env (item (tree_at (forest arena.now) t)) }
 {
-    match *arena.node(t) {
+    match *node_at(arena, t) {
         Node::Encoding(ref encoding) => {
             if is_named_address(arena, encoding.name, encoding.cv, encoding.ref_qual) {
                 return ending_of(arena, env, encoding.name);
@@ -409,9 +416,8 @@ fn ending_of_operand(arena: &Arena, env: Env, t: u32) -> Ending
 
 /// Returns how a list ends in GNU's style.
 #[cycle(endings)]
-pub fn ending_of_list(arena: &Arena, env: Env, bound: u32, items: &[u32]) -> Ending
-    requires bound { bound ≤ size arena.now }
-    requires below { AllByRecursion (λ t. t < bound) items.now }
+pub fn ending_of_list(arena: &Arena, env: Env, items: &[u32]) -> Ending
+    requires below { AllByRecursion (λ t. t < size arena.now) items.now }
     ensures value { result ≡ spec.last_ends env (spec.items_of (trees_at (forest arena.now) items.now)) }
 {
     let n = items.len();

@@ -9,6 +9,7 @@ ghost use Rattle.cxx_printer.specs.Symbol as spec;
 
 use crate::env::{Env, Style};
 use crate::print::{print, print_encoding, print_node, print_signature};
+use crate::shapes::node_at;
 use crate::writing::write;
 use cxx_tree::{Arena, Node};
 use growing_text::Text;
@@ -117,8 +118,8 @@ fn print_declaration(arena: &Arena, env: Env, i: u32, out: &mut Text) -> Result<
     ensures prints { Prints result out.old out.new (spec.mode_text modes.Declaration env (tree_at (forest arena.now)
         i)) }
 {
-    match *arena.node(i) {
-        Node::Encoding(ref encoding) => print_encoding(arena, env, i, encoding, out),
+    match *node_at(arena, i) {
+        Node::Encoding(ref encoding) => print_encoding(arena, env, encoding, out),
         _ => print_node(arena, env, i, out),
     }
 }
@@ -146,8 +147,8 @@ fn print_without_return_type(
     requires within { i < size arena.now }
     ensures prints { Prints result out.old out.new (spec.mode_text modes.Signature env (tree_at (forest arena.now) i)) }
 {
-    match *arena.node(i) {
-        Node::Encoding(ref encoding) => print_signature(arena, env, i, encoding, out),
+    match *node_at(arena, i) {
+        Node::Encoding(ref encoding) => print_signature(arena, env, encoding, out),
         _ => print(arena, env, i, out),
     }
 }

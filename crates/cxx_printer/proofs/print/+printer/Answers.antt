@@ -1,9 +1,13 @@
-use Rattle.std.proofs.Common.{length, nat_eq, ℕ, ◌++◌, true, List, sym, subst, ap, ◌∙◌, arith}
+use Rattle.std.proofs.Common.{length, nat_eq, ℕ, ◌≡◌, ◌+◌, ◌*◌, ◌++◌, true, List, sym, subst, ap, ◌∙◌, arith}
+use Rattle.std.specs.List.{AllByRecursion}
 use Rattle.cxx_tree.specs.Stored.{forest, tree_at, trees_at, parts_of}
 use Rattle.cxx_printer.specs.Asked.{item}
 use Rattle.cxx_printer.specs.Printing.{items_of, print, print_parts, sequence, separated, declared, head, repeated}
 use Rattle.cxx_tree.specs.Tree.{named}
-use Rattle.cxx_tree.specs.Stored.{tree_of, plain_tree, text_at, trees_in}
+use Rattle.cxx_tree.specs.Stored.{tree_of, plain_tree, declaration_tree, text_at, trees_in, parts_in, size, IsPartBelow}
+use Rattle.cxx_tree.specs.declared.node.Declaration.{Declaration}
+use Rattle.cxx_tree.specs.declared.node.Part.{Part}
+use Rattle.cxx_printer.proofs.Heights.{run_height, parts_height, item_height, part_falls, phrase_height}
 use Rattle.cxx_printer.specs.Words.{cv_text}
 use Rattle.cxx_printer.proofs.Appended.{prints_then}
 use Rattle.cxx_printer.proofs.Declarators.{whole-qualified, whole-plain-pointer, whole-cv-pointer, whole-plain-reference, whole-cv-reference}
@@ -13,7 +17,7 @@ use Rattle.cxx_printer.specs.Printing.{collapsed}
 use Rattle.cxx_printer.specs.Prints.{Prints}
 use Rattle.cxx_printer.specs.Words.{mark}
 use Rattle.cxx_printer.proofs.Appended.{prints_nothing}
-use Rattle.cxx_printer.proofs.Packs.{refers-none, left-none, right-none}
+use Rattle.cxx_printer.proofs.Packs.{below_at, in_parts, refers-none, left-none, right-none}
 use Rattle.cxx_printer.proofs.print.+printer.Goals as goal
 
 pub print_items-loop-t-preserved : goal.print_items-loop-t-preserved
@@ -94,7 +98,7 @@ print_pointer-returns-in_default-plain t c =
     record {
       prints = subst (λ (l : List ℕ). Prints c.print_plain_pointer.result c.args.out.now c.print_plain_pointer.new.out l)
           (whole-plain-pointer h ts c.in-Plain.plain (tree_at ts c.args.i) (tree_at ts c.args.t) c.args.env c.requires.tree
-          (c.node.ensures.tree ∙ ap (tree_of h ts) c.in-Plain.is) c.in_default-plain.not-ObjcProtocol)
+          (c.node_at.ensures.tree ∙ ap (tree_of h ts) c.in-Plain.is) c.in_default-plain.not-ObjcProtocol)
           c.print_plain_pointer.ensures.prints;
     }
 
@@ -106,7 +110,7 @@ print_pointer-returns-else-not-is_plain t c =
     record {
       prints = subst (λ (l : List ℕ). Prints c.print_cv_pointer.result c.args.out.now c.print_cv_pointer.new.out l)
           (whole-cv-pointer (tree_at ts c.args.i) (tree_at ts c.args.t) (tree_at ts c.in-Qualified.u) c.in-Qualified.cv c.args.env c.requires.tree
-          (c.node.ensures.tree ∙ ap (tree_of h ts) c.in-Qualified.is) (c.is_plain.ensures.value c.if-not-is_plain.false))
+          (c.node_at.ensures.tree ∙ ap (tree_of h ts) c.in-Qualified.is) (c.is_plain.ensures.value c.if-not-is_plain.false))
           c.print_cv_pointer.ensures.prints;
     }
 
@@ -118,7 +122,7 @@ print_reference-returns-in-Plain t c =
     record {
       prints = subst (λ (l : List ℕ). Prints c.print_plain_reference.result c.args.out.now c.print_plain_reference.new.out l)
           (whole-plain-reference h ts c.in-Plain.field-0 (tree_at ts c.args.i) (tree_at ts c.args.t) c.args.is_lvalue c.args.env c.requires.tree
-          (c.node.ensures.tree ∙ ap (tree_of h ts) c.in-Plain.is))
+          (c.node_at.ensures.tree ∙ ap (tree_of h ts) c.in-Plain.is))
           c.print_plain_reference.ensures.prints;
     }
 
@@ -130,7 +134,7 @@ print_reference-returns-else-not-is_plain t c =
     record {
       prints = subst (λ (l : List ℕ). Prints c.print_cv_reference.result c.args.out.now c.print_cv_reference.new.out l)
           (whole-cv-reference (tree_at ts c.args.i) (tree_at ts c.args.t) (tree_at ts c.in-Qualified.u) c.args.is_lvalue c.in-Qualified.cv c.args.env c.requires.tree
-          (c.node.ensures.tree ∙ ap (tree_of h ts) c.in-Qualified.is) (c.is_plain.ensures.value c.if-not-is_plain.false))
+          (c.node_at.ensures.tree ∙ ap (tree_of h ts) c.in-Qualified.is) (c.is_plain.ensures.value c.if-not-is_plain.false))
           c.print_cv_reference.ensures.prints;
     }
 
@@ -181,7 +185,7 @@ print_sides-returns-then-is_one_sided t c =
 pub left_reference-returns-in-None : goal.left_reference-returns-in-None
 left_reference-returns-in-None t c =
     let p = print (tree_at (forest c.args.arena.now) c.args.t) c.args.env in
-    let none = refers-none c.referent_of-referent.result.base c.args.t p.base (λ j. print (tree_at (forest c.args.arena.now) j) c.args.env) c.in-None.is c.referent_of-referent.ensures.base in
+    let none = refers-none c.referent_of-referent.result.base p.base (λ j. print (tree_at (forest c.args.arena.now) j) c.args.env) c.in-None.is c.referent_of-referent.ensures.base in
     let marked = ap mark c.referent_of-referent.ensures.kind in
     record {
       prints = subst (λ (l : List ℕ). Prints c.write_mark.result c.args.out.now c.write_mark.new.out l) (marked ∙ sym (left-none p.base (mark (collapsed c.args.is_lvalue p.kind)) none)) c.write_mark.ensures.prints;
@@ -190,5 +194,64 @@ left_reference-returns-in-None t c =
 pub right_reference-returns-in-None : goal.right_reference-returns-in-None
 right_reference-returns-in-None t c =
     let p = print (tree_at (forest c.args.arena.now) c.args.t) c.args.env in
-    let none = refers-none c.referent_of.result.base c.args.t p.base (λ j. print (tree_at (forest c.args.arena.now) j) c.args.env) c.in-None.is c.referent_of.ensures.base in
+    let none = refers-none c.referent_of.result.base p.base (λ j. print (tree_at (forest c.args.arena.now) j) c.args.env) c.in-None.is c.referent_of.ensures.base in
     record { prints = prints_nothing tt c.args.out.now _ (right-none p.base none) }
+
+pub print_items-print_item-requires : goal.print_items-print_item-requires
+print_items-print_item-requires t c =
+    let s = c.args.arena.now in
+    let is = c.args.items.now in
+    let lower = item_height s is c.loop-t.t-index 0 c.loop-t-test.true in
+    (omega (arith, lower), below_at (size s) is c.loop-t.t-index 0 c.requires.below c.loop-t-test.true)
+
+pub print_sequence-print_node-requires : goal.print_sequence-print_node-requires
+print_sequence-print_node-requires t c =
+    let s = c.args.arena.now in
+    let is = c.args.items.now in
+    let lower = item_height s is c.loop-t.t-index 0 c.loop-t-test.true in
+    (omega (arith, lower), below_at (size s) is c.loop-t.t-index 0 c.requires.below c.loop-t-test.true)
+
+pub print_declared_list-print_declared-requires : goal.print_declared_list-print_declared-requires
+print_declared_list-print_declared-requires t c =
+    let s = c.args.arena.now in
+    let is = c.args.items.now in
+    let lower = item_height s is c.loop-t.t-index 0 c.loop-t-test.true in
+    (omega (arith, lower), below_at (size s) is c.loop-t.t-index 0 c.requires.below c.loop-t-test.true)
+
+pub print_heads-print_next_head-requires : goal.print_heads-print_next_head-requires
+print_heads-print_next_head-requires t c =
+    let s = c.args.arena.now in
+    let is = c.args.items.now in
+    let lower = item_height s is c.loop-t.t-index 0 c.loop-t-test.true in
+    (omega (arith, lower), below_at (size s) is c.loop-t.t-index 0 c.requires.below c.loop-t-test.true)
+
+pub print_parts-print_part-requires : goal.print_parts-print_part-requires
+print_parts-print_part-requires t c =
+    let s = c.args.arena.now in
+    let ps = c.parts_of-list.result.now in
+    let e = c.parts_of-list.ensures.value in
+    let m : t ≡ 64 * parts_height s c.args.parts + 55 = omega arith in (
+      part_falls s ps c.loop-part.part-index _ t c.loop-part-test.true (m ∙ ap (λ (qs : List Part). 64 * run_height s qs + 55) (sym e)),
+      in_parts s.held (size s) ps c.loop-part.part-index _ (subst (AllByRecursion (IsPartBelow s.held (size s))) (sym e) c.requires.parts.1) c.loop-part-test.true,
+    )
+
+pub print_phrase-print_parts-requires : goal.print_phrase-print_parts-requires
+print_phrase-print_parts-requires t c =
+    let s = c.args.arena.now in
+    let same = phrase_height c.args.phrase.is_reversed (parts_in s.held (forest s) c.args.parts) in
+    (omega (arith, same), c.requires.parts)
+
+pub print_phrase-print_guarded-requires : goal.print_phrase-print_guarded-requires
+print_phrase-print_guarded-requires t c =
+    let s = c.args.arena.now in
+    let same = phrase_height c.args.phrase.is_reversed (parts_in s.held (forest s) c.args.parts) in
+    (omega (arith, same), c.requires.parts)
+
+pub left_declaration-returns-in-TemplateParam : goal.left_declaration-returns-in-TemplateParam
+unfolding print declaration_tree
+left_declaration-returns-in-TemplateParam t c =
+    let s = c.args.arena.now in
+    record {
+      prints = subst (λ (d : Declaration). Prints c.left_template.result c.args.out.now c.left_template.new.out ((print (declaration_tree s.held (forest s) d) c.args.env).text.left))
+          (sym c.in-TemplateParam.is) c.left_template.ensures.prints;
+    }

@@ -1,353 +1,355 @@
 use Rattle.std.proofs.Common.{◌≡◌, ◌+◌, ◌-◌, ◌*◌, ◌≤◌, ◌++◌, max, drop, true, length, nat_eq}
+use Rattle.cxx_tree.specs.declared.node.Node.TheVariants as node
 use Rattle.cxx_tree.specs.Stored.{forest, tree_at, trees_at, parts_of}
 use Rattle.cxx_printer.specs.Asked.{item}
 use Rattle.cxx_printer.specs.Printing.{items_of, print_parts, list_from, sequence, separated, declared, head, repeated}
+use Rattle.cxx_printer.proofs.Heights.{height_at, height_of, plain_height, declaration_height, option_height, items_height, list_height, part_height, parts_height, phrase_height_of}
 use Rattle.cxx_printer.proofs.print.+printer.Given as goal
 
 abbrev pub decreases-print : goal.decreases-print
-decreases-print l = 64 * l.i + 40
+decreases-print l = 64 * height_at l.arena.now l.i + 40
 
 abbrev pub decreases-print_node : goal.decreases-print_node
-decreases-print_node l = 64 * l.i + 39
+decreases-print_node l = 64 * height_at l.arena.now l.i + 39
 
 abbrev pub decreases-print_sides : goal.decreases-print_sides
-decreases-print_sides l = 64 * l.i + 34
+decreases-print_sides l = 64 * height_at l.arena.now l.i + 34
 
 abbrev pub decreases-print_left : goal.decreases-print_left
-decreases-print_left l = 64 * l.i + 30
+decreases-print_left l = 64 * height_at l.arena.now l.i + 30
 
 abbrev pub decreases-print_right : goal.decreases-print_right
-decreases-print_right l = 64 * l.i + 30
+decreases-print_right l = 64 * height_at l.arena.now l.i + 30
 
 abbrev pub decreases-print_scope : goal.decreases-print_scope
-decreases-print_scope l = 64 * l.i + 42
+decreases-print_scope l = 64 * height_at l.arena.now l.i + 42
 
 abbrev pub decreases-print_encoding : goal.decreases-print_encoding
-decreases-print_encoding l = 64 * l.bound + 22
+decreases-print_encoding l = 64 * height_of l.arena.now (node.Encoding l.encoding.now) + 22
 
 abbrev pub decreases-left_encoding : goal.decreases-left_encoding
-decreases-left_encoding l = 64 * l.bound + 21
+decreases-left_encoding l = 64 * height_of l.arena.now (node.Encoding l.encoding.now) + 21
 
 abbrev pub decreases-left_ret : goal.decreases-left_ret
-decreases-left_ret l = 64 * l.bound + 5
+decreases-left_ret l = 64 * option_height l.arena.now l.ret + 32
 
 abbrev pub decreases-right_ret : goal.decreases-right_ret
-decreases-right_ret l = 64 * l.bound + 5
+decreases-right_ret l = 64 * option_height l.arena.now l.ret + 32
 
 abbrev pub decreases-right_encoding : goal.decreases-right_encoding
-decreases-right_encoding l = 64 * l.bound + 18
+decreases-right_encoding l = 64 * height_of l.arena.now (node.Encoding l.encoding.now) + 18
 
 abbrev pub decreases-after_signature : goal.decreases-after_signature
-decreases-after_signature l = 64 * l.bound + 17
+decreases-after_signature l = 64 * height_of l.arena.now (node.Encoding l.encoding.now) + 17
 
 abbrev pub decreases-gnu_after_signature : goal.decreases-gnu_after_signature
-decreases-gnu_after_signature l = 64 * l.bound + 17
+decreases-gnu_after_signature l = 64 * height_of l.arena.now (node.Encoding l.encoding.now) + 17
 
 abbrev pub decreases-print_qualifiers : goal.decreases-print_qualifiers
-decreases-print_qualifiers l = 64 * l.bound + 16
+decreases-print_qualifiers l = 64 * height_of l.arena.now (node.Encoding l.encoding.now) + 16
 
 abbrev pub decreases-print_signature : goal.decreases-print_signature
-decreases-print_signature l = 64 * l.bound + 25
+decreases-print_signature l = 64 * height_of l.arena.now (node.Encoding l.encoding.now) + 25
 
 abbrev pub decreases-right_signature : goal.decreases-right_signature
-decreases-right_signature l = 64 * l.bound + 19
+decreases-right_signature l = 64 * height_of l.arena.now (node.Encoding l.encoding.now) + 19
 
 abbrev pub decreases-left_plain : goal.decreases-left_plain
-decreases-left_plain l = 64 * l.bound + 27
+decreases-left_plain l = 64 * plain_height l.arena.now l.plain.now + 27
 
 abbrev pub decreases-scope_plain : goal.decreases-scope_plain
-decreases-scope_plain l = 64 * l.bound + 27
+decreases-scope_plain l = 64 * plain_height l.arena.now l.plain.now + 27
 
 abbrev pub decreases-head_of_plain : goal.decreases-head_of_plain
-decreases-head_of_plain l = 64 * l.bound + 27
+decreases-head_of_plain l = 64 * plain_height l.arena.now l.plain.now + 27
 
 abbrev pub decreases-print_plain : goal.decreases-print_plain
-decreases-print_plain l = 64 * l.bound + 26
+decreases-print_plain l = 64 * plain_height l.arena.now l.plain.now + 26
 
 abbrev pub decreases-left_declaration : goal.decreases-left_declaration
-decreases-left_declaration l = 64 * l.bound + 20
+decreases-left_declaration l = 64 * declaration_height l.arena.now l.declaration.now + 20
 
 abbrev pub decreases-right_declaration : goal.decreases-right_declaration
-decreases-right_declaration l = 64 * l.bound + 20
+decreases-right_declaration l = 64 * declaration_height l.arena.now l.declaration.now + 20
 
 abbrev pub decreases-head_of_declaration : goal.decreases-head_of_declaration
-decreases-head_of_declaration l = 64 * l.bound + 20
+decreases-head_of_declaration l = 64 * declaration_height l.arena.now l.declaration.now + 20
 
 abbrev pub decreases-name_of_declaration : goal.decreases-name_of_declaration
-decreases-name_of_declaration l = 64 * l.bound + 20
+decreases-name_of_declaration l = 64 * declaration_height l.arena.now l.declaration.now + 20
 
 abbrev pub decreases-left_qualified : goal.decreases-left_qualified
-decreases-left_qualified l = 64 * l.t + 35
+decreases-left_qualified l = 64 * height_at l.arena.now l.t + 35
 
 abbrev pub decreases-left_pointer : goal.decreases-left_pointer
-decreases-left_pointer l = 64 * l.t + 37
+decreases-left_pointer l = 64 * height_at l.arena.now l.t + 37
 
 abbrev pub decreases-left_plain_pointer : goal.decreases-left_plain_pointer
-decreases-left_plain_pointer l = 64 * l.t + 36
+decreases-left_plain_pointer l = 64 * height_at l.arena.now l.t + 36
 
 abbrev pub decreases-left_reference : goal.decreases-left_reference
-decreases-left_reference l = 64 * l.t + 37
+decreases-left_reference l = 64 * height_at l.arena.now l.t + 37
 
 abbrev pub decreases-left_base : goal.decreases-left_base
-decreases-left_base l = 64 * l.t + 36
+decreases-left_base l = 64 * height_at l.arena.now l.t + 36
 
 abbrev pub decreases-left_member : goal.decreases-left_member
-decreases-left_member l = 64 * (max l.class l.member) + 41
+decreases-left_member l = 64 * max (height_at l.arena.now l.class) (height_at l.arena.now l.member) + 41
 
 abbrev pub decreases-left_function : goal.decreases-left_function
-decreases-left_function l = 64 * l.ret + 31
+decreases-left_function l = 64 * height_at l.arena.now l.ret + 31
 
 abbrev pub decreases-left_pack : goal.decreases-left_pack
-decreases-left_pack l = 64 * l.bound + 5
+decreases-left_pack l = 64 * list_height l.arena.now l.items + 31
 
 abbrev pub decreases-right_pointer : goal.decreases-right_pointer
-decreases-right_pointer l = 64 * l.t + 32
+decreases-right_pointer l = 64 * height_at l.arena.now l.t + 32
 
 abbrev pub decreases-right_behind : goal.decreases-right_behind
-decreases-right_behind l = 64 * l.t + 31
+decreases-right_behind l = 64 * height_at l.arena.now l.t + 31
 
 abbrev pub decreases-right_reference : goal.decreases-right_reference
-decreases-right_reference l = 64 * l.t + 32
+decreases-right_reference l = 64 * height_at l.arena.now l.t + 32
 
 abbrev pub decreases-right_array : goal.decreases-right_array
-decreases-right_array l = 64 * l.bound + 18
+decreases-right_array l = 64 * max (height_at l.arena.now l.element) (parts_height l.arena.now l.dimension) + 57
 
 abbrev pub decreases-right_bracket : goal.decreases-right_bracket
-decreases-right_bracket l = 64 * l.bound + 17
+decreases-right_bracket l = 64 * max (height_at l.arena.now l.element) (parts_height l.arena.now l.dimension) + 56
 
 abbrev pub decreases-print_joined : goal.decreases-print_joined
-decreases-print_joined l = 64 * l.t + 31
+decreases-print_joined l = 64 * height_at l.arena.now l.t + 31
 
 abbrev pub decreases-right_function : goal.decreases-right_function
-decreases-right_function l = 64 * l.bound + 18
+decreases-right_function l = 64 * height_of l.arena.now (node.Function l.function.now) + 18
 
 abbrev pub decreases-after_params : goal.decreases-after_params
-decreases-after_params l = 64 * l.bound + 17
+decreases-after_params l = 64 * height_of l.arena.now (node.Function l.function.now) + 17
 
 abbrev pub decreases-gnu_after_params : goal.decreases-gnu_after_params
-decreases-gnu_after_params l = 64 * l.bound + 17
+decreases-gnu_after_params l = 64 * height_of l.arena.now (node.Function l.function.now) + 17
 
 abbrev pub decreases-right_pack : goal.decreases-right_pack
-decreases-right_pack l = 64 * l.bound + 5
+decreases-right_pack l = 64 * list_height l.arena.now l.items + 31
 
 abbrev pub decreases-print_phrase : goal.decreases-print_phrase
-decreases-print_phrase l = 64 * l.bound + 16
+decreases-print_phrase l = 64 * phrase_height_of l.arena.now l.phrase l.parts + 57
 
 abbrev pub decreases-print_guarded : goal.decreases-print_guarded
-decreases-print_guarded l = 64 * l.bound + 15
+decreases-print_guarded l = 64 * parts_height l.arena.now l.parts + 56
 
 abbrev pub decreases-print_parts : goal.decreases-print_parts
-decreases-print_parts l = 64 * l.bound + 14
+decreases-print_parts l = 64 * parts_height l.arena.now l.parts + 55
 
 abbrev pub decreases-print_part : goal.decreases-print_part
-decreases-print_part l = 64 * l.bound + 13
+decreases-print_part l = 64 * part_height l.arena.now l.part.now + 54
 
 abbrev pub decreases-print_trees : goal.decreases-print_trees
-decreases-print_trees l = 64 * l.bound + 12
+decreases-print_trees l = 64 * list_height l.arena.now l.list + 53
 
 abbrev pub decreases-print_declarations : goal.decreases-print_declarations
-decreases-print_declarations l = 64 * l.bound + 11
+decreases-print_declarations l = 64 * list_height l.arena.now l.list + 52
 
 abbrev pub decreases-print_parens : goal.decreases-print_parens
-decreases-print_parens l = 64 * l.bound + 10
+decreases-print_parens l = 64 * list_height l.arena.now l.list + 51
 
 abbrev pub decreases-print_angles : goal.decreases-print_angles
-decreases-print_angles l = 64 * l.bound + 10
+decreases-print_angles l = 64 * list_height l.arena.now l.list + 51
 
 abbrev pub decreases-print_declared_list : goal.decreases-print_declared_list
-decreases-print_declared_list l = 64 * l.bound + 9
+decreases-print_declared_list l = 64 * items_height l.arena.now l.items.now + 48
 
 abbrev pub decreases-print_template_head : goal.decreases-print_template_head
-decreases-print_template_head l = 64 * l.bound + 9
+decreases-print_template_head l = 64 * items_height l.arena.now l.items.now + 49
 
 abbrev pub decreases-print_heads : goal.decreases-print_heads
-decreases-print_heads l = 64 * l.bound + 8
+decreases-print_heads l = 64 * items_height l.arena.now l.items.now + 48
 
 abbrev pub decreases-print_list : goal.decreases-print_list
-decreases-print_list l = 64 * l.bound + 8
+decreases-print_list l = 64 * items_height l.arena.now l.items.now + 50
 
 abbrev pub decreases-print_sequence : goal.decreases-print_sequence
-decreases-print_sequence l = 64 * l.bound + 8
+decreases-print_sequence l = 64 * items_height l.arena.now l.items.now + 49
 
 abbrev pub decreases-print_scoped : goal.decreases-print_scoped
-decreases-print_scoped l = 64 * (max l.scope l.name) + 46
+decreases-print_scoped l = 64 * max (height_at l.arena.now l.scope) (height_at l.arena.now l.name) + 46
 
 abbrev pub decreases-print_friend : goal.decreases-print_friend
-decreases-print_friend l = 64 * (max l.scope l.name) + 45
+decreases-print_friend l = 64 * max (height_at l.arena.now l.scope) (height_at l.arena.now l.name) + 45
 
 abbrev pub decreases-print_with_args : goal.decreases-print_with_args
-decreases-print_with_args l = 64 * l.bound + 16
+decreases-print_with_args l = 64 * max (height_at l.arena.now l.name) (list_height l.arena.now l.args) + 58
 
 abbrev pub decreases-print_abi_tag : goal.decreases-print_abi_tag
-decreases-print_abi_tag l = 64 * l.name + 41
+decreases-print_abi_tag l = 64 * height_at l.arena.now l.name + 41
 
 abbrev pub decreases-print_in_module : goal.decreases-print_in_module
-decreases-print_in_module l = 64 * (max l.name l.owner) + 41
+decreases-print_in_module l = 64 * max (height_at l.arena.now l.name) (height_at l.arena.now l.owner) + 41
 
 abbrev pub decreases-print_protocol : goal.decreases-print_protocol
-decreases-print_protocol l = 64 * l.t + 41
+decreases-print_protocol l = 64 * height_at l.arena.now l.t + 41
 
 abbrev pub decreases-print_expansion : goal.decreases-print_expansion
-decreases-print_expansion l = 64 * l.t + 47
+decreases-print_expansion l = 64 * height_at l.arena.now l.t + 47
 
 abbrev pub decreases-print_unexpanded : goal.decreases-print_unexpanded
-decreases-print_unexpanded l = 64 * l.t + 46
+decreases-print_unexpanded l = 64 * height_at l.arena.now l.t + 46
 
 abbrev pub decreases-print_repeated : goal.decreases-print_repeated
-decreases-print_repeated l = 64 * l.t + 46
+decreases-print_repeated l = 64 * height_at l.arena.now l.t + 46
 
 abbrev pub decreases-print_element : goal.decreases-print_element
-decreases-print_element l = 64 * l.t + 45
+decreases-print_element l = 64 * height_at l.arena.now l.t + 45
 
 abbrev pub decreases-print_item : goal.decreases-print_item
-decreases-print_item l = 64 * l.t + 48
+decreases-print_item l = 64 * height_at l.arena.now l.t + 48
 
 abbrev pub decreases-print_item_text : goal.decreases-print_item_text
-decreases-print_item_text l = 64 * l.t + 43
+decreases-print_item_text l = 64 * height_at l.arena.now l.t + 43
 
 abbrev pub decreases-print_operand : goal.decreases-print_operand
-decreases-print_operand l = 64 * l.t + 42
+decreases-print_operand l = 64 * height_at l.arena.now l.t + 42
 
 abbrev pub decreases-print_enclosed : goal.decreases-print_enclosed
-decreases-print_enclosed l = 64 * l.t + 41
+decreases-print_enclosed l = 64 * height_at l.arena.now l.t + 41
 
 abbrev pub decreases-print_tree : goal.decreases-print_tree
-decreases-print_tree l = 64 * l.t + 50
+decreases-print_tree l = 64 * height_at l.arena.now l.t + 50
 
 abbrev pub decreases-print_callee : goal.decreases-print_callee
-decreases-print_callee l = 64 * l.t + 45
+decreases-print_callee l = 64 * height_at l.arena.now l.t + 45
 
 abbrev pub decreases-print_address : goal.decreases-print_address
-decreases-print_address l = 64 * l.t + 45
+decreases-print_address l = 64 * height_at l.arena.now l.t + 45
 
 abbrev pub decreases-print_value : goal.decreases-print_value
-decreases-print_value l = 64 * l.t + 45
+decreases-print_value l = 64 * height_at l.arena.now l.t + 45
 
 abbrev pub decreases-print_argument : goal.decreases-print_argument
-decreases-print_argument l = 64 * l.t + 45
+decreases-print_argument l = 64 * height_at l.arena.now l.t + 45
 
 abbrev pub decreases-print_count : goal.decreases-print_count
-decreases-print_count l = 64 * l.t + 46
+decreases-print_count l = 64 * height_at l.arena.now l.t + 46
 
 abbrev pub decreases-print_sizeof : goal.decreases-print_sizeof
-decreases-print_sizeof l = 64 * l.t + 45
+decreases-print_sizeof l = 64 * height_at l.arena.now l.t + 45
 
 abbrev pub decreases-print_folded : goal.decreases-print_folded
-decreases-print_folded l = 64 * l.t + 48
+decreases-print_folded l = 64 * height_at l.arena.now l.t + 48
 
 abbrev pub decreases-print_declared : goal.decreases-print_declared
-decreases-print_declared l = 64 * l.t + 47
+decreases-print_declared l = 64 * height_at l.arena.now l.t + 47
 
 abbrev pub decreases-print_whole_declaration : goal.decreases-print_whole_declaration
-decreases-print_whole_declaration l = 64 * l.t + 46
+decreases-print_whole_declaration l = 64 * height_at l.arena.now l.t + 46
 
 abbrev pub decreases-print_head : goal.decreases-print_head
-decreases-print_head l = 64 * l.t + 45
+decreases-print_head l = 64 * height_at l.arena.now l.t + 45
 
 abbrev pub decreases-print_pack_head : goal.decreases-print_pack_head
-decreases-print_pack_head l = 64 * l.d + 46
+decreases-print_pack_head l = 64 * height_at l.arena.now l.d + 46
 
 abbrev pub decreases-print_declared_name : goal.decreases-print_declared_name
-decreases-print_declared_name l = 64 * l.t + 45
+decreases-print_declared_name l = 64 * height_at l.arena.now l.t + 45
 
 abbrev pub decreases-print_next_head : goal.decreases-print_next_head
-decreases-print_next_head l = 64 * l.t + 46
+decreases-print_next_head l = 64 * height_at l.arena.now l.t + 46
 
 abbrev pub decreases-left_type_param : goal.decreases-left_type_param
-decreases-left_type_param l = 64 * l.constraint + 41
+decreases-left_type_param l = 64 * height_at l.arena.now l.constraint + 41
 
 abbrev pub decreases-left_non_type : goal.decreases-left_non_type
-decreases-left_non_type l = 64 * l.t + 31
+decreases-left_non_type l = 64 * height_at l.arena.now l.t + 31
 
 abbrev pub decreases-left_template : goal.decreases-left_template
-decreases-left_template l = 64 * l.bound + 17
+decreases-left_template l = 64 * list_height l.arena.now l.list + 52
 
 abbrev pub decreases-left_pack_param : goal.decreases-left_pack_param
-decreases-left_pack_param l = 64 * l.d + 31
+decreases-left_pack_param l = 64 * height_at l.arena.now l.d + 31
 
 abbrev pub decreases-right_non_type : goal.decreases-right_non_type
-decreases-right_non_type l = 64 * (max l.name l.t) + 41
+decreases-right_non_type l = 64 * max (height_at l.arena.now l.name) (height_at l.arena.now l.t) + 41
 
 abbrev pub decreases-right_template : goal.decreases-right_template
-decreases-right_template l = 64 * l.bound + 17
+decreases-right_template l = 64 * max (height_at l.arena.now l.name) (parts_height l.arena.now l.rest) + 56
 
 abbrev pub decreases-print_other : goal.decreases-print_other
-decreases-print_other l = 64 * l.i + 35
+decreases-print_other l = 64 * height_at l.arena.now l.i + 35
 
 abbrev pub decreases-print_type : goal.decreases-print_type
-decreases-print_type l = 64 * l.i + 38
+decreases-print_type l = 64 * height_at l.arena.now l.i + 38
 
 abbrev pub decreases-print_qualified : goal.decreases-print_qualified
-decreases-print_qualified l = 64 * l.i + 37
+decreases-print_qualified l = 64 * height_at l.arena.now l.i + 37
 
 abbrev pub decreases-print_pointer : goal.decreases-print_pointer
-decreases-print_pointer l = 64 * l.i + 37
+decreases-print_pointer l = 64 * height_at l.arena.now l.i + 37
 
 abbrev pub decreases-print_reference : goal.decreases-print_reference
-decreases-print_reference l = 64 * l.i + 37
+decreases-print_reference l = 64 * height_at l.arena.now l.i + 37
 
 abbrev pub decreases-print_plain_pointer : goal.decreases-print_plain_pointer
-decreases-print_plain_pointer l = 64 * l.t + 41
+decreases-print_plain_pointer l = 64 * height_at l.arena.now l.t + 41
 
 abbrev pub decreases-print_cv_pointer : goal.decreases-print_cv_pointer
-decreases-print_cv_pointer l = 64 * l.t + 41
+decreases-print_cv_pointer l = 64 * height_at l.arena.now l.t + 41
 
 abbrev pub decreases-print_plain_reference : goal.decreases-print_plain_reference
-decreases-print_plain_reference l = 64 * l.t + 41
+decreases-print_plain_reference l = 64 * height_at l.arena.now l.t + 41
 
 abbrev pub decreases-print_cv_reference : goal.decreases-print_cv_reference
-decreases-print_cv_reference l = 64 * l.t + 41
+decreases-print_cv_reference l = 64 * height_at l.arena.now l.t + 41
 
 abbrev pub decreases-print_gnu_scope : goal.decreases-print_gnu_scope
-decreases-print_gnu_scope l = 64 * l.i + 41
+decreases-print_gnu_scope l = 64 * height_at l.arena.now l.i + 41
 
 abbrev pub decreases-print_in_scope : goal.decreases-print_in_scope
-decreases-print_in_scope l = 64 * (max l.scope l.name) + 47
+decreases-print_in_scope l = 64 * max (height_at l.arena.now l.scope) (height_at l.arena.now l.name) + 47
 
 abbrev pub decreases-print_scoped_name : goal.decreases-print_scoped_name
-decreases-print_scoped_name l = 64 * l.scope + 46
+decreases-print_scoped_name l = 64 * height_at l.arena.now l.scope + 46
 
 abbrev pub decreases-print_scoped_text : goal.decreases-print_scoped_text
-decreases-print_scoped_text l = 64 * l.scope + 45
+decreases-print_scoped_text l = 64 * height_at l.arena.now l.scope + 45
 
 abbrev pub decreases-print_path : goal.decreases-print_path
-decreases-print_path l = 64 * l.scope + 44
+decreases-print_path l = 64 * height_at l.arena.now l.scope + 44
 
 abbrev pub decreases-print_behind_scope : goal.decreases-print_behind_scope
-decreases-print_behind_scope l = 64 * l.scope + 43
+decreases-print_behind_scope l = 64 * height_at l.arena.now l.scope + 43
 
 abbrev pub decreases-print_items : goal.decreases-print_items
-decreases-print_items l = 64 * l.bound + 7
+decreases-print_items l = 64 * items_height l.arena.now l.items.now + 49
 
 abbrev pub decreases-print_params : goal.decreases-print_params
-decreases-print_params l = 64 * l.bound + 9
+decreases-print_params l = 64 * list_height l.arena.now l.list + 50
 
 abbrev pub decreases-print_args : goal.decreases-print_args
-decreases-print_args l = 64 * l.bound + 9
+decreases-print_args l = 64 * list_height l.arena.now l.list + 50
 
 abbrev pub decreases-print_rest : goal.decreases-print_rest
-decreases-print_rest l = 64 * l.bound + 15
+decreases-print_rest l = 64 * parts_height l.arena.now l.parts + 56
 
 abbrev pub decreases-print_scoped_item : goal.decreases-print_scoped_item
-decreases-print_scoped_item l = 64 * l.t + 46
+decreases-print_scoped_item l = 64 * height_at l.arena.now l.t + 46
 
 abbrev pub decreases-print_args_item : goal.decreases-print_args_item
-decreases-print_args_item l = 64 * l.t + 46
+decreases-print_args_item l = 64 * height_at l.arena.now l.t + 46
 
 abbrev pub decreases-print_pointer_item : goal.decreases-print_pointer_item
-decreases-print_pointer_item l = 64 * l.t + 46
+decreases-print_pointer_item l = 64 * height_at l.arena.now l.t + 46
 
 abbrev pub decreases-print_reference_item : goal.decreases-print_reference_item
-decreases-print_reference_item l = 64 * l.t + 46
+decreases-print_reference_item l = 64 * height_at l.arena.now l.t + 46
 
 abbrev pub decreases-print_plain_item : goal.decreases-print_plain_item
-decreases-print_plain_item l = 64 * l.t + 47
+decreases-print_plain_item l = 64 * height_at l.arena.now l.t + 47
 
 abbrev pub decreases-print_type_item : goal.decreases-print_type_item
-decreases-print_type_item l = 64 * l.t + 47
+decreases-print_type_item l = 64 * height_at l.arena.now l.t + 47
 
 abbrev pub decreases-print_any_item : goal.decreases-print_any_item
-decreases-print_any_item l = 64 * l.t + 44
+decreases-print_any_item l = 64 * height_at l.arena.now l.t + 44
 
 abbrev pub invariant-print_repeated-loop-k : goal.invariant-print_repeated-loop-k
 invariant-print_repeated-loop-k l =

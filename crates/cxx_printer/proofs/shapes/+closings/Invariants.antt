@@ -1,11 +1,12 @@
 use Rattle.std.proofs.Common.{◌+◌, ◌*◌}
+use Rattle.cxx_printer.proofs.Heights.{height_at, plain_height}
 use Rattle.cxx_printer.proofs.shapes.+closings.Given as goal
 
 abbrev pub decreases-is_closed : goal.decreases-is_closed
-decreases-is_closed l = 4 * l.i + 1
+decreases-is_closed l = 4 * height_at l.arena.now l.i + 1
 
 abbrev pub decreases-is_plain_closed : goal.decreases-is_plain_closed
-decreases-is_plain_closed l = 4 * l.bound
+decreases-is_plain_closed l = 4 * plain_height l.arena.now l.plain.now
 
 abbrev pub decreases-is_scoped_closed : goal.decreases-is_scoped_closed
-decreases-is_scoped_closed l = 4 * l.name + 2
+decreases-is_scoped_closed l = 4 * height_at l.arena.now l.name + 2
