@@ -5,9 +5,10 @@ has one check for each edit, which for the mutants of this repository takes many
 or check more than is asked. The functions inside of `rt` do what is wanted.
 
 What breaks: these are no interface, so another release of the toolchain may rename them. Then `load` names what it
-misses and ends with status 1. Of the gate these steps fail: `tools/mutants`, `tests/library/lent`, and in
-`tests/library/library` the step 'the static library'. `tools/try` runs `rt try` as it is, which takes twice the time.
-The proofs don't depend on this file: `rt ci` makes them, and it tries the mutants that are files `.edit`.
+misses and ends with status 1. Of the gate these steps fail: `tools/mutants`, `tests/corpus/computed`,
+`tests/library/lent`, and in `tests/library/library` the step 'the static library'. `tools/try` runs `rt try` as it is,
+which takes twice the time. The proofs don't depend on this file: `rt ci` makes them, and it tries the mutants that are
+files `.edit`.
 """
 import importlib.machinery
 import importlib.util
