@@ -118,18 +118,18 @@ pub source_ok : (p : Productions) (q : Named) (s after : State) (t : Tree) → b
     → next_source q.tree s ≡ Some (t, after) → parse_next p q s ≡ Some (with_info (record q.info { ends_with_args = false }) t, after)
 source_ok p q s after t b read = source_next p q s b ∙ rw read refl
 
--- the name after `CI` stays
-pub inherited_stays : (a b : Store) (o : Option ℕ) → KeepsNodes a b → IfSome o (IsNode a)
+-- no node or one stays
+pub option_stays : (a b : Store) (o : Option ℕ) → KeepsNodes a b → IfSome o (IsNode a)
     → IfSome o (IsNode b) × (option_map (stands b) o ≡ option_map (stands a) o)
 unfolding stands
-inherited_stays a b None g h = (tt, refl)
-inherited_stays a b (Some k) g h = (omega (arith, g.longer, h), ap (λ (t : Tree). Some t) (g.same k h))
+option_stays a b None g h = (tt, refl)
+option_stays a b (Some k) g h = (omega (arith, g.longer, h), ap (λ (t : Tree). Some t) (g.same k h))
 
 -- what was learned of a name stays
 pub named_stays : (a b : Store) (n : read.Named) → KeepsNodes a b → IsNamed a n → named_at b n ≡ named_at a n
 unfolding named_at stands
 named_stays a b n g h =
-    let tree = g.same n.node h.0 in let inherited = (inherited_stays a b n.info.inherited g h.1).1 in cc
+    let tree = g.same n.node h.0 in let inherited = (option_stays a b n.info.inherited g h.1).1 in cc
 
 after_tree : {A : Type 0} (f : Tree → State → Option (A × State)) (o : Option (Tree × State)) (g : A → State → Option (Named × State))
     → (o >>= λ t. f t.0 t.1 >>= λ c. g c.0 c.1) ≡ ((o >>= λ t. f t.0 t.1) >>= λ c. g c.0 c.1)

@@ -13,7 +13,7 @@ use Rattle.cxx_tree.proofs.Grown.{nodes-taken, saved-taken}
 use Rattle.cxx_reader.proofs.Kept.{Keeps-trans, Moves-skip, Moves-trans, Moves-after}
 use Rattle.cxx_reader.proofs.Turns.{ListSoFar, items_more, items_end, components_more, components_end}
 use Rattle.cxx_reader.proofs.Lists.{trees_behind, list_start, none-below, one-more, one-more-below, close_moves, pushed, KeepsFront-same, KeepsFront-push, items_stop, components_stop, close_gives}
-use Rattle.cxx_reader.proofs.Heads.{source_component, source_stop, source_ok, inherited_stays}
+use Rattle.cxx_reader.proofs.Heads.{source_component, source_stop, source_ok, option_stays}
 use Rattle.cxx_reader.proofs.+reader.Goals as goal
 
 pub items::read_items-loop-items-init : goal.items::read_items-loop-items-init
@@ -103,7 +103,7 @@ names::read_components-loop-reader-preserved-then-begins_source t c =
     let read = c.in-Ok.ensures {u = tt} in
     let new = c.read_next_source.new.self in
     let begins = sym c.begins_source.ensures.value ∙ c.if-begins_source.true in
-    let stays = inherited_stays old.arena new.arena last.info.inherited read.moves.keeps.grows so_far.named.1 in
+    let stays = option_stays old.arena new.arena last.info.inherited read.moves.keeps.grows so_far.named.1 in
     let parsed = source_ok (productions c.args.depth) (named_at old.arena last) (state old) (state new) (stands new.arena c.in-Ok.value) begins read.reads.1 in
     record {
       reads = components_more so_far.reads (search rules) (rw stays.1 parsed) read.moves.takes;
