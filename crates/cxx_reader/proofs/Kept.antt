@@ -2,9 +2,9 @@
 use Rattle.std.proofs.Common.{ℕ, ◌≡◌, ◌<◌, ◌≤◌, List, [], ◌∷◌, ◌++◌, length, map, take, refl, sym, ap, ◌∙◌, arith, subst, Result, Ok, Err}
 use Rattle.std.specs.List.{AllByRecursion}
 use Rattle.cxx_tree.specs.Tree.{Tree}
-use Rattle.cxx_tree.specs.Grows.{Grows, Makes}
+use Rattle.cxx_tree.specs.Grows.{Makes}
 use Rattle.cxx_tree.specs.Kept.{KeepsNodes, SameNodes, IsNode, taken}
-use Rattle.cxx_tree.specs.Stored.{Store, forest, size, tree_at, stands, saved_trees}
+use Rattle.cxx_tree.specs.Stored.{Store, forest, tree_at, stands, saved_trees}
 use Rattle.cxx_tree.specs.declared.arena.Stop.{Stop}
 use Rattle.cxx_tree.specs.declared.arena.Stop.TheVariants.{Unreadable, Memory}
 use Rattle.cxx_grammar.specs.State as grammar

@@ -6,14 +6,14 @@ use Rattle.cxx_tree.specs.Tree.{Tree}
 use Rattle.cxx_tree.specs.Kept.{KeepsNodes, SameNodes, IsNode}
 use Rattle.cxx_tree.specs.declared.node.List as handle
 use Rattle.std.specs.Prelude.{IfOk, OnOk, IsOkUnless}
-use Rattle.cxx_tree.specs.Stored.{Store, forest, size, tree_at, list_at, IsListBelow}
+use Rattle.cxx_tree.specs.Stored.{Store, size, list_at, IsListBelow}
 use Rattle.cxx_tree.proofs.Grown.{nodes-same, nodes-trans, saved-same}
 use Rattle.cxx_grammar.specs.State.{State, Named, Parses, skip}
 use Rattle.cxx_grammar.specs.Cases.{is_args_end, is_encoding_end}
 use Rattle.cxx_reader.specs.declared.reader.Reader.{Reader}
 use Rattle.cxx_tree.specs.declared.arena.Stop.{Stop}
 use Rattle.cxx_tree.specs.declared.arena.Stop.TheVariants.{Unreadable, Memory}
-use Rattle.cxx_tree.specs.Stored.{Store, stands, saved_trees}
+use Rattle.cxx_tree.specs.Stored.{Store, stands}
 use Rattle.cxx_grammar.specs.Grammar.{Productions, parse_list, parse_args, parse_next, parse_some_params}
 use Rattle.cxx_reader.specs.Outcome.{state, Keeps, Moves, KeepsFront, Gives, GivesList, GivesNamed, GivesFrom, list_trees}
 use Rattle.cxx_tree.proofs.Forest.{below-more, below-push, same-forest}

@@ -1,7 +1,6 @@
-use Rattle.std.proofs.Common.{◌≡◌, ◌-◌, ◌∙◌, Option, Some, refl, sym, subst, arith}
-use Rattle.cxx_tree.specs.Tree.{Tree}
+use Rattle.std.proofs.Common.{◌≡◌, ◌∙◌, refl, sym, subst, arith}
 use Rattle.cxx_tree.specs.Stored.{stands}
-use Rattle.cxx_grammar.specs.State.{State, Named}
+use Rattle.cxx_grammar.specs.State.{Named}
 use Rattle.cxx_grammar.specs.Binds.{bind_encoding}
 use Rattle.cxx_grammar.specs.Grammar.{productions}
 use Rattle.cxx_reader.specs.Outcome.{state, Gives, named_at}

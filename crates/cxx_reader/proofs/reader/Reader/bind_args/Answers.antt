@@ -1,7 +1,7 @@
-use Rattle.std.proofs.Common.{ℕ, ◌≡◌, ◌+◌, ◌<◌, List, [], ◌∷◌, ◌++◌, ◌∙◌, length, map, drop, take, sym, ap, subst, arith, Some, Ok, length-append}
+use Rattle.std.proofs.Common.{ℕ, ◌≡◌, ◌+◌, List, [], ◌∷◌, ◌++◌, ◌∙◌, length, map, drop, take, sym, ap, subst, arith, Some, Ok, length-append}
 use Rattle.cxx_tree.specs.Tree.{Tree}
-use Rattle.cxx_tree.specs.Kept.{KeepsNodes, IsNode}
-use Rattle.cxx_tree.specs.Stored.{Store, forest, size, tree_at, trees_from_list}
+use Rattle.cxx_tree.specs.Kept.{KeepsNodes}
+use Rattle.cxx_tree.specs.Stored.{trees_from_list}
 use Rattle.cxx_tree.proofs.Forest.{same-forest}
 use Rattle.cxx_tree.proofs.Grown.{nodes-trans, nodes-same, saved-same}
 use Rattle.cxx_grammar.specs.State.{State}

@@ -1,8 +1,7 @@
-use Rattle.std.proofs.Common.{◌∙◌, sym, ap, subst, Some}
+use Rattle.std.proofs.Common.{sym, subst, Some}
 use Rattle.cxx_tree.specs.Tree.{Tree}
 use Rattle.cxx_tree.specs.Measure.{measure}
-use Rattle.cxx_tree.specs.Stored.{Store, forest, tree_at, tree_of, plain_tree}
-use Rattle.cxx_grammar.specs.Bases.{expand}
+use Rattle.cxx_tree.specs.Stored.{tree_of, plain_tree}
 use Rattle.cxx_tree.specs.Stored.{stands}
 use Rattle.cxx_reader.specs.Outcome.{state, Gives}
 use Rattle.cxx_reader.proofs.reader.Reader.expanded.Goals as goal

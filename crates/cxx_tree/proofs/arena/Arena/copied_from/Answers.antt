@@ -1,5 +1,5 @@
 use Rattle.std.proofs.lemmas.List.{length-drop}
-use Rattle.std.proofs.Common.{ℕ, ◌<◌, ◌-◌, drop, take, length-take, refl, sym, subst, ap, ◌∙◌, arith, length, length-append}
+use Rattle.std.proofs.Common.{ℕ, ◌<◌, ◌-◌, drop, take, length-take, refl, subst, ap, ◌∙◌, arith, length, length-append}
 use Rattle.std.specs.List.{AllByRecursion}
 use Rattle.cxx_tree.specs.declared.node.Part.{Part}
 use Rattle.cxx_tree.specs.Stored.{Store, Held, Extends, forest, size}

@@ -1,4 +1,4 @@
-use Rattle.std.proofs.Common.{ap, length, List, ℕ, sym, subst, ◌∙◌, arith}
+use Rattle.std.proofs.Common.{ap, length, sym, subst, ◌∙◌}
 use Rattle.cxx_tree.specs.Grows.{Makes}
 use Rattle.cxx_tree.specs.Stored.{forest, tree_at, list_at}
 use Rattle.cxx_tree.proofs.Choices.{conversion-others}

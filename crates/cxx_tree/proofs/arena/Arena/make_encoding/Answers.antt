@@ -1,4 +1,4 @@
-use Rattle.std.proofs.Common.{ℕ, ◌∙◌, sym, subst, arith}
+use Rattle.std.proofs.Common.{ℕ, sym, subst, arith}
 use Rattle.cxx_tree.specs.Stored.{forest, size, IsBelow, IsDeclarationBelow, IsPartsBelow, tree_of, declaration_tree}
 use Rattle.cxx_tree.proofs.Grown.{Makes-after}
 use Rattle.cxx_tree.proofs.Making.{at_most_one-at}

@@ -1,8 +1,7 @@
-use Rattle.std.proofs.Common.{ℕ, ◌∙◌, sym, subst, arith}
+use Rattle.std.proofs.Common.{ℕ, sym, subst, arith}
 use Rattle.cxx_tree.specs.Stored.{forest, size, IsBelow, IsDeclarationBelow, IsPartsBelow, tree_of, declaration_tree}
 use Rattle.cxx_tree.proofs.Grown.{Makes-after}
-use Rattle.cxx_tree.proofs.Making.{at_most_one-at}
-use Rattle.cxx_tree.proofs.Forest.{IsOptionBelow-more, trees_in-more}
+use Rattle.cxx_tree.proofs.Forest.{trees_in-more}
 use Rattle.cxx_tree.proofs.Replaced.{list_below-grows}
 use Rattle.cxx_tree.proofs.arena.Arena.make_template_param.Goals as goal
 
