@@ -2,6 +2,7 @@
 use Rattle.std.proofs.Common.{ℕ, ◌≡◌, Bool, true, false, List, [], ◌++◌, codes, refl, sym, ap, ◌∙◌, append_assoc, Option, None, if◌then◌else◌}
 use Rattle.std.proofs.lemmas.List.{append-nil}
 use Rattle.cxx_tree.specs.declared.kinds.Cv.{Cv}
+use Rattle.cxx_tree.specs.declared.kinds.RefQual.{RefQual}
 use Rattle.cxx_tree.specs.declared.node.Plain.{Plain}
 use Rattle.cxx_tree.specs.declared.node.Plain.TheVariants as plain
 use Rattle.cxx_tree.specs.declared.node.Text as stored
@@ -11,8 +12,8 @@ use Rattle.cxx_printer.specs.Asked.{IsLeft, OneSided}
 use Rattle.cxx_printer.specs.declared.env.Env.{Env}
 use Rattle.cxx_printer.specs.declared.words.Form.{Form}
 use Rattle.cxx_printer.specs.Heads.{protocol_of}
-use Rattle.cxx_printer.specs.Printing.{Text, print, whole, right_behind, blank_unless, with_cv, pointed, refers, reference_to, collapsed}
-use Rattle.cxx_printer.specs.Words.{cv_text, mark, opened, closed}
+use Rattle.cxx_printer.specs.Printing.{Text, Item, Run, parens, qualifiers, signature_right, print, whole, right_behind, blank_unless, with_cv, pointed, refers, reference_to, collapsed}
+use Rattle.cxx_printer.specs.Words.{is_llvm, cv_text, mark, opened, closed}
 use Rattle.cxx_printer.proofs.Packs.{closed_nothing, plain-one_sided, qualified-one_sided}
 
 one-side : (x : Text) (c : Bool) → IsLeft x → x.left ++ right_behind c x ≡ x.left
@@ -114,3 +115,11 @@ pub whole-plain-pointer : (h : Held) (ts : List Tree) (p : Plain) (t u : Tree) (
     → whole (print u env) ++ codes "*" ≡ whole (print t env)
 whole-plain-pointer h ts p t u env e f other =
     whole-pointer t u env e (ap protocol_of f ∙ plain-no_protocol h ts p other) (plain-one_sided h ts p u f)
+
+-- a function without its return type
+same-sides : (b : Bool) (l : List ℕ) → (if b then l else l) ≡ l
+same-sides true l = refl
+same-sides false l = refl
+
+pub signature-alone : (env : Env) (params : List Item) (cv : Cv) (ref : RefQual) (rest : Run) → signature_right env [] params cv ref rest ≡ parens env params ++ qualifiers cv ref rest.text
+signature-alone env params cv ref rest = ap (λ (l : List ℕ). parens env params ++ l) (same-sides (is_llvm env) (qualifiers cv ref rest.text))

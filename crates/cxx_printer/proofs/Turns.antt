@@ -19,6 +19,10 @@ so_far_step a b new all rest x more h e k =
 pub so_far_end : (a new all rest : List ℕ) → a ++ all ≡ new ++ rest → rest ≡ [] → new ≡ a ++ all
 so_far_end a new all rest h e = sym (h ∙ ap (λ (l : List ℕ). new ++ l) e ∙ append-nil new)
 
+-- two texts in a turn
+pub added_twice : (a b c x y : List ℕ) → b ≡ a ++ x → c ≡ b ++ y → c ≡ a ++ (x ++ y)
+added_twice a b c x y h k = k ∙ ap (λ (l : List ℕ). l ++ y) h ∙ append_assoc a x y
+
 pub list_step : (ts : List Tree) (is : List ℕ) (env : Env) (first : Bool) (k d : ℕ) → k < length is →
     list_from first env (items_of (trees_at ts (drop k is))) ≡ item_behind first (item_text env (item (tree_at ts (get_or is k d)))) ++ list_from (is_still_first first (item_text env (item (tree_at ts (get_or is k d))))) env (items_of (trees_at ts (drop (k + 1) is)))
 unfolding print list_from
@@ -92,13 +96,6 @@ parts_step h ts (p ∷ ps) env (suc k) d b =
     let e : suc k + 1 ≡ suc (k + 1) = omega arith in
     parts_step h ts ps env k d (omega arith)
     ∙ ap (λ (j : ℕ). text_of_part h ts env (get_or ps k d) ++ (print_parts (parts_of h ts (drop j (p ∷ ps))) env).text) (sym e)
-
-pub parts_end : (h : Held) (ts : List Tree) (ps : List Part) (env : Env) (k : ℕ) → length ps ≤ k → (print_parts (parts_of h ts (drop k ps)) env).text ≡ []
-unfolding print
-parts_end h ts [] env zero b = refl
-parts_end h ts [] env (suc k) b = refl
-parts_end h ts (p ∷ ps) env zero b = absurd (omega arith)
-parts_end h ts (p ∷ ps) env (suc k) b = parts_end h ts ps env k (omega arith)
 
 -- a tree with one side
 pub whole-left : (t : Tree) (env : Env) → OneSided t → whole (print t env) ≡ (print t env).text.left

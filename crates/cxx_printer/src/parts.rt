@@ -11,7 +11,7 @@ ghost use Rattle.cxx_printer.specs.Printing as printing;
 ghost use Rattle.cxx_printer.specs.Parts as spec;
 
 use crate::env::{Env, Style};
-use crate::print::{print, print_node, print_parens, print_scope};
+use crate::print::{print, print_parens, print_scope};
 use crate::shapes::node_at;
 use crate::writing::{write, write_text};
 use cxx_tree::{Arena, Node, Plain};
@@ -116,9 +116,9 @@ fn print_base(arena: &Arena, env: Env, i: u32, out: &mut Text) -> Result<(), All
             Plain::WithArgs(name, _) => print_base(arena, env, name, out),
             Plain::Scoped(_, _, name) => print_base(arena, env, name, out),
             Plain::ScopedName(_, ref name) => write_text(arena, name, out),
-            _ => print_node(arena, env, i, out),
+            _ => print(arena, env, i, out),
         },
-        _ => print_node(arena, env, i, out),
+        _ => print(arena, env, i, out),
     }
 }
 

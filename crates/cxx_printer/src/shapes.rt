@@ -94,33 +94,6 @@ pub fn is_plain(arena: &Arena, i: u32) -> bool
     }
 }
 
-// Returns the text of a name. Of another node it returns nothing.
-#[inline(always)]
-fn name_of(arena: &Arena, i: u32) -> Option<&[u8]>
-    requires within { i < size arena.now }
-    ensures value { IfSome result (λ w. tree_at (forest arena.now) i ≡ named w.now) }
-{
-    match *arena.node(i) {
-        Node::Plain(Plain::Name(text)) => Some(arena.bytes(text)),
-        _ => None,
-    }
-}
-
-/// Returns the texts of a name and of the name that is its scope. Of another node it returns nothing.
-#[inline(always)]
-pub fn two_names(arena: &Arena, i: u32) -> Option<(&[u8], &[u8])>
-    requires within { i < size arena.now }
-    ensures value { IfSome result (λ p. tree_at (forest arena.now) i ≡ scoped false (named p.0.now) (named p.1.now)) }
-{
-    match *arena.node(i) {
-        Node::Plain(Plain::ScopedName(scope, name)) => match name_of(arena, scope) {
-            Some(first) => Some((first, arena.bytes(name))),
-            None => None,
-        },
-        _ => None,
-    }
-}
-
 /// Returns whether a tree has a right side.
 pub fn has_right(arena: &Arena, env: Env, i: u32) -> bool
     requires within { i < size arena.now }
@@ -182,18 +155,10 @@ fn is_plain_closed(arena: &Arena, env: Env, plain: &Plain) -> bool
     match *plain {
         Plain::Phrase(phrase, _) => env.is_llvm() && phrase.is_closed,
         Plain::AbiTag(_, _) => env.is_llvm(),
-        Plain::Scoped(is_friend, _, name) => is_scoped_closed(arena, env, is_friend, name),
+        Plain::Scoped(_, _, name) => is_closed(arena, env, name),
         Plain::Data(name) => is_closed(arena, env, name),
         _ => false,
     }
-}
-
-#[cycle(closings)]
-fn is_scoped_closed(arena: &Arena, env: Env, _is_friend: bool, name: u32) -> bool
-    requires within { name < size arena.now }
-    ensures value { result ≡ (spec.print (tree_at (forest arena.now) name) env).closed }
-{
-    is_closed(arena, env, name)
 }
 
 /// What a reference refers to in the end, if it isn't past the end of a pack, and the reference that all on the way
@@ -311,7 +276,7 @@ fn ending_of_plain(arena: &Arena, env: Env, plain: &Plain) -> Ending
         Plain::Leaf(_, _, _) => Ending::Other,
         Plain::StdName(std, is_expanded) => ending_of_text(std_text(env.style, std, is_expanded)),
         Plain::Phrase(phrase, parts) => ending_of_phrase(arena, env, phrase, parts),
-        Plain::Scoped(is_friend, _, name) => ending_of_scoped(arena, env, is_friend, name),
+        Plain::Scoped(_, _, name) => ending_of(arena, env, name),
         Plain::ScopedName(_, name) => ending_of_text(arena.bytes(name)),
         Plain::WithArgs(_, _) => Ending::Greater,
         Plain::AbiTag(_, _) => Ending::Other,
@@ -322,14 +287,6 @@ fn ending_of_plain(arena: &Arena, env: Env, plain: &Plain) -> Ending
         Plain::Expansion(t) => ending_of_expansion(arena, env, t),
         Plain::Param(_, _) => Ending::Other,
     }
-}
-
-#[cycle(endings)]
-fn ending_of_scoped(arena: &Arena, env: Env, _is_friend: bool, name: u32) -> Ending
-    requires within { name < size arena.now }
-    ensures value { result ≡ (spec.print (tree_at (forest arena.now) name) env).ends }
-{
-    ending_of(arena, env, name)
 }
 
 #[cycle(endings)]

@@ -8,7 +8,7 @@ ghost use Rattle.cxx_printer.specs.Prints.{Prints};
 ghost use Rattle.cxx_printer.specs.Symbol as spec;
 
 use crate::env::{Env, Style};
-use crate::print::{print, print_encoding, print_node, print_signature};
+use crate::print::{print, print_encoding, print_signature};
 use crate::shapes::node_at;
 use crate::writing::write;
 use cxx_tree::{Arena, Node};
@@ -52,29 +52,8 @@ pub fn print_symbol(
     print_symbol_in(arena, Env::top(style), symbol, mode, out)
 }
 
+#[inline(always)]
 fn print_symbol_in(
-    arena: &Arena,
-    env: Env,
-    symbol: Symbol,
-    mode: Mode,
-    out: &mut Text,
-) -> Result<(), AllocError>
-    requires within { symbol.tree < size arena.now }
-    requires suffix { IfSome symbol.suffix (IsText arena.now.held) }
-    ensures prints { Prints result out.old out.new (spec.symbol_in env mode (spec.symbol_at arena.now symbol)) }
-{
-    if symbol.is_block {
-        return print_around(arena, env, symbol, mode, out);
-    }
-    match symbol.suffix {
-        None => print_mode(arena, env, symbol.tree, mode, out),
-        Some(_) => print_around(arena, env, symbol, mode, out),
-    }
-}
-
-// Appends what a symbol prints that something stands around.
-#[inline(never)]
-fn print_around(
     arena: &Arena,
     env: Env,
     symbol: Symbol,
@@ -120,7 +99,7 @@ fn print_declaration(arena: &Arena, env: Env, i: u32, out: &mut Text) -> Result<
 {
     match *node_at(arena, i) {
         Node::Encoding(ref encoding) => print_encoding(arena, env, encoding, out),
-        _ => print_node(arena, env, i, out),
+        _ => print(arena, env, i, out),
     }
 }
 

@@ -43,21 +43,13 @@ pub fn write_behind(out: &mut Text, word: &[u8], text: &[u8]) -> Result<(), Allo
 
 /// Appends two texts with `::` between them.
 #[inline(always)]
-#[tactic(auto, using(crate::proofs::Appended::prints_tried))]
+#[tactic(auto, using(crate::proofs::Appended::prints, crate::proofs::Appended::prints_tried))]
 pub fn write_joined(scope: &[u8], name: &[u8], out: &mut Text) -> Result<(), AllocError>
     ensures prints { Prints result out.old out.new (scope.now ++ (codes "::" ++ name.now)) }
 {
     if out.try_joined(scope, b"::", name) {
         return Ok(());
     }
-    write_long_joined(scope, name, out)
-}
-
-// Appends two texts of any length with `::` between them.
-#[inline(never)]
-fn write_long_joined(scope: &[u8], name: &[u8], out: &mut Text) -> Result<(), AllocError>
-    ensures prints { Prints result out.old out.new (scope.now ++ (codes "::" ++ name.now)) }
-{
     tri!(write(out, scope));
     write_behind(out, b"::", name)
 }

@@ -1,33 +1,196 @@
-use Rattle.std.proofs.Common.{length, nat_eq, ℕ, ◌≡◌, ◌+◌, ◌*◌, ◌++◌, true, List, sym, subst, ap, ◌∙◌, arith}
+use Rattle.std.proofs.Common.{codes, length, nat_eq, ℕ, ◌≡◌, ◌+◌, ◌*◌, ◌++◌, true, List, sym, subst, ap, ◌∙◌, arith}
 use Rattle.std.specs.List.{AllByRecursion}
 use Rattle.cxx_tree.specs.Stored.{forest, tree_at, trees_at, parts_of}
 use Rattle.cxx_printer.specs.Asked.{item}
-use Rattle.cxx_printer.specs.Printing.{items_of, print, print_parts, sequence, separated, declared, head, repeated}
+use Rattle.cxx_printer.specs.Printing.{items_of, print, print_parts, whole, sequence, separated, declared, head, repeated}
 use Rattle.cxx_tree.specs.Tree.{named}
-use Rattle.cxx_tree.specs.Stored.{tree_of, plain_tree, declaration_tree, text_at, trees_in, parts_in, size, IsPartBelow}
+use Rattle.cxx_tree.specs.Measure.{measure, measure_parts}
+use Rattle.cxx_tree.specs.Stored.{tree_of, plain_tree, declaration_tree, IsPlainBelow, text_at, trees_in, parts_in, size, IsPartBelow}
 use Rattle.cxx_tree.specs.declared.node.Declaration.{Declaration}
 use Rattle.cxx_tree.specs.declared.node.Part.{Part}
-use Rattle.cxx_printer.proofs.Heights.{run_height, parts_height, item_height, part_falls, phrase_height}
+use Rattle.cxx_printer.proofs.Heights.{plain_height, run_height, parts_height, item_height, part_falls, phrase_height}
 use Rattle.cxx_printer.specs.Words.{cv_text}
 use Rattle.cxx_printer.proofs.Appended.{prints_then}
-use Rattle.cxx_printer.proofs.Declarators.{whole-qualified, whole-plain-pointer, whole-cv-pointer, whole-plain-reference, whole-cv-reference}
+use Rattle.cxx_printer.proofs.Symbols.{prints_three}
+use Rattle.cxx_printer.proofs.Declarators.{signature-alone, whole-qualified, whole-plain-pointer, whole-cv-pointer, whole-plain-reference, whole-cv-reference}
 use Rattle.cxx_printer.proofs.Items.{scoped_item, args_item, pointer_item, reference_item, name_item, leaf_item, items_step}
-use Rattle.cxx_printer.proofs.Turns.{so_far_step, so_far_end, list_end, sequence_step, sequence_end, separated_step, separated_end, repeated_step, repeated_end, parts_step, whole-left}
+use Rattle.cxx_printer.proofs.Turns.{so_far_step, added_twice, so_far_end, list_end, sequence_step, sequence_end, separated_step, separated_end, repeated_step, repeated_end, parts_step, whole-left}
 use Rattle.cxx_printer.specs.Printing.{collapsed}
 use Rattle.cxx_printer.specs.Prints.{Prints}
 use Rattle.cxx_printer.specs.Words.{mark}
 use Rattle.cxx_printer.proofs.Appended.{prints_nothing}
-use Rattle.cxx_printer.proofs.Packs.{below_at, in_parts, refers-none, left-none, right-none}
+use Rattle.cxx_printer.proofs.Packs.{below_at, in_parts, plain-scope, plain-head, plain-declares, plain-right, refers-none, left-none, right-none}
 use Rattle.cxx_printer.proofs.print.+printer.Goals as goal
 
-pub print_items-loop-t-preserved : goal.print_items-loop-t-preserved
-print_items-loop-t-preserved t c =
+pub print_list-loop-t-preserved : goal.print_list-loop-t-preserved
+print_list-loop-t-preserved t c =
     items_step (forest c.args.arena.now) c.args.items.now c.args.env c.args.out.now c.loop-t.out c.print_item.new.out _ c.len-start.result c.loop-t.t-index 0
     c.len-start.ensures.value c.loop-t-test.true c.loop-t.invariant (c.in-Ok.ensures {u = tt}).prints
 
-pub print_items-returns : goal.print_items-returns
-print_items-returns t c =
+pub print_list-returns : goal.print_list-returns
+print_list-returns t c =
     record { prints = so_far_end c.args.out.now c.loop-t.out _ _ c.loop-t.invariant.0 (list_end (forest c.args.arena.now) c.args.items.now c.args.env (nat_eq (length c.loop-t.out) (length c.args.out.now)) c.loop-t.t-index (omega (arith, c.loop-t-test.false))) }
+
+pub print_qualified-returns : goal.print_qualified-returns
+print_qualified-returns t c =
+    let ts = forest c.args.arena.now in
+    record {
+      prints = subst (λ (l : List ℕ). Prints c.write_cv.result c.args.out.now c.write_cv.new.out l)
+          (whole-qualified (tree_at ts c.args.i) (tree_at ts c.args.t) c.args.cv c.args.env c.requires.tree (c.is_plain.ensures.value c.if-not-is_plain.false))
+          (prints_then c.write_cv.result c.args.out.now c.print.new.out c.write_cv.new.out _ (cv_text c.args.cv) c.in-Ok.ensures.prints c.write_cv.ensures.prints);
+    }
+
+pub print_declared_list-returns : goal.print_declared_list-returns
+print_declared_list-returns t c =
+    record { prints = so_far_end c.args.out.now c.loop-t.out _ _ c.loop-t.invariant (separated_end declared (forest c.args.arena.now) c.args.items.now c.args.env c.loop-t.is_first c.loop-t.t-index (omega (arith, c.loop-t-test.false))) }
+
+pub print_heads-returns : goal.print_heads-returns
+print_heads-returns t c =
+    record { prints = so_far_end c.args.out.now c.loop-t.out _ _ c.loop-t.invariant (separated_end head (forest c.args.arena.now) c.args.items.now c.args.env c.loop-t.is_first c.loop-t.t-index (omega (arith, c.loop-t-test.false))) }
+
+pub print_sequence-loop-t-preserved : goal.print_sequence-loop-t-preserved
+print_sequence-loop-t-preserved t c =
+    so_far_step c.args.out.now _ _ (sequence c.args.env (items_of (trees_at (forest c.args.arena.now) c.args.items.now))) _ _ _ c.loop-t.invariant (sequence_step _ _ _ _ 0 c.loop-t-test.true) (c.in-Ok.ensures {u = tt}).prints
+
+pub print_sequence-returns : goal.print_sequence-returns
+print_sequence-returns t c =
+    record { prints = so_far_end c.args.out.now c.loop-t.out _ _ c.loop-t.invariant (sequence_end (forest c.args.arena.now) c.args.items.now c.args.env c.loop-t.t-index (omega (arith, c.loop-t-test.false))) }
+
+pub print_repeated-returns : goal.print_repeated-returns
+print_repeated-returns t c =
+    record { prints = so_far_end c.args.out.now c.loop-k.out _ _ c.loop-k.invariant (repeated_end c.args.n c.loop-k.k c.args.env (item (tree_at (forest c.args.arena.now) c.args.t)) (omega (arith, c.loop-k-test.false))) }
+
+pub print_parts-loop-part-preserved : goal.print_parts-loop-part-preserved
+print_parts-loop-part-preserved t c =
+    so_far_step c.args.out.now _ _ ((print_parts (parts_of c.args.arena.now.held (forest c.args.arena.now) c.parts_of-list.result.now) c.args.env).text) _ _ _ c.loop-part.invariant
+    (parts_step c.args.arena.now.held (forest c.args.arena.now) c.parts_of-list.result.now c.args.env c.loop-part.part-index _ c.loop-part-test.true) (c.in-Ok.ensures {u = tt}).prints
+
+pub print_sides-returns-then-is_one_sided : goal.print_sides-returns-then-is_one_sided
+print_sides-returns-then-is_one_sided t c =
+    record {
+      prints = (c.in-Ok.ensures {u = tt}).prints
+          ∙ ap (λ (l : List ℕ). c.args.out.now ++ l) (sym (whole-left (tree_at (forest c.args.arena.now) c.args.i) c.args.env (c.is_one_sided.ensures.value c.if-is_one_sided.true)));
+    }
+
+pub left_reference-returns-in-None : goal.left_reference-returns-in-None
+left_reference-returns-in-None t c =
+    let p = print (tree_at (forest c.args.arena.now) c.args.t) c.args.env in
+    let none = refers-none c.referent_of-referent.result.base p.base (λ j. print (tree_at (forest c.args.arena.now) j) c.args.env) c.in-None.is c.referent_of-referent.ensures.base in
+    let marked = ap mark c.referent_of-referent.ensures.kind in
+    record {
+      prints = subst (λ (l : List ℕ). Prints c.write_mark.result c.args.out.now c.write_mark.new.out l) (marked ∙ sym (left-none p.base (mark (collapsed c.args.is_lvalue p.kind)) none)) c.write_mark.ensures.prints;
+    }
+
+pub right_reference-returns-in-None : goal.right_reference-returns-in-None
+right_reference-returns-in-None t c =
+    let p = print (tree_at (forest c.args.arena.now) c.args.t) c.args.env in
+    let none = refers-none c.referent_of.result.base p.base (λ j. print (tree_at (forest c.args.arena.now) j) c.args.env) c.in-None.is c.referent_of.ensures.base in
+    record { prints = prints_nothing tt c.args.out.now _ (right-none p.base none) }
+
+pub print_list-print_item-requires : goal.print_list-print_item-requires
+print_list-print_item-requires t c =
+    let s = c.args.arena.now in
+    let is = c.args.items.now in
+    let lower = item_height s is c.loop-t.t-index 0 c.loop-t-test.true in
+    (omega (arith, lower), below_at (size s) is c.loop-t.t-index 0 c.requires.below c.loop-t-test.true)
+
+pub print_sequence-print-requires : goal.print_sequence-print-requires
+print_sequence-print-requires t c =
+    let s = c.args.arena.now in
+    let is = c.args.items.now in
+    let lower = item_height s is c.loop-t.t-index 0 c.loop-t-test.true in
+    (omega (arith, lower), below_at (size s) is c.loop-t.t-index 0 c.requires.below c.loop-t-test.true)
+
+pub print_parts-print_part-requires : goal.print_parts-print_part-requires
+print_parts-print_part-requires t c =
+    let s = c.args.arena.now in
+    let ps = c.parts_of-list.result.now in
+    let e = c.parts_of-list.ensures.value in
+    let m : t ≡ 64 * parts_height s c.args.parts + 55 = omega arith in (
+      part_falls s ps c.loop-part.part-index _ t c.loop-part-test.true (m ∙ ap (λ (qs : List Part). 64 * run_height s qs + 55) (sym e)),
+      in_parts s.held (size s) ps c.loop-part.part-index _ (subst (AllByRecursion (IsPartBelow s.held (size s))) (sym e) c.requires.parts.1) c.loop-part-test.true,
+    )
+
+pub print_plain-print_phrase-requires : goal.print_plain-print_phrase-requires
+unfolding plain_tree IsPlainBelow measure
+print_plain-print_phrase-requires t c =
+    let s = c.args.arena.now in
+    let ps = parts_in s.held (forest s) c.in-Phrase.parts in
+    let e : plain_height s c.args.plain.now ≡ (measure_parts c.in-Phrase.phrase.is_reversed ps).height + 1 = ap (plain_height s) c.in-Phrase.is in
+    let same = phrase_height c.in-Phrase.phrase.is_reversed ps in
+    (omega (arith, e, same), subst (IsPlainBelow s.held (size s)) c.in-Phrase.is c.requires.below)
+
+pub print_gnu_scope-returns-in-Plain : goal.print_gnu_scope-returns-in-Plain
+unfolding tree_of
+print_gnu_scope-returns-in-Plain t c =
+    let s = c.args.arena.now in
+    let e = c.node_at.ensures.tree ∙ ap (tree_of s.held (forest s)) c.in-Plain.is in
+    record {
+      prints = subst (λ (l : List ℕ). Prints c.print_plain.result c.args.out.now c.print_plain.new.out l)
+          (plain-scope s.held (forest s) c.in-Plain.plain (tree_at (forest s) c.args.i) c.args.env e) c.print_plain.ensures.prints;
+    }
+
+pub print_head-returns-in-Plain : goal.print_head-returns-in-Plain
+unfolding tree_of
+print_head-returns-in-Plain t c =
+    let s = c.args.arena.now in
+    let e = c.node_at.ensures.tree ∙ ap (tree_of s.held (forest s)) c.in-Plain.is in
+    record {
+      prints = subst (λ (l : List ℕ). Prints c.print_plain.result c.args.out.now c.print_plain.new.out l)
+          (plain-head s.held (forest s) c.in-Plain.plain (tree_at (forest s) c.args.t) c.args.env e) c.print_plain.ensures.prints;
+    }
+
+pub print_right-returns-in-Plain : goal.print_right-returns-in-Plain
+unfolding tree_of
+print_right-returns-in-Plain t c =
+    let s = c.args.arena.now in
+    let e = c.node_at.ensures.tree ∙ ap (tree_of s.held (forest s)) c.in-Plain.is in
+    record { prints = prints_nothing tt c.args.out.now _ (plain-right s.held (forest s) c.in-Plain.field-0 (tree_at (forest s) c.args.i) c.args.env c.args.joined e) }
+
+pub print_declared_name-returns-in-Plain : goal.print_declared_name-returns-in-Plain
+unfolding tree_of
+print_declared_name-returns-in-Plain t c =
+    let s = c.args.arena.now in
+    let e = c.node_at.ensures.tree ∙ ap (tree_of s.held (forest s)) c.in-Plain.is in
+    record { prints = prints_nothing tt c.args.out.now _ (plain-declares s.held (forest s) c.in-Plain.field-0 (tree_at (forest s) c.args.t) c.args.env e) }
+
+pub print_declared_list-loop-t-preserved : goal.print_declared_list-loop-t-preserved
+print_declared_list-loop-t-preserved t c =
+    so_far_step c.args.out.now _ _ (separated declared true c.args.env (items_of (trees_at (forest c.args.arena.now) c.args.items.now))) _ _ _ c.loop-t.invariant (separated_step declared _ _ _ _ _ 0 c.loop-t-test.true)
+    (added_twice _ _ _ _ _ (c.in-Ok.ensures {u = tt}).prints (c.in-Ok-print_declared.ensures {u = tt}).prints)
+
+pub print_heads-loop-t-preserved : goal.print_heads-loop-t-preserved
+print_heads-loop-t-preserved t c =
+    so_far_step c.args.out.now _ _ (separated head true c.args.env (items_of (trees_at (forest c.args.arena.now) c.args.items.now))) _ _ _ c.loop-t.invariant (separated_step head _ _ _ _ _ 0 c.loop-t-test.true)
+    (added_twice _ _ _ _ _ (c.in-Ok.ensures {u = tt}).prints (c.in-Ok-print_head.ensures {u = tt}).prints)
+
+pub print_declared_list-print_declared-requires : goal.print_declared_list-print_declared-requires
+print_declared_list-print_declared-requires t c =
+    let s = c.args.arena.now in
+    let is = c.args.items.now in
+    let lower = item_height s is c.loop-t.t-index 0 c.loop-t-test.true in
+    (omega (arith, lower), below_at (size s) is c.loop-t.t-index 0 c.requires.below c.loop-t-test.true)
+
+pub print_heads-print_head-requires : goal.print_heads-print_head-requires
+print_heads-print_head-requires t c =
+    let s = c.args.arena.now in
+    let is = c.args.items.now in
+    let lower = item_height s is c.loop-t.t-index 0 c.loop-t-test.true in
+    (omega (arith, lower), below_at (size s) is c.loop-t.t-index 0 c.requires.below c.loop-t-test.true)
+
+pub print_signature-returns : goal.print_signature-returns
+print_signature-returns t c =
+    let s = c.args.arena.now in
+    let f = c.args.encoding.now in
+    let params = items_of (trees_in s.held (forest s) f.params) in
+    let rest = print_parts (parts_in s.held (forest s) f.rest) c.args.env in
+    let name = whole (print (tree_at (forest s) f.name) c.args.env) in
+    record {
+      prints = subst (λ (l : List ℕ). Prints c.print_qualifiers.result c.args.out.now c.print_qualifiers.new.out (name ++ l))
+          (sym (signature-alone c.args.env params f.cv f.ref_qual rest))
+          (prints_three c.print_qualifiers.result c.args.out.now c.print.new.out c.print_parens.new.out c.print_qualifiers.new.out name _ _ c.in-Ok.ensures.prints c.in-Ok-print_parens.ensures.prints
+          c.print_qualifiers.ensures.prints);
+    }
 
 pub print_scoped_item-returns : goal.print_scoped_item-returns
 print_scoped_item-returns t c =
@@ -81,171 +244,9 @@ print_plain_item-returns-in-Leaf t c =
           c.args.is_first c.args.env (tree_at ts c.args.t) (c.requires.tree ∙ ap (plain_tree h ts) c.in-Leaf.is) c.styled_bytes.ensures.value c.write_leaf_item.ensures.prints;
     }
 
-pub print_qualified-returns : goal.print_qualified-returns
-print_qualified-returns t c =
-    let ts = forest c.args.arena.now in
-    record {
-      prints = subst (λ (l : List ℕ). Prints c.write_cv.result c.args.out.now c.write_cv.new.out l)
-          (whole-qualified (tree_at ts c.args.i) (tree_at ts c.args.t) c.args.cv c.args.env c.requires.tree (c.is_plain.ensures.value c.if-not-is_plain.false))
-          (prints_then c.write_cv.result c.args.out.now c.print.new.out c.write_cv.new.out _ (cv_text c.args.cv) c.in-Ok.ensures.prints c.write_cv.ensures.prints);
-    }
-
-pub print_pointer-returns-in_default-plain : goal.print_pointer-returns-in_default-plain
-unfolding tree_of
-print_pointer-returns-in_default-plain t c =
-    let h = c.args.arena.now.held in
-    let ts = forest c.args.arena.now in
-    record {
-      prints = subst (λ (l : List ℕ). Prints c.print_plain_pointer.result c.args.out.now c.print_plain_pointer.new.out l)
-          (whole-plain-pointer h ts c.in-Plain.plain (tree_at ts c.args.i) (tree_at ts c.args.t) c.args.env c.requires.tree
-          (c.node_at.ensures.tree ∙ ap (tree_of h ts) c.in-Plain.is) c.in_default-plain.not-ObjcProtocol)
-          c.print_plain_pointer.ensures.prints;
-    }
-
-pub print_pointer-returns-else-not-is_plain : goal.print_pointer-returns-else-not-is_plain
-unfolding tree_of
-print_pointer-returns-else-not-is_plain t c =
-    let h = c.args.arena.now.held in
-    let ts = forest c.args.arena.now in
-    record {
-      prints = subst (λ (l : List ℕ). Prints c.print_cv_pointer.result c.args.out.now c.print_cv_pointer.new.out l)
-          (whole-cv-pointer (tree_at ts c.args.i) (tree_at ts c.args.t) (tree_at ts c.in-Qualified.u) c.in-Qualified.cv c.args.env c.requires.tree
-          (c.node_at.ensures.tree ∙ ap (tree_of h ts) c.in-Qualified.is) (c.is_plain.ensures.value c.if-not-is_plain.false))
-          c.print_cv_pointer.ensures.prints;
-    }
-
-pub print_reference-returns-in-Plain : goal.print_reference-returns-in-Plain
-unfolding tree_of
-print_reference-returns-in-Plain t c =
-    let h = c.args.arena.now.held in
-    let ts = forest c.args.arena.now in
-    record {
-      prints = subst (λ (l : List ℕ). Prints c.print_plain_reference.result c.args.out.now c.print_plain_reference.new.out l)
-          (whole-plain-reference h ts c.in-Plain.field-0 (tree_at ts c.args.i) (tree_at ts c.args.t) c.args.is_lvalue c.args.env c.requires.tree
-          (c.node_at.ensures.tree ∙ ap (tree_of h ts) c.in-Plain.is))
-          c.print_plain_reference.ensures.prints;
-    }
-
-pub print_reference-returns-else-not-is_plain : goal.print_reference-returns-else-not-is_plain
-unfolding tree_of
-print_reference-returns-else-not-is_plain t c =
-    let h = c.args.arena.now.held in
-    let ts = forest c.args.arena.now in
-    record {
-      prints = subst (λ (l : List ℕ). Prints c.print_cv_reference.result c.args.out.now c.print_cv_reference.new.out l)
-          (whole-cv-reference (tree_at ts c.args.i) (tree_at ts c.args.t) (tree_at ts c.in-Qualified.u) c.args.is_lvalue c.in-Qualified.cv c.args.env c.requires.tree
-          (c.node_at.ensures.tree ∙ ap (tree_of h ts) c.in-Qualified.is) (c.is_plain.ensures.value c.if-not-is_plain.false))
-          c.print_cv_reference.ensures.prints;
-    }
-
-pub print_declared_list-loop-t-preserved : goal.print_declared_list-loop-t-preserved
-print_declared_list-loop-t-preserved t c =
-    so_far_step c.args.out.now _ _ (separated declared true c.args.env (items_of (trees_at (forest c.args.arena.now) c.args.items.now))) _ _ _ c.loop-t.invariant (separated_step declared _ _ _ _ _ 0 c.loop-t-test.true) (c.in-Ok.ensures {u = tt}).prints
-
-pub print_declared_list-returns : goal.print_declared_list-returns
-print_declared_list-returns t c =
-    record { prints = so_far_end c.args.out.now c.loop-t.out _ _ c.loop-t.invariant (separated_end declared (forest c.args.arena.now) c.args.items.now c.args.env c.loop-t.is_first c.loop-t.t-index (omega (arith, c.loop-t-test.false))) }
-
-pub print_heads-loop-t-preserved : goal.print_heads-loop-t-preserved
-print_heads-loop-t-preserved t c =
-    so_far_step c.args.out.now _ _ (separated head true c.args.env (items_of (trees_at (forest c.args.arena.now) c.args.items.now))) _ _ _ c.loop-t.invariant (separated_step head _ _ _ _ _ 0 c.loop-t-test.true) (c.in-Ok.ensures {u = tt}).prints
-
-pub print_heads-returns : goal.print_heads-returns
-print_heads-returns t c =
-    record { prints = so_far_end c.args.out.now c.loop-t.out _ _ c.loop-t.invariant (separated_end head (forest c.args.arena.now) c.args.items.now c.args.env c.loop-t.is_first c.loop-t.t-index (omega (arith, c.loop-t-test.false))) }
-
-pub print_sequence-loop-t-preserved : goal.print_sequence-loop-t-preserved
-print_sequence-loop-t-preserved t c =
-    so_far_step c.args.out.now _ _ (sequence c.args.env (items_of (trees_at (forest c.args.arena.now) c.args.items.now))) _ _ _ c.loop-t.invariant (sequence_step _ _ _ _ 0 c.loop-t-test.true) (c.in-Ok.ensures {u = tt}).prints
-
-pub print_sequence-returns : goal.print_sequence-returns
-print_sequence-returns t c =
-    record { prints = so_far_end c.args.out.now c.loop-t.out _ _ c.loop-t.invariant (sequence_end (forest c.args.arena.now) c.args.items.now c.args.env c.loop-t.t-index (omega (arith, c.loop-t-test.false))) }
-
 pub print_repeated-loop-k-preserved : goal.print_repeated-loop-k-preserved
 print_repeated-loop-k-preserved t c =
     so_far_step c.args.out.now _ _ (repeated c.args.n 0 c.args.env (item (tree_at (forest c.args.arena.now) c.args.t))) _ _ _ c.loop-k.invariant (repeated_step _ _ _ _ c.loop-k-test.true) (c.in-Ok.ensures {u = tt}).prints
-
-pub print_repeated-returns : goal.print_repeated-returns
-print_repeated-returns t c =
-    record { prints = so_far_end c.args.out.now c.loop-k.out _ _ c.loop-k.invariant (repeated_end c.args.n c.loop-k.k c.args.env (item (tree_at (forest c.args.arena.now) c.args.t)) (omega (arith, c.loop-k-test.false))) }
-
-pub print_parts-loop-part-preserved : goal.print_parts-loop-part-preserved
-print_parts-loop-part-preserved t c =
-    so_far_step c.args.out.now _ _ ((print_parts (parts_of c.args.arena.now.held (forest c.args.arena.now) c.parts_of-list.result.now) c.args.env).text) _ _ _ c.loop-part.invariant
-    (parts_step c.args.arena.now.held (forest c.args.arena.now) c.parts_of-list.result.now c.args.env c.loop-part.part-index _ c.loop-part-test.true) (c.in-Ok.ensures {u = tt}).prints
-
-pub print_sides-returns-then-is_one_sided : goal.print_sides-returns-then-is_one_sided
-print_sides-returns-then-is_one_sided t c =
-    record {
-      prints = (c.in-Ok.ensures {u = tt}).prints
-          ∙ ap (λ (l : List ℕ). c.args.out.now ++ l) (sym (whole-left (tree_at (forest c.args.arena.now) c.args.i) c.args.env (c.is_one_sided.ensures.value c.if-is_one_sided.true)));
-    }
-
-pub left_reference-returns-in-None : goal.left_reference-returns-in-None
-left_reference-returns-in-None t c =
-    let p = print (tree_at (forest c.args.arena.now) c.args.t) c.args.env in
-    let none = refers-none c.referent_of-referent.result.base p.base (λ j. print (tree_at (forest c.args.arena.now) j) c.args.env) c.in-None.is c.referent_of-referent.ensures.base in
-    let marked = ap mark c.referent_of-referent.ensures.kind in
-    record {
-      prints = subst (λ (l : List ℕ). Prints c.write_mark.result c.args.out.now c.write_mark.new.out l) (marked ∙ sym (left-none p.base (mark (collapsed c.args.is_lvalue p.kind)) none)) c.write_mark.ensures.prints;
-    }
-
-pub right_reference-returns-in-None : goal.right_reference-returns-in-None
-right_reference-returns-in-None t c =
-    let p = print (tree_at (forest c.args.arena.now) c.args.t) c.args.env in
-    let none = refers-none c.referent_of.result.base p.base (λ j. print (tree_at (forest c.args.arena.now) j) c.args.env) c.in-None.is c.referent_of.ensures.base in
-    record { prints = prints_nothing tt c.args.out.now _ (right-none p.base none) }
-
-pub print_items-print_item-requires : goal.print_items-print_item-requires
-print_items-print_item-requires t c =
-    let s = c.args.arena.now in
-    let is = c.args.items.now in
-    let lower = item_height s is c.loop-t.t-index 0 c.loop-t-test.true in
-    (omega (arith, lower), below_at (size s) is c.loop-t.t-index 0 c.requires.below c.loop-t-test.true)
-
-pub print_sequence-print_node-requires : goal.print_sequence-print_node-requires
-print_sequence-print_node-requires t c =
-    let s = c.args.arena.now in
-    let is = c.args.items.now in
-    let lower = item_height s is c.loop-t.t-index 0 c.loop-t-test.true in
-    (omega (arith, lower), below_at (size s) is c.loop-t.t-index 0 c.requires.below c.loop-t-test.true)
-
-pub print_declared_list-print_declared-requires : goal.print_declared_list-print_declared-requires
-print_declared_list-print_declared-requires t c =
-    let s = c.args.arena.now in
-    let is = c.args.items.now in
-    let lower = item_height s is c.loop-t.t-index 0 c.loop-t-test.true in
-    (omega (arith, lower), below_at (size s) is c.loop-t.t-index 0 c.requires.below c.loop-t-test.true)
-
-pub print_heads-print_next_head-requires : goal.print_heads-print_next_head-requires
-print_heads-print_next_head-requires t c =
-    let s = c.args.arena.now in
-    let is = c.args.items.now in
-    let lower = item_height s is c.loop-t.t-index 0 c.loop-t-test.true in
-    (omega (arith, lower), below_at (size s) is c.loop-t.t-index 0 c.requires.below c.loop-t-test.true)
-
-pub print_parts-print_part-requires : goal.print_parts-print_part-requires
-print_parts-print_part-requires t c =
-    let s = c.args.arena.now in
-    let ps = c.parts_of-list.result.now in
-    let e = c.parts_of-list.ensures.value in
-    let m : t ≡ 64 * parts_height s c.args.parts + 55 = omega arith in (
-      part_falls s ps c.loop-part.part-index _ t c.loop-part-test.true (m ∙ ap (λ (qs : List Part). 64 * run_height s qs + 55) (sym e)),
-      in_parts s.held (size s) ps c.loop-part.part-index _ (subst (AllByRecursion (IsPartBelow s.held (size s))) (sym e) c.requires.parts.1) c.loop-part-test.true,
-    )
-
-pub print_phrase-print_parts-requires : goal.print_phrase-print_parts-requires
-print_phrase-print_parts-requires t c =
-    let s = c.args.arena.now in
-    let same = phrase_height c.args.phrase.is_reversed (parts_in s.held (forest s) c.args.parts) in
-    (omega (arith, same), c.requires.parts)
-
-pub print_phrase-print_guarded-requires : goal.print_phrase-print_guarded-requires
-print_phrase-print_guarded-requires t c =
-    let s = c.args.arena.now in
-    let same = phrase_height c.args.phrase.is_reversed (parts_in s.held (forest s) c.args.parts) in
-    (omega (arith, same), c.requires.parts)
 
 pub left_declaration-returns-in-TemplateParam : goal.left_declaration-returns-in-TemplateParam
 unfolding print declaration_tree
@@ -254,4 +255,52 @@ left_declaration-returns-in-TemplateParam t c =
     record {
       prints = subst (λ (d : Declaration). Prints c.left_template.result c.args.out.now c.left_template.new.out ((print (declaration_tree s.held (forest s) d) c.args.env).text.left))
           (sym c.in-TemplateParam.is) c.left_template.ensures.prints;
+    }
+
+pub print_pointer-returns-in-Ok : goal.print_pointer-returns-in-Ok
+unfolding tree_of
+print_pointer-returns-in-Ok t c =
+    let h = c.args.arena.now.held in
+    let ts = forest c.args.arena.now in
+    record {
+      prints = subst (λ (l : List ℕ). Prints c.write_byte.result c.args.out.now c.write_byte.new.out l)
+          (whole-plain-pointer h ts c.in-Plain.plain (tree_at ts c.args.i) (tree_at ts c.args.t) c.args.env c.requires.tree
+          (c.node_at.ensures.tree ∙ ap (tree_of h ts) c.in-Plain.is) c.in_default-plain.not-ObjcProtocol)
+          (prints_then c.write_byte.result c.args.out.now _ c.write_byte.new.out _ (codes "*") c.in-Ok.ensures.prints c.write_byte.ensures.prints);
+    }
+
+pub print_pointer-returns-in-Ok-print : goal.print_pointer-returns-in-Ok-print
+unfolding tree_of
+print_pointer-returns-in-Ok-print t c =
+    let h = c.args.arena.now.held in
+    let ts = forest c.args.arena.now in
+    record {
+      prints = subst (λ (l : List ℕ). Prints c.write_star.result c.args.out.now c.write_star.new.out l)
+          (whole-cv-pointer (tree_at ts c.args.i) (tree_at ts c.args.t) (tree_at ts c.in-Qualified.u) c.in-Qualified.cv c.args.env c.requires.tree
+          (c.node_at.ensures.tree ∙ ap (tree_of h ts) c.in-Qualified.is) (c.is_plain.ensures.value c.if-not-is_plain.false))
+          (prints_then c.write_star.result c.args.out.now _ c.write_star.new.out _ (cv_text c.in-Qualified.cv ++ codes "*") c.in-Ok-print.ensures.prints c.write_star.ensures.prints);
+    }
+
+pub print_reference-returns-in-Ok : goal.print_reference-returns-in-Ok
+unfolding tree_of
+print_reference-returns-in-Ok t c =
+    let h = c.args.arena.now.held in
+    let ts = forest c.args.arena.now in
+    record {
+      prints = subst (λ (l : List ℕ). Prints c.write_mark.result c.args.out.now c.write_mark.new.out l)
+          (whole-plain-reference h ts c.in-Plain.field-0 (tree_at ts c.args.i) (tree_at ts c.args.t) c.args.is_lvalue c.args.env c.requires.tree
+          (c.node_at.ensures.tree ∙ ap (tree_of h ts) c.in-Plain.is))
+          (prints_then c.write_mark.result c.args.out.now _ c.write_mark.new.out _ (mark c.args.is_lvalue) c.in-Ok.ensures.prints c.write_mark.ensures.prints);
+    }
+
+pub print_reference-returns-in-Ok-print : goal.print_reference-returns-in-Ok-print
+unfolding tree_of
+print_reference-returns-in-Ok-print t c =
+    let h = c.args.arena.now.held in
+    let ts = forest c.args.arena.now in
+    record {
+      prints = subst (λ (l : List ℕ). Prints c.write_cv_mark.result c.args.out.now c.write_cv_mark.new.out l)
+          (whole-cv-reference (tree_at ts c.args.i) (tree_at ts c.args.t) (tree_at ts c.in-Qualified.u) c.args.is_lvalue c.in-Qualified.cv c.args.env c.requires.tree
+          (c.node_at.ensures.tree ∙ ap (tree_of h ts) c.in-Qualified.is) (c.is_plain.ensures.value c.if-not-is_plain.false))
+          (prints_then c.write_cv_mark.result c.args.out.now _ c.write_cv_mark.new.out _ (cv_text c.in-Qualified.cv ++ mark c.args.is_lvalue) c.in-Ok-print.ensures.prints c.write_cv_mark.ensures.prints);
     }

@@ -3,7 +3,7 @@ use Rattle.cxx_tree.specs.declared.node.Node.TheVariants as node
 use Rattle.cxx_tree.specs.Stored.{forest, tree_at, trees_at, parts_of}
 use Rattle.cxx_printer.specs.Asked.{item}
 use Rattle.cxx_printer.specs.Printing.{items_of, print_parts, list_from, sequence, separated, declared, head, repeated}
-use Rattle.cxx_printer.proofs.Heights.{height_at, height_of, plain_height, declaration_height, option_height, items_height, list_height, part_height, parts_height, phrase_height_of}
+use Rattle.cxx_printer.proofs.Heights.{height_at, height_of, plain_height, declaration_height, option_height, items_height, list_height, part_height, parts_height}
 use Rattle.cxx_printer.proofs.print.+printer.Given as goal
 
 abbrev pub decreases-print : goal.decreases-print
@@ -39,29 +39,11 @@ decreases-right_ret l = 64 * option_height l.arena.now l.ret + 32
 abbrev pub decreases-right_encoding : goal.decreases-right_encoding
 decreases-right_encoding l = 64 * height_of l.arena.now (node.Encoding l.encoding.now) + 18
 
-abbrev pub decreases-after_signature : goal.decreases-after_signature
-decreases-after_signature l = 64 * height_of l.arena.now (node.Encoding l.encoding.now) + 17
-
-abbrev pub decreases-gnu_after_signature : goal.decreases-gnu_after_signature
-decreases-gnu_after_signature l = 64 * height_of l.arena.now (node.Encoding l.encoding.now) + 17
-
 abbrev pub decreases-print_qualifiers : goal.decreases-print_qualifiers
 decreases-print_qualifiers l = 64 * height_of l.arena.now (node.Encoding l.encoding.now) + 16
 
 abbrev pub decreases-print_signature : goal.decreases-print_signature
 decreases-print_signature l = 64 * height_of l.arena.now (node.Encoding l.encoding.now) + 25
-
-abbrev pub decreases-right_signature : goal.decreases-right_signature
-decreases-right_signature l = 64 * height_of l.arena.now (node.Encoding l.encoding.now) + 19
-
-abbrev pub decreases-left_plain : goal.decreases-left_plain
-decreases-left_plain l = 64 * plain_height l.arena.now l.plain.now + 27
-
-abbrev pub decreases-scope_plain : goal.decreases-scope_plain
-decreases-scope_plain l = 64 * plain_height l.arena.now l.plain.now + 27
-
-abbrev pub decreases-head_of_plain : goal.decreases-head_of_plain
-decreases-head_of_plain l = 64 * plain_height l.arena.now l.plain.now + 27
 
 abbrev pub decreases-print_plain : goal.decreases-print_plain
 decreases-print_plain l = 64 * plain_height l.arena.now l.plain.now + 26
@@ -123,20 +105,11 @@ decreases-print_joined l = 64 * height_at l.arena.now l.t + 31
 abbrev pub decreases-right_function : goal.decreases-right_function
 decreases-right_function l = 64 * height_of l.arena.now (node.Function l.function.now) + 18
 
-abbrev pub decreases-after_params : goal.decreases-after_params
-decreases-after_params l = 64 * height_of l.arena.now (node.Function l.function.now) + 17
-
-abbrev pub decreases-gnu_after_params : goal.decreases-gnu_after_params
-decreases-gnu_after_params l = 64 * height_of l.arena.now (node.Function l.function.now) + 17
-
 abbrev pub decreases-right_pack : goal.decreases-right_pack
 decreases-right_pack l = 64 * list_height l.arena.now l.items + 31
 
 abbrev pub decreases-print_phrase : goal.decreases-print_phrase
-decreases-print_phrase l = 64 * phrase_height_of l.arena.now l.phrase l.parts + 57
-
-abbrev pub decreases-print_guarded : goal.decreases-print_guarded
-decreases-print_guarded l = 64 * parts_height l.arena.now l.parts + 56
+decreases-print_phrase l = 64 * parts_height l.arena.now l.parts + 57
 
 abbrev pub decreases-print_parts : goal.decreases-print_parts
 decreases-print_parts l = 64 * parts_height l.arena.now l.parts + 55
@@ -165,17 +138,11 @@ decreases-print_template_head l = 64 * items_height l.arena.now l.items.now + 49
 abbrev pub decreases-print_heads : goal.decreases-print_heads
 decreases-print_heads l = 64 * items_height l.arena.now l.items.now + 48
 
-abbrev pub decreases-print_list : goal.decreases-print_list
-decreases-print_list l = 64 * items_height l.arena.now l.items.now + 50
-
 abbrev pub decreases-print_sequence : goal.decreases-print_sequence
 decreases-print_sequence l = 64 * items_height l.arena.now l.items.now + 49
 
 abbrev pub decreases-print_scoped : goal.decreases-print_scoped
 decreases-print_scoped l = 64 * max (height_at l.arena.now l.scope) (height_at l.arena.now l.name) + 46
-
-abbrev pub decreases-print_friend : goal.decreases-print_friend
-decreases-print_friend l = 64 * max (height_at l.arena.now l.scope) (height_at l.arena.now l.name) + 45
 
 abbrev pub decreases-print_with_args : goal.decreases-print_with_args
 decreases-print_with_args l = 64 * max (height_at l.arena.now l.name) (list_height l.arena.now l.args) + 58
@@ -192,14 +159,8 @@ decreases-print_protocol l = 64 * height_at l.arena.now l.t + 41
 abbrev pub decreases-print_expansion : goal.decreases-print_expansion
 decreases-print_expansion l = 64 * height_at l.arena.now l.t + 47
 
-abbrev pub decreases-print_unexpanded : goal.decreases-print_unexpanded
-decreases-print_unexpanded l = 64 * height_at l.arena.now l.t + 46
-
 abbrev pub decreases-print_repeated : goal.decreases-print_repeated
 decreases-print_repeated l = 64 * height_at l.arena.now l.t + 46
-
-abbrev pub decreases-print_element : goal.decreases-print_element
-decreases-print_element l = 64 * height_at l.arena.now l.t + 45
 
 abbrev pub decreases-print_item : goal.decreases-print_item
 decreases-print_item l = 64 * height_at l.arena.now l.t + 48
@@ -238,43 +199,16 @@ abbrev pub decreases-print_folded : goal.decreases-print_folded
 decreases-print_folded l = 64 * height_at l.arena.now l.t + 48
 
 abbrev pub decreases-print_declared : goal.decreases-print_declared
-decreases-print_declared l = 64 * height_at l.arena.now l.t + 47
-
-abbrev pub decreases-print_whole_declaration : goal.decreases-print_whole_declaration
-decreases-print_whole_declaration l = 64 * height_at l.arena.now l.t + 46
+decreases-print_declared l = 64 * height_at l.arena.now l.t + 46
 
 abbrev pub decreases-print_head : goal.decreases-print_head
 decreases-print_head l = 64 * height_at l.arena.now l.t + 45
 
-abbrev pub decreases-print_pack_head : goal.decreases-print_pack_head
-decreases-print_pack_head l = 64 * height_at l.arena.now l.d + 46
-
 abbrev pub decreases-print_declared_name : goal.decreases-print_declared_name
 decreases-print_declared_name l = 64 * height_at l.arena.now l.t + 45
 
-abbrev pub decreases-print_next_head : goal.decreases-print_next_head
-decreases-print_next_head l = 64 * height_at l.arena.now l.t + 46
-
-abbrev pub decreases-left_type_param : goal.decreases-left_type_param
-decreases-left_type_param l = 64 * height_at l.arena.now l.constraint + 41
-
 abbrev pub decreases-left_non_type : goal.decreases-left_non_type
 decreases-left_non_type l = 64 * height_at l.arena.now l.t + 31
-
-abbrev pub decreases-left_template : goal.decreases-left_template
-decreases-left_template l = 64 * list_height l.arena.now l.list + 52
-
-abbrev pub decreases-left_pack_param : goal.decreases-left_pack_param
-decreases-left_pack_param l = 64 * height_at l.arena.now l.d + 31
-
-abbrev pub decreases-right_non_type : goal.decreases-right_non_type
-decreases-right_non_type l = 64 * max (height_at l.arena.now l.name) (height_at l.arena.now l.t) + 41
-
-abbrev pub decreases-right_template : goal.decreases-right_template
-decreases-right_template l = 64 * max (height_at l.arena.now l.name) (parts_height l.arena.now l.rest) + 56
-
-abbrev pub decreases-print_other : goal.decreases-print_other
-decreases-print_other l = 64 * height_at l.arena.now l.i + 35
 
 abbrev pub decreases-print_type : goal.decreases-print_type
 decreases-print_type l = 64 * height_at l.arena.now l.i + 38
@@ -288,47 +222,29 @@ decreases-print_pointer l = 64 * height_at l.arena.now l.i + 37
 abbrev pub decreases-print_reference : goal.decreases-print_reference
 decreases-print_reference l = 64 * height_at l.arena.now l.i + 37
 
-abbrev pub decreases-print_plain_pointer : goal.decreases-print_plain_pointer
-decreases-print_plain_pointer l = 64 * height_at l.arena.now l.t + 41
-
-abbrev pub decreases-print_cv_pointer : goal.decreases-print_cv_pointer
-decreases-print_cv_pointer l = 64 * height_at l.arena.now l.t + 41
-
-abbrev pub decreases-print_plain_reference : goal.decreases-print_plain_reference
-decreases-print_plain_reference l = 64 * height_at l.arena.now l.t + 41
-
-abbrev pub decreases-print_cv_reference : goal.decreases-print_cv_reference
-decreases-print_cv_reference l = 64 * height_at l.arena.now l.t + 41
-
 abbrev pub decreases-print_gnu_scope : goal.decreases-print_gnu_scope
 decreases-print_gnu_scope l = 64 * height_at l.arena.now l.i + 41
-
-abbrev pub decreases-print_in_scope : goal.decreases-print_in_scope
-decreases-print_in_scope l = 64 * max (height_at l.arena.now l.scope) (height_at l.arena.now l.name) + 47
 
 abbrev pub decreases-print_scoped_name : goal.decreases-print_scoped_name
 decreases-print_scoped_name l = 64 * height_at l.arena.now l.scope + 46
 
-abbrev pub decreases-print_scoped_text : goal.decreases-print_scoped_text
-decreases-print_scoped_text l = 64 * height_at l.arena.now l.scope + 45
+abbrev pub decreases-print_list : goal.decreases-print_list
+decreases-print_list l = 64 * items_height l.arena.now l.items.now + 49
 
-abbrev pub decreases-print_path : goal.decreases-print_path
-decreases-print_path l = 64 * height_at l.arena.now l.scope + 44
+abbrev pub decreases-print_plain_item : goal.decreases-print_plain_item
+decreases-print_plain_item l = 64 * height_at l.arena.now l.t + 47
 
-abbrev pub decreases-print_behind_scope : goal.decreases-print_behind_scope
-decreases-print_behind_scope l = 64 * height_at l.arena.now l.scope + 43
+abbrev pub decreases-print_type_item : goal.decreases-print_type_item
+decreases-print_type_item l = 64 * height_at l.arena.now l.t + 47
 
-abbrev pub decreases-print_items : goal.decreases-print_items
-decreases-print_items l = 64 * items_height l.arena.now l.items.now + 49
+abbrev pub decreases-print_any_item : goal.decreases-print_any_item
+decreases-print_any_item l = 64 * height_at l.arena.now l.t + 44
 
-abbrev pub decreases-print_params : goal.decreases-print_params
-decreases-print_params l = 64 * list_height l.arena.now l.list + 50
+abbrev pub decreases-print_element : goal.decreases-print_element
+decreases-print_element l = 64 * height_at l.arena.now l.t + 45
 
-abbrev pub decreases-print_args : goal.decreases-print_args
-decreases-print_args l = 64 * list_height l.arena.now l.list + 50
-
-abbrev pub decreases-print_rest : goal.decreases-print_rest
-decreases-print_rest l = 64 * parts_height l.arena.now l.parts + 56
+abbrev pub decreases-left_template : goal.decreases-left_template
+decreases-left_template l = 64 * list_height l.arena.now l.list + 52
 
 abbrev pub decreases-print_scoped_item : goal.decreases-print_scoped_item
 decreases-print_scoped_item l = 64 * height_at l.arena.now l.t + 46
@@ -342,22 +258,13 @@ decreases-print_pointer_item l = 64 * height_at l.arena.now l.t + 46
 abbrev pub decreases-print_reference_item : goal.decreases-print_reference_item
 decreases-print_reference_item l = 64 * height_at l.arena.now l.t + 46
 
-abbrev pub decreases-print_plain_item : goal.decreases-print_plain_item
-decreases-print_plain_item l = 64 * height_at l.arena.now l.t + 47
-
-abbrev pub decreases-print_type_item : goal.decreases-print_type_item
-decreases-print_type_item l = 64 * height_at l.arena.now l.t + 47
-
-abbrev pub decreases-print_any_item : goal.decreases-print_any_item
-decreases-print_any_item l = 64 * height_at l.arena.now l.t + 44
-
 abbrev pub invariant-print_repeated-loop-k : goal.invariant-print_repeated-loop-k
 invariant-print_repeated-loop-k l =
     l.fn.out ++ repeated l.n 0 l.env (item (tree_at (forest l.arena) l.t))
     ≡ l.out ++ repeated (l.n - l.k) l.k l.env (item (tree_at (forest l.arena) l.t))
 
-abbrev pub invariant-print_items-loop-t : goal.invariant-print_items-loop-t
-invariant-print_items-loop-t l =
+abbrev pub invariant-print_list-loop-t : goal.invariant-print_list-loop-t
+invariant-print_list-loop-t l =
     (l.fn.out ++ list_from true l.env (items_of (trees_at (forest l.arena) l.items))
     ≡ l.out ++ list_from (nat_eq (length l.out) (length l.fn.out)) l.env (items_of (trees_at (forest l.arena) (drop l.t-index l.items))))
     × (length l.fn.out ≤ length l.out)

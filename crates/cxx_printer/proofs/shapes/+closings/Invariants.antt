@@ -7,6 +7,3 @@ decreases-is_closed l = 4 * height_at l.arena.now l.i + 1
 
 abbrev pub decreases-is_plain_closed : goal.decreases-is_plain_closed
 decreases-is_plain_closed l = 4 * plain_height l.arena.now l.plain.now
-
-abbrev pub decreases-is_scoped_closed : goal.decreases-is_scoped_closed
-decreases-is_scoped_closed l = 4 * height_at l.arena.now l.name + 2

@@ -29,8 +29,5 @@ decreases-ending_of_operand l = 64 * height_at l.arena.now l.t + 11
 abbrev pub decreases-ending_of_expansion : goal.decreases-ending_of_expansion
 decreases-ending_of_expansion l = 64 * height_at l.arena.now l.t + 10
 
-abbrev pub decreases-ending_of_scoped : goal.decreases-ending_of_scoped
-decreases-ending_of_scoped l = 64 * height_at l.arena.now l.name + 10
-
 abbrev pub decreases-ending_of_parts : goal.decreases-ending_of_parts
 decreases-ending_of_parts l = 64 * run_height l.arena.now l.parts.now + 55

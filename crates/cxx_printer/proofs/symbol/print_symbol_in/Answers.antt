@@ -2,7 +2,7 @@ use Rattle.std.specs.Prelude.{option_map}
 use Rattle.cxx_tree.specs.Stored.{forest, tree_at, text_at}
 use Rattle.cxx_printer.specs.Symbol.{symbol_in, block_text, mode_text, suffix_text}
 use Rattle.cxx_printer.proofs.Symbols.{prints_three}
-use Rattle.cxx_printer.proofs.symbol.print_around.Goals as goal
+use Rattle.cxx_printer.proofs.symbol.print_symbol_in.Goals as goal
 
 pub returns : goal.returns
 unfolding symbol_in
