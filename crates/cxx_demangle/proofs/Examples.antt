@@ -17,7 +17,7 @@ use Rattle.cxx_grammar.specs.Leaves.{base_as}
 use Rattle.cxx_grammar.specs.Grammar.{parse_items, component_as, parse_components, first_as, name_as, literal_as, arg_as, type_as, productions, parse_encoding}
 use Rattle.cxx_printer.specs.Words.{ending, short_std_text, long_std_text, std_text, cv_text, ref_text, mark, opened, member_opened, closed}
 use Rattle.cxx_printer.specs.Heads.{prec_of, rank, is_simple, has_args, is_designator, is_scoped, is_objc_object, protocol_of, count_item, count_items, count_of}
-use Rattle.cxx_printer.specs.Printing.{print, list_from, last_ends, sequence, separated, repeated}
+use Rattle.cxx_printer.specs.Print.{print, list_from, last_ends, sequence, separated, repeated}
 use Rattle.cxx_printer.specs.Symbol.{mode_text, block_text, is_digit_first, is_piece, between, pieces_behind, pieces_text, in_parens, suffix_text, symbol_in}
 use Rattle.cxx_demangle.specs.declared.demangler.Printing.{Printing}
 use Rattle.cxx_demangle.specs.Answer.{start, max_depth, text_of, IsAnswer}

@@ -1,15 +1,15 @@
 -- What becomes of the template parameters of an encoding.
 use Rattle.std.specs.Prelude.{ℕ, ◌+◌, List, [], ◌∷◌, ◌++◌, Bool, true, false, not, nat_eq, nat_lt, Option, Some, None, if◌then◌else◌}
-use Rattle.cxx_tree.specs.declared.bind.Rest.TheVariants.{Keep}
+use Rattle.cxx_tree.specs.declared.bind.Others.TheVariants.{Keep}
 use Rattle.cxx_tree.specs.Tree.{Tree, Trees, no_trees, more_trees}
 use Rattle.cxx_tree.specs.Measure.{measure}
 use Rattle.cxx_tree.specs.Bind.{Binding, bind}
-use Rattle.cxx_grammar.specs.State.{State, Parses, ◌>>=◌, Named, make}
+use Rattle.cxx_grammar.specs.State.{State, Parses, ◌>>=◌, LearnedName, make}
 use Rattle.cxx_grammar.specs.Bases.{args_of}
 
 -- the parameters of an encoding stand for these trees
 abbrev pub binding_of : List Tree → Binding
-binding_of trees = record { level = 0; names = trees; rest = Keep }
+binding_of trees = record { level = 0; names = trees; others = Keep }
 
 -- at most 65,536 nodes of a symbol are replaced
 abbrev pub count_replaced : Tree → State → Option State
@@ -37,7 +37,7 @@ args_of_option None = None
 args_of_option (Some t) = args_of t
 
 -- the arguments of the name after `CI`, unless the name ends with its own
-abbrev pub inherited_args : Named → Option Trees
+abbrev pub inherited_args : LearnedName → Option Trees
 inherited_args n = if n.info.ends_with_args then None else args_of_option n.info.inherited
 
 -- the arguments of an encoding: inherited ones, or else those of its name
@@ -55,7 +55,7 @@ abbrev pub bind_tree : List Tree → Tree → Parses Tree
 bind_tree args t s = make (bind (binding_of args) t) s >>= λ u. closed u.0 u.1
 
 -- the tree of an encoding, with the arguments of its name in the place of its template parameters
-abbrev pub bind_encoding : Named → Tree → Parses Tree
+abbrev pub bind_encoding : LearnedName → Tree → Parses Tree
 bind_encoding n t s =
     count_replaced t s >>= λ counted. bind_first (inherited_args n) (args_of n.tree) counted >>= λ args.
     bind_tree args.0 t args.1

@@ -3,7 +3,7 @@ use Rattle.std.specs.Prelude.{Bool, List, None, Option, Some, [], codes, drop, f
 use Rattle.cxx_tree.specs.declared.kinds.Prec.TheVariants.{Primary}
 use Rattle.cxx_tree.specs.Tree.{Tree, data_name, expansion, listed, member_pointer, named, pointer, qualified, reference, scoped, with_args}
 use Rattle.cxx_tree.specs.Stored.{trees_from_list}
-use Rattle.cxx_tree.specs.Rows.{ctor_dtor, function_encoding, typed_literal}
+use Rattle.cxx_tree.specs.Phrases.{ctor_dtor, function_encoding, typed_literal}
 use Rattle.abi_scalars.specs.Bytes.{begins}
 use Rattle.cxx_grammar.specs.declared.cases.NameCase.{NameCase}
 use Rattle.cxx_grammar.specs.declared.cases.NameCase.TheVariants as name_case
@@ -17,18 +17,18 @@ use Rattle.cxx_grammar.specs.declared.cases.ArgCase.{ArgCase}
 use Rattle.cxx_grammar.specs.declared.cases.ArgCase.TheVariants as arg
 use Rattle.cxx_grammar.specs.declared.cases.LiteralCase.{LiteralCase}
 use Rattle.cxx_grammar.specs.declared.cases.LiteralCase.TheVariants as literal
-use Rattle.cxx_grammar.specs.State.{Info, Named, Parses, State, make, make_saved, no_info, past, plain, save, skip, ◌>>=◌}
+use Rattle.cxx_grammar.specs.State.{Info, LearnedName, Parses, State, make, make_saved, no_info, past, plain, save, skip, ◌>>=◌}
 use Rattle.cxx_grammar.specs.Cases.{case_of_arg, case_of_component, case_of_first, case_of_literal, case_of_name, case_of_type, is_args_end, is_encoding_end}
 use Rattle.cxx_grammar.specs.Bases.{base_name, expand, is_param, is_with_args}
 use Rattle.cxx_grammar.specs.Leaves.{cv_at, parse_base, parse_bool, parse_builtin, parse_integer, parse_null, parse_number_end, parse_substitution, parse_template_param, parse_unmarked_base, past_cv, past_ref, ref_at}
 use Rattle.cxx_grammar.specs.Binds.{bind_encoding}
 
 -- a name that is made of a tree
-abbrev pub make_named : Tree → Info → Parses Named
+abbrev pub make_named : Tree → Info → Parses LearnedName
 make_named t i s = make t s >>= λ u. Some (record { tree = u.0; info = i }, u.1)
 
 -- a name with arguments
-abbrev pub make_with_args : Named → List Tree → Parses Named
+abbrev pub make_with_args : LearnedName → List Tree → Parses LearnedName
 make_with_args n args s =
     make_named (with_args n.tree (trees_from_list args)) (record n.info { ends_with_args = true }) s
 
@@ -40,7 +40,7 @@ abbrev pub std : Tree
 std = named (codes "std")
 
 -- a name in a scope
-abbrev pub make_scoped : Named → Tree → Parses Named
+abbrev pub make_scoped : LearnedName → Tree → Parses LearnedName
 make_scoped q base s = make_named (scoped false q.tree base) (record q.info { ends_with_args = false }) s
 
 -- what is learned of a constructor or a destructor
@@ -48,14 +48,14 @@ abbrev pub ctor_info : Info → Option Tree → Info
 ctor_info i inherited = record i { ends_with_args = false; no_return = true; inherited = inherited }
 
 -- the constructor or the destructor of a class that isn't a template parameter
-abbrev pub make_ctor : Named → Bool → Option Tree → Parses Named
+abbrev pub make_ctor : LearnedName → Bool → Option Tree → Parses LearnedName
 make_ctor q is_destructor inherited s =
     if is_param q.tree then None
     else make (ctor_dtor (base_name (expand q.tree)) is_destructor) s >>= λ base.
     make_named (scoped false (expand q.tree) base.0) (ctor_info q.info inherited) base.1
 
 -- the function of a name, with its parameters
-abbrev pub make_function : Option Tree → Named → List Tree → Parses Tree
+abbrev pub make_function : Option Tree → LearnedName → List Tree → Parses Tree
 make_function ret n params s =
     make (function_encoding ret n.tree (trees_from_list params) None None n.info.cv n.info.ref) s
 
@@ -76,7 +76,7 @@ parse_list is_end item s = parse_items is_end item (length s.rest + 1) s
 -- the counted productions: those that nest. A production has those that may stand inside of it, of the next depth
 pub record Productions : Type 0 where
   pub encoding : Parses Tree
-  pub name : Parses Named
+  pub name : Parses LearnedName
   pub arg : Parses Tree
   pub type : Parses Tree
   pub qualified : Parses Tree
@@ -86,79 +86,79 @@ abbrev pub parse_args : Productions → Parses (List Tree)
 parse_args p s = parse_list is_args_end p.arg (skip 1 s) >>= λ ts. Some (ts.0, skip 1 ts.1)
 
 -- <template-args> of a name
-abbrev pub parse_with_args : Productions → Named → Parses Named
+abbrev pub parse_with_args : Productions → LearnedName → Parses LearnedName
 parse_with_args p q s = parse_args p s >>= λ ts. make_with_args q ts.0 ts.1
 
 -- a name that was read, and [<template-args>]. With arguments it is saved
-abbrev pub parse_unscoped : Productions → Tree → Parses Named
+abbrev pub parse_unscoped : Productions → Tree → Parses LearnedName
 parse_unscoped p t s =
     if begins (codes "I") s.rest then parse_with_args p (plain t) (save t s) else Some (plain t, s)
 
 -- CI<digit> <name>: a constructor that another class has
-abbrev pub parse_inherited : Productions → Named → Parses Named
+abbrev pub parse_inherited : Productions → LearnedName → Parses LearnedName
 parse_inherited p q s = p.name (skip 3 s) >>= λ from. make_ctor q false (Some from.0.tree) from.1
 
-abbrev pub parse_scoped : Named → Parses Named
+abbrev pub parse_scoped : LearnedName → Parses LearnedName
 parse_scoped q s = parse_unmarked_base s >>= λ base. make_scoped q base.0 base.1
 
-unfoldable pub component_as : ComponentCase → Productions → Named → Parses Named
+unfoldable pub component_as : ComponentCase → Productions → LearnedName → Parses LearnedName
 component_as component.Ctor p q s = make_ctor q false q.info.inherited (skip 2 s)
 component_as component.InheritedCtor p q s = parse_inherited p q s
 component_as component.Dtor p q s = make_ctor q true q.info.inherited (skip 2 s)
 component_as component.Unqualified p q s = parse_scoped q s
 
-abbrev pub parse_more_args : Productions → Named → Parses Named
+abbrev pub parse_more_args : Productions → LearnedName → Parses LearnedName
 parse_more_args p q s = if is_with_args q.tree then None else parse_with_args p q s
 
 -- <component> ::= <template-args> | [L] <ctor-dtor-name> | [L] <unqualified-name>
-abbrev pub parse_component : Productions → Named → Parses Named
+abbrev pub parse_component : Productions → LearnedName → Parses LearnedName
 parse_component p q s =
     if begins (codes "I") s.rest then parse_more_args p q s
     else component_as (case_of_component (past "L" s).rest) p q (past "L" s)
 
 -- a component is saved, and the next one is read, with its `M`
-abbrev pub parse_next : Productions → Named → Parses Named
+abbrev pub parse_next : Productions → LearnedName → Parses LearnedName
 parse_next p q s = parse_component p q (save q.tree s) >>= λ c. Some (c.0, past "M" c.1)
 
 -- what follows a component, after its `M`: at most n others
-unfoldable pub parse_components : Productions → ℕ → Named → Parses Named
+unfoldable pub parse_components : Productions → ℕ → LearnedName → Parses LearnedName
 parse_components p zero q s = None
 parse_components p (suc n) q s =
     if begins (codes "E") s.rest then Some (q, skip 1 s)
     else (parse_next p q s >>= λ c. parse_components p n c.0 c.1)
 
 -- what follows a component
-abbrev pub parse_rest : Productions → Named → Parses Named
+abbrev pub parse_rest : Productions → LearnedName → Parses LearnedName
 parse_rest p q s = parse_components p (length (past "M" s).rest + 1) q (past "M" s)
 
 -- a component that isn't the first, and what follows it
-abbrev pub parse_after : Productions → Named → Parses Named
+abbrev pub parse_after : Productions → LearnedName → Parses LearnedName
 parse_after p q s = parse_component p q s >>= λ c. parse_rest p c.0 c.1
 
-abbrev pub with_info : Info → Tree → Named
+abbrev pub with_info : Info → Tree → LearnedName
 with_info i t = record { tree = t; info = i }
 
-abbrev pub first_substitution : Productions → Info → Parses Named
+abbrev pub first_substitution : Productions → Info → Parses LearnedName
 first_substitution p i s = parse_substitution s >>= λ t. parse_after p (with_info i t.0) t.1
 
-abbrev pub first_param : Productions → Info → Parses Named
+abbrev pub first_param : Productions → Info → Parses LearnedName
 first_param p i s = parse_template_param s >>= λ t. parse_rest p (with_info i t.0) t.1
 
-abbrev pub first_base : Productions → Info → Parses Named
+abbrev pub first_base : Productions → Info → Parses LearnedName
 first_base p i s = parse_base s >>= λ t. parse_rest p (with_info i t.0) t.1
 
-unfoldable pub first_as : FirstCase → Productions → Info → Parses Named
+unfoldable pub first_as : FirstCase → Productions → Info → Parses LearnedName
 first_as first.Std p i s = parse_after p (with_info i std) (skip 2 s)
 first_as first.Substitution p i s = first_substitution p i s
 first_as first.Param p i s = first_param p i s
 first_as first.Unqualified p i s = first_base p i s
 
 -- the components, after the qualifiers
-abbrev pub parse_first : Productions → Info → Parses Named
+abbrev pub parse_first : Productions → Info → Parses LearnedName
 parse_first p i s = first_as (case_of_first s.rest) p i s
 
 -- <nested-name> ::= N [<CV-qualifiers>] [<ref-qualifier>] <component>+ E
-abbrev pub parse_nested : Productions → Parses Named
+abbrev pub parse_nested : Productions → Parses LearnedName
 parse_nested p s = parse_first p (info_at (skip 1 s)) (past_ref (past_cv (skip 1 s)))
 
 -- a name without a scope, in std
@@ -170,22 +170,22 @@ abbrev pub parse_std_name : Parses Tree
 parse_std_name s = base_in_std (skip 2 s)
 
 -- St <unqualified-name> [<template-args>]
-abbrev pub parse_in_std : Productions → Parses Named
+abbrev pub parse_in_std : Productions → Parses LearnedName
 parse_in_std p s = parse_std_name s >>= λ t. parse_unscoped p t.0 t.1
 
-abbrev pub with_args_only : Productions → Tree → Parses Named
+abbrev pub with_args_only : Productions → Tree → Parses LearnedName
 with_args_only p t s = if begins (codes "I") s.rest then parse_with_args p (plain t) s else None
 
 -- <substitution> <template-args>
-abbrev pub parse_substituted : Productions → Parses Named
+abbrev pub parse_substituted : Productions → Parses LearnedName
 parse_substituted p s = parse_substitution s >>= λ t. with_args_only p t.0 t.1
 
 -- <unqualified-name> [<template-args>]
-abbrev pub parse_unqualified : Productions → Parses Named
+abbrev pub parse_unqualified : Productions → Parses LearnedName
 parse_unqualified p s = parse_base s >>= λ t. parse_unscoped p t.0 t.1
 
 -- <name>
-unfoldable pub name_as : NameCase → Productions → Parses Named
+unfoldable pub name_as : NameCase → Productions → Parses LearnedName
 name_as name_case.Nested p s = parse_nested p s
 name_as name_case.Std p s = parse_in_std p s
 name_as name_case.Substitution p s = parse_substituted p s
@@ -278,12 +278,12 @@ abbrev pub parse_params : Productions → Parses (List Tree)
 parse_params p s = if begins (codes "v") s.rest then Some ([], skip 1 s) else parse_some_params p s
 
 -- <bare-function-type> ::= [<return type>] <parameters>
-abbrev pub parse_function : Productions → Named → Parses Tree
+abbrev pub parse_function : Productions → LearnedName → Parses Tree
 parse_function p n s =
     parse_return p (has_return n.info) s >>= λ ret. parse_params p ret.1 >>= λ ts. make_function ret.0 n ts.0 ts.1
 
 -- what follows the name of an encoding. Nothing: the name is that of data
-abbrev pub parse_signature : Productions → Named → Parses Tree
+abbrev pub parse_signature : Productions → LearnedName → Parses Tree
 parse_signature p n s =
     if is_encoding_end s.rest then make (data_name n.tree) s else parse_function p n s
 

@@ -7,7 +7,7 @@ use Rattle.cxx_tree.specs.declared.kinds.RefQual.TheVariants as refqual
 use Rattle.cxx_tree.specs.declared.kinds.Std.{Std}
 use Rattle.cxx_tree.specs.declared.kinds.Std.TheVariants as std
 use Rattle.cxx_tree.specs.Tree.{Tree, named, std_name, param}
-use Rattle.cxx_tree.specs.Rows.{word, literal, prefixed}
+use Rattle.cxx_tree.specs.Phrases.{word, literal, prefixed}
 use Rattle.cxx_tree.specs.Texts.{number_printed}
 use Rattle.abi_scalars.specs.Bytes.{begins}
 use Rattle.abi_scalars.specs.Scalars.{index_of, source_text}

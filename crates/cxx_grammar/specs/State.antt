@@ -62,7 +62,7 @@ pub record Info : Type 0 where
   -- the name after `CI`
   pub inherited : Option Tree
 
-pub record Named : Type 0 where
+pub record LearnedName : Type 0 where
   pub tree : Tree
   pub info : Info
 
@@ -73,5 +73,5 @@ abbrev pub no_info : Info
 no_info = record { ends_with_args = false; no_return = false; cv = no_cv; ref = refqual.None; inherited = None }
 
 -- a name of which nothing is learned
-abbrev pub plain : Tree → Named
+abbrev pub plain : Tree → LearnedName
 plain t = record { tree = t; info = no_info }

@@ -5,23 +5,23 @@ use Rattle.cxx_tree.specs.declared.kinds.Cv.{Cv}
 use Rattle.cxx_tree.specs.declared.kinds.RefQual.{RefQual}
 use Rattle.cxx_tree.specs.declared.node.Plain.{Plain}
 use Rattle.cxx_tree.specs.declared.node.Plain.TheVariants as plain
-use Rattle.cxx_tree.specs.declared.node.Text as stored
+use Rattle.cxx_tree.specs.declared.node.NodeText as stored
 use Rattle.cxx_tree.specs.Tree.{Tree, qualified, pointer, reference}
 use Rattle.cxx_tree.specs.Stored.{Held, plain_tree}
 use Rattle.cxx_printer.specs.Asked.{IsLeft, OneSided}
 use Rattle.cxx_printer.specs.declared.env.Env.{Env}
 use Rattle.cxx_printer.specs.declared.words.Form.{Form}
 use Rattle.cxx_printer.specs.Heads.{protocol_of}
-use Rattle.cxx_printer.specs.Printing.{Text, Item, Run, parens, qualifiers, signature_right, print, whole, right_behind, blank_unless, with_cv, pointed, refers, reference_to, collapsed}
+use Rattle.cxx_printer.specs.Print.{Sides, Item, Run, parens, qualifiers, signature_right, print, whole, right_behind, blank_unless, with_cv, pointed, refers, reference_to, collapsed}
 use Rattle.cxx_printer.specs.Words.{is_llvm, cv_text, mark, opened, closed}
 use Rattle.cxx_printer.proofs.Packs.{closed_nothing, plain-one_sided, qualified-one_sided}
 
-one-side : (x : Text) (c : Bool) → IsLeft x → x.left ++ right_behind c x ≡ x.left
+one-side : (x : Sides) (c : Bool) → IsLeft x → x.left ++ right_behind c x ≡ x.left
 one-side x c h =
     ap (λ (b : Bool). x.left ++ ((if b then blank_unless c else []) ++ x.right)) h.1
     ∙ ap (λ (l : List ℕ). x.left ++ l) h.0 ∙ append-nil x.left
 
-declared-left : (x : Text) (k : List ℕ) → IsLeft x → (x.left ++ (opened x.form ++ k)) ++ (closed x.form ++ right_behind false x) ≡ x.left ++ k
+declared-left : (x : Sides) (k : List ℕ) → IsLeft x → (x.left ++ (opened x.form ++ k)) ++ (closed x.form ++ right_behind false x) ≡ x.left ++ k
 unfolding opened
 declared-left x k h =
     ap (λ (r : List ℕ). (x.left ++ (opened x.form ++ k)) ++ r) (closed_nothing x h) ∙ append-nil (x.left ++ (opened x.form ++ k))
@@ -59,7 +59,7 @@ whole-reference t u l env e kind base os =
     let p = print u env in
     let h = (os env).0 in
     ap (λ (x : List ℕ). x ++ mark l) (one-side p.text p.closed h) ∙ sym (declared-left p.text (mark l) h)
-    ∙ sym (ap (λ (b : Text). (refers l b).left ++ (refers l b).right) base)
+    ∙ sym (ap (λ (b : Sides). (refers l b).left ++ (refers l b).right) base)
     ∙ sym (ap (λ (k : Option Bool). whole (reference_to (collapsed l k) p)) kind) ∙ sym (ap (λ (v : Tree). whole (print v env)) e)
 
 pub whole-cv-reference : (t u w : Tree) (l : Bool) (cv : Cv) (env : Env) → t ≡ reference u l → u ≡ qualified w cv → OneSided w → whole (print w env) ++ (cv_text cv ++ mark l) ≡ whole (print t env)
@@ -84,7 +84,7 @@ plain-itself h ts (plain.AbiTag n x) env = (refl, refl)
 plain-itself h ts (plain.InModule n m) env = (refl, refl)
 plain-itself h ts (plain.Data n) env = (refl, refl)
 plain-itself h ts (plain.ObjcProtocol t x) env = (refl, refl)
-plain-itself h ts (plain.List x) env = (refl, refl)
+plain-itself h ts (plain.Several x) env = (refl, refl)
 plain-itself h ts (plain.Expansion t) env = (refl, refl)
 plain-itself h ts (plain.Param l i) env = (refl, refl)
 
@@ -94,7 +94,7 @@ whole-plain-reference h ts p t u l env e f =
     whole-reference t u l env e (ap (λ (v : Tree). (print v env).kind) f ∙ i.0)
     (ap (λ (v : Tree). (print v env).base) f ∙ i.1 ∙ sym (ap (λ (v : Tree). (print v env).text) f)) (plain-one_sided h ts p u f)
 
-plain-no_protocol : (h : Held) (ts : List Tree) (p : Plain) → ((t : ℕ) (w : stored.Text) → p ≡ plain.ObjcProtocol t w → ⊥) → protocol_of (plain_tree h ts p) ≡ None
+plain-no_protocol : (h : Held) (ts : List Tree) (p : Plain) → ((t : ℕ) (w : stored.NodeText) → p ≡ plain.ObjcProtocol t w → ⊥) → protocol_of (plain_tree h ts p) ≡ None
 unfolding protocol_of plain_tree
 plain-no_protocol h ts (plain.Name x) other = refl
 plain-no_protocol h ts (plain.Leaf a x y) other = refl
@@ -107,11 +107,11 @@ plain-no_protocol h ts (plain.AbiTag n x) other = refl
 plain-no_protocol h ts (plain.InModule n m) other = refl
 plain-no_protocol h ts (plain.Data n) other = refl
 plain-no_protocol h ts (plain.ObjcProtocol t w) other = absurd (other t w refl)
-plain-no_protocol h ts (plain.List x) other = refl
+plain-no_protocol h ts (plain.Several x) other = refl
 plain-no_protocol h ts (plain.Expansion t) other = refl
 plain-no_protocol h ts (plain.Param l i) other = refl
 
-pub whole-plain-pointer : (h : Held) (ts : List Tree) (p : Plain) (t u : Tree) (env : Env) → t ≡ pointer u → u ≡ plain_tree h ts p → ((x : ℕ) (w : stored.Text) → p ≡ plain.ObjcProtocol x w → ⊥)
+pub whole-plain-pointer : (h : Held) (ts : List Tree) (p : Plain) (t u : Tree) (env : Env) → t ≡ pointer u → u ≡ plain_tree h ts p → ((x : ℕ) (w : stored.NodeText) → p ≡ plain.ObjcProtocol x w → ⊥)
     → whole (print u env) ++ codes "*" ≡ whole (print t env)
 whole-plain-pointer h ts p t u env e f other =
     whole-pointer t u env e (ap protocol_of f ∙ plain-no_protocol h ts p other) (plain-one_sided h ts p u f)

@@ -11,7 +11,7 @@ use Rattle.cxx_printer.specs.Asked.{item}
 use Rattle.cxx_printer.specs.declared.env.Env.{Env}
 use Rattle.cxx_printer.specs.declared.shapes.Ending.TheVariants.{Less}
 use Rattle.cxx_tree.specs.Stored.{tree_at, trees_at}
-use Rattle.cxx_printer.specs.Printing.{Printed, Text, print, whole, item_text, in_parens, item_behind, is_still_first, separator, scope_text, with_list, items_of, gnu_blank, pointed, right_behind, refers, collapsed, list_from}
+use Rattle.cxx_printer.specs.Print.{Printed, Sides, print, whole, item_text, in_parens, item_behind, is_still_first, separator, scope_text, with_list, items_of, gnu_blank, pointed, right_behind, refers, collapsed, list_from}
 use Rattle.cxx_printer.specs.Prints.{Prints}
 use Rattle.cxx_printer.specs.Words.{is_llvm, styled, mark, opened, closed}
 use Rattle.cxx_printer.proofs.Appended.{prints_then}
@@ -86,7 +86,7 @@ unfolding mark
 some-mark true = omega arith
 some-mark false = omega arith
 
-some-refers : (lvalue : Bool) (b : Text) → 1 ≤ length ((refers lvalue b).left ++ (refers lvalue b).right)
+some-refers : (lvalue : Bool) (b : Sides) → 1 ≤ length ((refers lvalue b).left ++ (refers lvalue b).right)
 some-refers lvalue b =
     let k = opened b.form in
     let m = mark lvalue in

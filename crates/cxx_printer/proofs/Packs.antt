@@ -19,7 +19,7 @@ use Rattle.cxx_printer.specs.Words.{ending, ending_of_byte, opened, closed}
 use Rattle.cxx_printer.specs.declared.words.Form.{Form}
 use Rattle.cxx_printer.specs.Heads.{protocol_of}
 use Rattle.cxx_tree.specs.declared.kinds.Cv.{Cv}
-use Rattle.cxx_printer.specs.Printing.{Printed, Named, Text, simple, print, print_parts, whole, right_behind, blank_unless, in_scope, without_return, head, declared_name, pointed, items_of, printed_at, nothing, element_of, last_ends}
+use Rattle.cxx_printer.specs.Print.{Printed, FunctionTexts, Sides, simple, print, print_parts, whole, right_behind, blank_unless, in_scope, without_return, head, declared_name, pointed, items_of, printed_at, nothing, element_of, last_ends}
 use Rattle.cxx_printer.specs.declared.shapes.Ending.TheVariants.{Other}
 use Rattle.cxx_printer.specs.declared.shapes.Ending.{Ending}
 
@@ -135,7 +135,7 @@ in_parts h n (p ∷ ps) zero d b l = b.0
 in_parts h n (p ∷ ps) (suc k) d b l = in_parts h n ps k d b.1 (omega arith)
 
 -- trees with one side
-pub closed_nothing : (t : Text) → IsLeft t → closed t.form ++ right_behind false t ≡ []
+pub closed_nothing : (t : Sides) → IsLeft t → closed t.form ++ right_behind false t ≡ []
 unfolding closed
 closed_nothing t e =
     ap (λ (f : Form). closed f ++ right_behind false t) e.2
@@ -155,7 +155,7 @@ plain-left h ts (plain.AbiTag n x) env = ((refl, refl, refl), (refl, refl, refl)
 plain-left h ts (plain.InModule n m) env = ((refl, refl, refl), (refl, refl, refl))
 plain-left h ts (plain.Data n) env = ((refl, refl, refl), (refl, refl, refl))
 plain-left h ts (plain.ObjcProtocol t x) env = ((refl, refl, refl), (refl, refl, refl))
-plain-left h ts (plain.List x) env = ((refl, refl, refl), (refl, refl, refl))
+plain-left h ts (plain.Several x) env = ((refl, refl, refl), (refl, refl, refl))
 plain-left h ts (plain.Expansion t) env = ((refl, refl, refl), (refl, refl, refl))
 plain-left h ts (plain.Param l i) env = ((refl, refl, refl), (refl, refl, refl))
 
@@ -174,7 +174,7 @@ plain-asked h ts (plain.AbiTag n x) env = (refl, refl)
 plain-asked h ts (plain.InModule n m) env = (refl, refl)
 plain-asked h ts (plain.Data n) env = (refl, refl)
 plain-asked h ts (plain.ObjcProtocol t x) env = (refl, refl)
-plain-asked h ts (plain.List x) env = (refl, refl)
+plain-asked h ts (plain.Several x) env = (refl, refl)
 plain-asked h ts (plain.Expansion t) env = (refl, refl)
 plain-asked h ts (plain.Param l i) env = (refl, refl)
 
@@ -188,7 +188,7 @@ plain-whole h ts p t env e =
 pub plain-scope : (h : Held) (ts : List Tree) (p : Plain) (t : Tree) (env : Env) → t ≡ plain_tree h ts p → (print (plain_tree h ts p) env).text.left ≡ without_return (print t env)
 plain-scope h ts p t env e =
     plain-whole h ts p (plain_tree h ts p) env refl
-    ∙ sym (ap (λ (o : Option Named). option_map_or (λ f. f.scope) o (whole (print (plain_tree h ts p) env))) (plain-asked h ts p env).0)
+    ∙ sym (ap (λ (o : Option FunctionTexts). option_map_or (λ f. f.scope) o (whole (print (plain_tree h ts p) env))) (plain-asked h ts p env).0)
     ∙ sym (ap (λ (v : Tree). without_return (print v env)) e)
 
 pub plain-head : (h : Held) (ts : List Tree) (p : Plain) (t : Tree) (env : Env) → t ≡ plain_tree h ts p → (print (plain_tree h ts p) env).text.left ≡ head (print t env)
@@ -244,16 +244,16 @@ reference-one_sided u l t e h =
     ((closed_nothing (print u env).base (h env).1, refl, refl), (h env).1)
 
 -- a reference to nothing
-pub refers-none : (o : Option ℕ) (b : Text) (f : ℕ → Printed) → o ≡ None → Refers o b f → b ≡ simple []
+pub refers-none : (o : Option ℕ) (b : Sides) (f : ℕ → Printed) → o ≡ None → Refers o b f → b ≡ simple []
 refers-none None b f e r = r
 refers-none (Some j) b f e r = absurd (true≢false (ap is_some e))
 
-pub left-none : (b : Text) (k : List ℕ) → b ≡ simple [] → b.left ++ (opened b.form ++ k) ≡ k
+pub left-none : (b : Sides) (k : List ℕ) → b ≡ simple [] → b.left ++ (opened b.form ++ k) ≡ k
 unfolding opened
-left-none b k e = ap (λ (t : Text). t.left ++ (opened t.form ++ k)) e
+left-none b k e = ap (λ (t : Sides). t.left ++ (opened t.form ++ k)) e
 
-pub right-none : (b : Text) → b ≡ simple [] → closed b.form ++ right_behind false b ≡ []
+pub right-none : (b : Sides) → b ≡ simple [] → closed b.form ++ right_behind false b ≡ []
 unfolding closed
-right-none b e = ap (λ (t : Text). closed t.form ++ right_behind false t) e
+right-none b e = ap (λ (t : Sides). closed t.form ++ right_behind false t) e
 
 pub ruleset packs = (below_at, ending-at, ending-none, last_ends-at, last_ends-none, parts-end-at, parts-end-none, in_parts)

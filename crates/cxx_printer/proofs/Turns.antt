@@ -8,7 +8,7 @@ use Rattle.cxx_tree.specs.Tree.{Tree}
 use Rattle.cxx_tree.specs.Stored.{Held, tree_at, trees_at, parts_of}
 use Rattle.cxx_printer.specs.declared.env.Env.{Env}
 use Rattle.cxx_printer.specs.Words.{at}
-use Rattle.cxx_printer.specs.Printing.{Printed, Item, items_of, print, print_parts, whole, separator, item_behind, is_still_first, item_text, list_from, sequence, separated, repeated, blank_unless}
+use Rattle.cxx_printer.specs.Print.{Printed, Item, items_of, print, print_parts, whole, separator, item_behind, is_still_first, item_text, list_from, sequence, separated, repeated, blank_unless}
 use Rattle.cxx_printer.specs.Asked.{OneSided, item, text_of_part}
 
 -- what is printed so far and what is left make the whole

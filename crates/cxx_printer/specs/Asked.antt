@@ -10,7 +10,7 @@ use Rattle.cxx_printer.specs.declared.shapes.Ending.{Ending}
 use Rattle.cxx_printer.specs.declared.shapes.Ending.TheVariants.{Other}
 use Rattle.cxx_printer.specs.declared.words.Form.TheVariants.{Plain}
 use Rattle.cxx_printer.specs.Words.{ending, styled}
-use Rattle.cxx_printer.specs.Printing.{Printed, Text, Item, print, simple, items_of, part_text, part_ends, list_of, list_ends}
+use Rattle.cxx_printer.specs.Print.{Printed, Sides, Item, print, simple, items_of, part_text, part_ends, list_of, list_ends}
 
 -- a tree as a part of another
 abbrev pub item : Tree → Item
@@ -40,7 +40,7 @@ abbrev pub run_ends : Option Ending → Ending
 run_ends ends = unwrap_or ends Other
 
 -- a text without a right side
-abbrev pub IsLeft : Text → Type 0
+abbrev pub IsLeft : Sides → Type 0
 IsLeft t = (t.right ≡ []) × (t.bracket ≡ false) × (t.form ≡ Plain)
 
 -- the tree has no right side, whatever it is printed in
@@ -48,5 +48,5 @@ unfoldable pub OneSided : Tree → Type 0
 OneSided t = (env : Env) → IsLeft (print t env).text × IsLeft (print t env).base
 
 -- what a reference refers to: nothing, or what the node at an index prints
-abbrev pub Refers : Option ℕ → Text → (ℕ → Printed) → Type 0
+abbrev pub Refers : Option ℕ → Sides → (ℕ → Printed) → Type 0
 Refers o base f = MatchOption o (base ≡ simple []) (λ j. base ≡ (f j).text)

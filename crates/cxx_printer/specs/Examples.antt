@@ -8,10 +8,10 @@ use Rattle.cxx_tree.specs.declared.kinds.Std.TheVariants.{String as StdString}
 use Rattle.cxx_tree.specs.Tree.{Tree, Trees, named, std_name, scoped, with_args, abi_tag, in_module, data_name}
 use Rattle.cxx_tree.specs.Tree.{objc_protocol, listed, expansion, qualified, pointer, reference, member_pointer, pack}
 use Rattle.cxx_tree.specs.Tree.{no_trees, more_trees}
-use Rattle.cxx_tree.specs.Rows.{word, literal, default_arg, module_name, ctor_dtor, unnamed, closure, bindings}
-use Rattle.cxx_tree.specs.Rows.{array_of, function_of, suffixed, vendor_qualified, vector, function_encoding, ctor_vtable}
-use Rattle.cxx_tree.specs.Rows.{prefixed, enclosing, binary, prefix_op, member, call, new_expression, conversion}
-use Rattle.cxx_tree.specs.Rows.{init_list, typed_literal}
+use Rattle.cxx_tree.specs.Phrases.{word, literal, default_arg, module_name, ctor_dtor, unnamed, closure, bindings}
+use Rattle.cxx_tree.specs.Phrases.{array_of, function_of, suffixed, vendor_qualified, vector, function_encoding, ctor_vtable}
+use Rattle.cxx_tree.specs.Phrases.{prefixed, enclosing, binary, prefix_op, member, call, new_expression, conversion}
+use Rattle.cxx_tree.specs.Phrases.{init_list, typed_literal}
 use Rattle.cxx_printer.specs.declared.env.Style.{Style}
 use Rattle.cxx_printer.specs.declared.env.Style.TheVariants.{Llvm, Gnu, GnuShort}
 use Rattle.cxx_printer.specs.declared.symbol.Mode.TheVariants.{Declaration}

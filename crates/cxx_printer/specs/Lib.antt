@@ -1,6 +1,6 @@
 pub mod Words
 pub mod Heads
-pub mod Printing
+pub mod Print
 pub mod Prints
 pub mod Asked
 pub mod Symbol

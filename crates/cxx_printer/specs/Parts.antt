@@ -4,7 +4,7 @@ use Rattle.std.specs.Prelude.{ℕ, Bool, true, false, List, [], ◌∷◌, ◌++
 use Rattle.std.specs.Option.{option_map_or}
 use Rattle.cxx_tree.specs.Tree.{Tree, scoped, with_args, abi_tag, in_module, data_name, encoding}
 use Rattle.cxx_printer.specs.declared.env.Env.{Env}
-use Rattle.cxx_printer.specs.Printing.{whole, print, items_of, of_return, parens, scope_text}
+use Rattle.cxx_printer.specs.Print.{whole, print, items_of, of_return, parens, scope_text}
 
 -- the name of a function or of data
 unfoldable pub named_of : Tree → Option Tree

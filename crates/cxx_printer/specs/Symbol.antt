@@ -9,7 +9,7 @@ use Rattle.cxx_printer.specs.declared.symbol.Mode.{Mode}
 use Rattle.cxx_printer.specs.declared.symbol.Mode.TheVariants.{Name, Signature}
 use Rattle.cxx_printer.specs.declared.symbol.Symbol as stored
 use Rattle.cxx_printer.specs.Words.{is_llvm, top, byte}
-use Rattle.cxx_printer.specs.Printing.{whole, print, print_parts, items_of, signature_right}
+use Rattle.cxx_printer.specs.Print.{whole, print, print_parts, items_of, signature_right}
 
 -- what a symbol is read as
 pub record Symbol : Type 0 where

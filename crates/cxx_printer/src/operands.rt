@@ -151,7 +151,7 @@ pub fn count_of(arena: &Arena, i: u32) -> Option<u64>
     match *arena.node(i) {
         Node::Plain(ref plain) => match *plain {
             Plain::Expansion(t) => widened(arena.elements(t)),
-            Plain::List(items) => Some(count_of_list(arena, items)),
+            Plain::Several(items) => Some(count_of_list(arena, items)),
             _ => None,
         },
         _ => None,

@@ -1,13 +1,13 @@
 //! The parts of a symbol of a function or of data: the base of its name, the scopes around it, the parameters and the
 //! return type. Any other symbol has none, and then nothing is appended.
-#![tactic(auto, using(crate::proofs::Appended::prints), unfolding(cxx_tree::specs::Stored::tree_of, cxx_tree::specs::Stored::plain_tree, cxx_tree::specs::Stored::declaration_tree, cxx_tree::specs::Stored::IsBelow, cxx_tree::specs::Stored::IsPlainBelow, crate::specs::Parts::named_of, crate::specs::Parts::split, crate::specs::Parts::colons, crate::specs::Parts::joined, crate::specs::Printing::print, crate::specs::Parts::return_type_text, crate::specs::Parts::parameters_text, cxx_tree::specs::Measure::measure))]
+#![tactic(auto, using(crate::proofs::Appended::prints), unfolding(cxx_tree::specs::Stored::tree_of, cxx_tree::specs::Stored::plain_tree, cxx_tree::specs::Stored::declaration_tree, cxx_tree::specs::Stored::IsBelow, cxx_tree::specs::Stored::IsPlainBelow, crate::specs::Parts::named_of, crate::specs::Parts::split, crate::specs::Parts::colons, crate::specs::Parts::joined, crate::specs::Print::print, crate::specs::Parts::return_type_text, crate::specs::Parts::parameters_text, cxx_tree::specs::Measure::measure))]
 
 ghost use Rattle.std.specs.Prelude.{◌≡◌, ◌<◌, ◌≤◌, [], ◌∷◌, Some, None, MatchOption, IfSome};
 ghost use Rattle.cxx_tree.specs.Stored.{forest, size, tree_at, option_at, plain_tree, IsOptionBelow, IsPlainBelow};
 ghost use Rattle.cxx_printer.specs.Prints.{Prints};
 ghost use Rattle.cxx_printer.specs.Words.{top};
-ghost use Rattle.cxx_printer.specs.Printing.{whole, items_of, of_return};
-ghost use Rattle.cxx_printer.specs.Printing as printing;
+ghost use Rattle.cxx_printer.specs.Print.{whole, items_of, of_return};
+ghost use Rattle.cxx_printer.specs.Print as printing;
 ghost use Rattle.cxx_printer.specs.Parts as spec;
 
 use crate::env::{Env, Style};

@@ -2,7 +2,7 @@
 //!
 //! A function that looks at the kind of a node calls the function for that kind last. That call is a jump, so the first
 //! function takes no stack. `#[inline(never)]` keeps the two apart.
-#![tactic(auto, using(crate::proofs::Appended::prints), unfolding(cxx_tree::specs::Stored::tree_of, cxx_tree::specs::Stored::plain_tree, cxx_tree::specs::Stored::declaration_tree, cxx_tree::specs::Stored::IsBelow, cxx_tree::specs::Stored::IsPlainBelow, cxx_tree::specs::Stored::IsDeclarationBelow, crate::specs::Printing::print, crate::specs::Asked::text_of_part, cxx_tree::specs::Measure::measure))]
+#![tactic(auto, using(crate::proofs::Appended::prints), unfolding(cxx_tree::specs::Stored::tree_of, cxx_tree::specs::Stored::plain_tree, cxx_tree::specs::Stored::declaration_tree, cxx_tree::specs::Stored::IsBelow, cxx_tree::specs::Stored::IsPlainBelow, cxx_tree::specs::Stored::IsDeclarationBelow, crate::specs::Print::print, crate::specs::Asked::text_of_part, cxx_tree::specs::Measure::measure))]
 
 ghost use Rattle.std.specs.Prelude.{◌≡◌, ℕ, nat_eq, ◌+◌, ◌<◌, ◌≤◌, Bool, true, false, List, [], ◌∷◌, ◌++◌, codes, length, Option, Some, None, if◌then◌else◌, IfOk};
 ghost use Rattle.std.specs.List.{AllByRecursion};
@@ -15,7 +15,7 @@ ghost use Rattle.cxx_tree.specs.Measure.{measure};
 ghost use Rattle.cxx_tree.specs.Stored.{forest, size, tree_of, IsBelow, tree_at, trees_at, trees_in, option_at, plain_tree, declaration_tree, parts_in, text_at, IsText, IsListBelow, IsOptionBelow, IsPlainBelow, IsDeclarationBelow, IsPartsBelow, IsPartBelow};
 ghost use Rattle.cxx_printer.specs.declared.shapes.Ending.TheVariants as ending;
 ghost use Rattle.cxx_printer.specs.Heads as heads;
-ghost use Rattle.cxx_printer.specs.Printing as spec;
+ghost use Rattle.cxx_printer.specs.Print as spec;
 ghost use Rattle.cxx_printer.specs.Words as words;
 ghost use Rattle.cxx_printer.specs.Prints.{Prints};
 ghost use Rattle.cxx_printer.specs.Asked.{height, item, text_of_part};
@@ -278,7 +278,7 @@ fn print_plain(arena: &Arena, env: Env, plain: &Plain, out: &mut Text) -> Result
         Plain::InModule(name, owner) => print_in_module(arena, env, name, owner, out),
         Plain::Data(name) => print(arena, env, name, out),
         Plain::ObjcProtocol(t, ref protocol) => print_protocol(arena, env, t, protocol, out),
-        Plain::List(items) => print_list(arena, env, arena.items(items), out),
+        Plain::Several(items) => print_list(arena, env, arena.items(items), out),
         Plain::Expansion(t) => print_expansion(arena, env, t, out),
         Plain::Param(_, _) => Ok(()),
     }
@@ -292,7 +292,7 @@ fn print_scoped_name(
     arena: &Arena,
     env: Env,
     scope: u32,
-    name: &cxx_tree::Text,
+    name: &cxx_tree::NodeText,
     out: &mut Text,
 ) -> Result<(), AllocError>
     requires scope { scope < size arena.now }
@@ -377,7 +377,7 @@ pub fn print_signature(
         (spec.whole (spec.print (tree_at (forest arena.now) encoding.now.name) env)
         ++ spec.signature_right env [] (spec.items_of (trees_in arena.now.held (forest arena.now) encoding.now.params))
         encoding.now.cv encoding.now.ref_qual
-        (spec.print_parts (parts_in arena.now.held (forest arena.now) encoding.now.rest) env)) }
+        (spec.print_parts (parts_in arena.now.held (forest arena.now) encoding.now.clauses) env)) }
 {
     tri!(print(arena, env, encoding.name, out));
     tri!(print_parens(arena, env, encoding.params, out));
@@ -424,7 +424,7 @@ fn print_abi_tag(
     arena: &Arena,
     env: Env,
     name: u32,
-    tag: &cxx_tree::Text,
+    tag: &cxx_tree::NodeText,
     out: &mut Text,
 ) -> Result<(), AllocError>
     requires name { name < size arena.now }
@@ -463,7 +463,7 @@ fn print_protocol(
     arena: &Arena,
     env: Env,
     t: u32,
-    protocol: &cxx_tree::Text,
+    protocol: &cxx_tree::NodeText,
     out: &mut Text,
 ) -> Result<(), AllocError>
     requires within { t < size arena.now }
@@ -624,7 +624,7 @@ fn print_scoped_item(
     is_first: bool,
     t: u32,
     scope: u32,
-    name: &cxx_tree::Text,
+    name: &cxx_tree::NodeText,
     out: &mut Text,
 ) -> Result<(), AllocError>
     requires within { t < size arena.now }
@@ -1627,7 +1627,7 @@ fn right_encoding(
         (spec.of_return spec.behind env (spec.items_of (option_at (forest arena.now) encoding.now.ret)))
         (spec.items_of (trees_in arena.now.held (forest arena.now) encoding.now.params))
         encoding.now.cv encoding.now.ref_qual
-        (spec.print_parts (parts_in arena.now.held (forest arena.now) encoding.now.rest) env)) }
+        (spec.print_parts (parts_in arena.now.held (forest arena.now) encoding.now.clauses) env)) }
 {
     tri!(print_parens(arena, env, encoding.params, out));
     if env.is_llvm() {
@@ -1637,7 +1637,7 @@ fn right_encoding(
     tri!(write_cv(encoding.cv, out));
     tri!(write_ref(encoding.ref_qual, out));
     tri!(right_ret(arena, env, encoding.ret, out));
-    print_parts(arena, env, encoding.rest, out)
+    print_parts(arena, env, encoding.clauses, out)
 }
 
 // Appends the qualifiers of a function, and what follows them.
@@ -1652,14 +1652,14 @@ fn print_qualifiers(
     requires below { IsBelow arena.now.held (size arena.now) (node.Encoding encoding.now) }
     ensures prints { Prints result out.old out.new
         (words.cv_text encoding.now.cv ++ (words.ref_text encoding.now.ref_qual
-        ++ (spec.print_parts (parts_in arena.now.held (forest arena.now) encoding.now.rest) env).text)) }
+        ++ (spec.print_parts (parts_in arena.now.held (forest arena.now) encoding.now.clauses) env).text)) }
 {
     tri!(write_cv(encoding.cv, out));
     tri!(write_ref(encoding.ref_qual, out));
-    if arena.parts_of(encoding.rest).is_empty() {
+    if arena.parts_of(encoding.clauses).is_empty() {
         return Ok(());
     }
-    print_parts(arena, env, encoding.rest, out)
+    print_parts(arena, env, encoding.clauses, out)
 }
 
 #[inline(never)]

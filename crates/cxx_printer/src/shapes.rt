@@ -1,11 +1,11 @@
 //! What is asked of a tree without printing it. Where a tree is a pack, its element is asked.
-#![tactic(auto, using(crate::proofs::Packs::packs), unfolding(cxx_tree::specs::Stored::tree_of, cxx_tree::specs::Stored::plain_tree, cxx_tree::specs::Stored::declaration_tree, cxx_tree::specs::Stored::IsBelow, cxx_tree::specs::Stored::IsPlainBelow, cxx_tree::specs::Stored::IsDeclarationBelow, crate::specs::Printing::print, crate::specs::Asked::ends_of_part, cxx_tree::specs::Measure::measure))]
+#![tactic(auto, using(crate::proofs::Packs::packs), unfolding(cxx_tree::specs::Stored::tree_of, cxx_tree::specs::Stored::plain_tree, cxx_tree::specs::Stored::declaration_tree, cxx_tree::specs::Stored::IsBelow, cxx_tree::specs::Stored::IsPlainBelow, cxx_tree::specs::Stored::IsDeclarationBelow, crate::specs::Print::print, crate::specs::Asked::ends_of_part, cxx_tree::specs::Measure::measure))]
 
 ghost use Rattle.std.specs.Prelude.{◌≡◌, ℕ, ◌<◌, ◌≤◌, Bool, true, false, Option, Some, None, MatchOption, IfSome};
 ghost use Rattle.std.specs.List.{AllByRecursion};
 ghost use Rattle.cxx_tree.specs.Tree.{named, pack, scoped};
 ghost use Rattle.cxx_tree.specs.Stored.{forest, size, tree_of, tree_at, trees_at, trees_in, plain_tree, parts_in, parts_at, parts_of, IsBelow, IsListBelow, IsPlainBelow, IsPartsBelow, IsPartBelow};
-ghost use Rattle.cxx_printer.specs.Printing as spec;
+ghost use Rattle.cxx_printer.specs.Print as spec;
 ghost use Rattle.cxx_printer.specs.Words.{ending, ending_of_byte, within};
 ghost use Rattle.cxx_tree.specs.Measure.{measure};
 ghost use Rattle.cxx_printer.specs.Heads as heads;
@@ -283,7 +283,7 @@ fn ending_of_plain(arena: &Arena, env: Env, plain: &Plain) -> Ending
         Plain::InModule(_, owner) => ending_of(arena, env, owner),
         Plain::Data(name) => ending_of(arena, env, name),
         Plain::ObjcProtocol(_, _) => Ending::Greater,
-        Plain::List(items) => ending_of_list(arena, env, arena.items(items)),
+        Plain::Several(items) => ending_of_list(arena, env, arena.items(items)),
         Plain::Expansion(t) => ending_of_expansion(arena, env, t),
         Plain::Param(_, _) => Ending::Other,
     }

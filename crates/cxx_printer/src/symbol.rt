@@ -34,7 +34,7 @@ pub struct Symbol {
     /// The symbol is that of a block's function.
     pub is_block: bool,
     /// What follows from a dot.
-    pub suffix: Option<cxx_tree::Text>,
+    pub suffix: Option<cxx_tree::NodeText>,
 }
 
 /// Appends what a symbol prints.
@@ -136,7 +136,7 @@ fn print_without_return_type(
 fn print_suffix(
     arena: &Arena,
     env: Env,
-    suffix: Option<cxx_tree::Text>,
+    suffix: Option<cxx_tree::NodeText>,
     out: &mut Text,
 ) -> Result<(), AllocError>
     requires suffix { IfSome suffix (IsText arena.now.held) }

@@ -4,7 +4,7 @@
 ghost use Rattle.std.specs.Prelude.{◌≡◌, ℕ, ◌+◌, ◌≤◌, Bool, List, [], ◌∷◌, ◌++◌, codes, if◌then◌else◌};
 ghost use Rattle.std.specs.Fmt.{decimal};
 ghost use Rattle.cxx_tree.specs.Stored.{IsText, text_at};
-ghost use Rattle.cxx_printer.specs.Printing as spec;
+ghost use Rattle.cxx_printer.specs.Print as spec;
 ghost use Rattle.cxx_printer.specs.Prints.{Prints};
 ghost use Rattle.cxx_printer.specs.Words as words;
 
@@ -56,7 +56,7 @@ pub fn write_joined(scope: &[u8], name: &[u8], out: &mut Text) -> Result<(), All
 
 /// Appends a text of a node.
 #[inline(never)]
-pub fn write_text(arena: &Arena, text: &cxx_tree::Text, out: &mut Text) -> Result<(), AllocError>
+pub fn write_text(arena: &Arena, text: &cxx_tree::NodeText, out: &mut Text) -> Result<(), AllocError>
     requires within { IsText arena.now.held text.now }
     ensures prints { Prints result out.old out.new (text_at arena.now.held text.now) }
 {
@@ -68,8 +68,8 @@ pub fn write_text(arena: &Arena, text: &cxx_tree::Text, out: &mut Text) -> Resul
 pub fn styled_bytes<'a>(
     arena: &'a Arena,
     env: Env,
-    llvm: &cxx_tree::Text,
-    gnu: &cxx_tree::Text,
+    llvm: &cxx_tree::NodeText,
+    gnu: &cxx_tree::NodeText,
 ) -> &'a [u8]
     requires llvm { IsText arena.now.held llvm.now }
     requires gnu { IsText arena.now.held gnu.now }
@@ -86,8 +86,8 @@ pub fn styled_bytes<'a>(
 pub fn write_styled(
     arena: &Arena,
     env: Env,
-    llvm: &cxx_tree::Text,
-    gnu: &cxx_tree::Text,
+    llvm: &cxx_tree::NodeText,
+    gnu: &cxx_tree::NodeText,
     out: &mut Text,
 ) -> Result<(), AllocError>
     requires llvm { IsText arena.now.held llvm.now }

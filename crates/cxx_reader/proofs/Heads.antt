@@ -11,7 +11,7 @@ use Rattle.cxx_tree.proofs.InScope.{name-limit}
 use Rattle.cxx_grammar.specs.declared.cases.FirstCase.{FirstCase}
 use Rattle.cxx_grammar.specs.declared.cases.FirstCase.TheVariants as first
 use Rattle.cxx_grammar.specs.declared.cases.ComponentCase.TheVariants as component
-use Rattle.cxx_grammar.specs.State.{State, Info, Named, ◌>>=◌, past, save, with_rest, make, no_info}
+use Rattle.cxx_grammar.specs.State.{State, Info, LearnedName, ◌>>=◌, past, save, with_rest, make, no_info}
 use Rattle.cxx_grammar.specs.Cases.{case_of_component}
 use Rattle.cxx_grammar.specs.Leaves.{parse_source, parse_base, base_as, parse_substitution, parse_template_param, past_cv, past_ref}
 use Rattle.cxx_grammar.specs.Grammar.{info_at, make_scoped, std}
@@ -22,7 +22,7 @@ use Rattle.cxx_reader.specs.declared.reader.Reader.{Reader}
 use Rattle.cxx_tree.specs.declared.arena.Stop.{Stop}
 use Rattle.cxx_tree.specs.declared.arena.Stop.TheVariants.{Unreadable, Memory}
 use Rattle.cxx_tree.specs.Stored.{Store, stands}
-use Rattle.cxx_reader.specs.declared.reader.Named as read
+use Rattle.cxx_reader.specs.declared.reader.LearnedName as read
 use Rattle.cxx_reader.specs.Outcome.{Gives, GivesNamed, IsNamed, named_at}
 use Rattle.cxx_reader.proofs.Rules.{productions}
 use Rattle.cxx_reader.specs.Heads.{next_source, source_in, named_in, head_as, begins_name}
@@ -71,7 +71,7 @@ std_then r after t s mid b made g =
     let same : ◌≡◌ {A = Tree × State} (std, s) (t, mid) = let f = made in cc in
     subst (Gives r after) (sym (source_in_std s b)) (subst (λ (p : Tree × State). Gives r after (source_in p.0 p.1)) (sym same) g)
 
-source_then : (q : Named) (s : State) (o : Option (List ℕ × List ℕ))
+source_then : (q : LearnedName) (s : State) (o : Option (List ℕ × List ℕ))
     → ((o >>= λ n. make (named (source_text n.0)) (with_rest n.1 s)) >>= λ b. make_scoped q b.0 b.1)
     ≡ ((o >>= λ n. make (scoped false q.tree (named (source_text n.0))) (with_rest n.1 s)) >>= λ t. Some (with_info (record q.info { ends_with_args = false }) t.0, t.1))
 source_then q s None = refl
@@ -86,35 +86,35 @@ source_then q s (Some n) = go (measure (named (source_text n.0))).fits refl
     go true f = refl
     go false f = rw (name-limit q.tree (named (source_text n.0)) f) refl
 
-pub source_component : (p : Productions) (q : Named) (s : State) → begins_source s.rest ≡ true → parse_component p q s ≡ named_in q s
+pub source_component : (p : Productions) (q : LearnedName) (s : State) → begins_source s.rest ≡ true → parse_component p q s ≡ named_in q s
 unfolding component_as base_as
 source_component p q s e = rw (no_args s.rest e, no_letter s.rest e, unqualified s.rest e, e) (source_then q s (identifier s.rest))
 
-abbrev learned : Info → Tree × State → Option (Named × State)
+abbrev learned : Info → Tree × State → Option (LearnedName × State)
 learned i t = Some (with_info i t.0, t.1)
 
 abbrev past_mark : Tree × State → Option (Tree × State)
 past_mark t = Some (t.0, past "M" t.1)
 
-abbrev named_past_mark : Named × State → Option (Named × State)
+abbrev named_past_mark : LearnedName × State → Option (LearnedName × State)
 named_past_mark c = Some (c.0, past "M" c.1)
 
 next_then : (i : Info) (o : Option (Tree × State)) → ((o >>= learned i) >>= named_past_mark) ≡ ((o >>= past_mark) >>= learned i)
 next_then i None = refl
 next_then i (Some t) = refl
 
-pub source_next : (p : Productions) (q : Named) (s : State) → begins_source s.rest ≡ true
+pub source_next : (p : Productions) (q : LearnedName) (s : State) → begins_source s.rest ≡ true
     → parse_next p q s ≡ (next_source q.tree s >>= learned (record q.info { ends_with_args = false }))
 source_next p q s e = rw (source_component p q (save q.tree s) e) (next_then (record q.info { ends_with_args = false }) (source_in q.tree (save q.tree s)))
 
 -- a source name isn't read
-pub source_stop : (e : Stop) (after : Reader) (p : Productions) (q : Named) (s : State) → begins_source s.rest ≡ true
+pub source_stop : (e : Stop) (after : Reader) (p : Productions) (q : LearnedName) (s : State) → begins_source s.rest ≡ true
     → Gives (Err e) after (next_source q.tree s) → GivesNamed (Err e) after (parse_next p q s)
 source_stop Unreadable after p q s b f = source_next p q s b ∙ rw f refl
 source_stop Memory after p q s b f = tt
 
 -- a source name is read
-pub source_ok : (p : Productions) (q : Named) (s after : State) (t : Tree) → begins_source s.rest ≡ true
+pub source_ok : (p : Productions) (q : LearnedName) (s after : State) (t : Tree) → begins_source s.rest ≡ true
     → next_source q.tree s ≡ Some (t, after) → parse_next p q s ≡ Some (with_info (record q.info { ends_with_args = false }) t, after)
 source_ok p q s after t b read = source_next p q s b ∙ rw read refl
 
@@ -126,12 +126,12 @@ option_stays a b None g h = (tt, refl)
 option_stays a b (Some k) g h = (omega (arith, g.longer, h), ap (λ (t : Tree). Some t) (g.same k h))
 
 -- what was learned of a name stays
-pub named_stays : (a b : Store) (n : read.Named) → KeepsNodes a b → IsNamed a n → named_at b n ≡ named_at a n
+pub named_stays : (a b : Store) (n : read.LearnedName) → KeepsNodes a b → IsNamed a n → named_at b n ≡ named_at a n
 unfolding named_at stands
 named_stays a b n g h =
     let tree = g.same n.node h.0 in let inherited = (option_stays a b n.info.inherited g h.1).1 in cc
 
-after_tree : {A : Type 0} (f : Tree → State → Option (A × State)) (o : Option (Tree × State)) (g : A → State → Option (Named × State))
+after_tree : {A : Type 0} (f : Tree → State → Option (A × State)) (o : Option (Tree × State)) (g : A → State → Option (LearnedName × State))
     → (o >>= λ t. f t.0 t.1 >>= λ c. g c.0 c.1) ≡ ((o >>= λ t. f t.0 t.1) >>= λ c. g c.0 c.1)
 after_tree f None g = refl
 after_tree f (Some t) g = refl

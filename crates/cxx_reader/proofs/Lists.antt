@@ -8,7 +8,7 @@ use Rattle.cxx_tree.specs.declared.node.List as handle
 use Rattle.std.specs.Prelude.{IfOk, OnOk, IsOkUnless}
 use Rattle.cxx_tree.specs.Stored.{Store, size, list_at, IsListBelow}
 use Rattle.cxx_tree.proofs.Grown.{nodes-same, nodes-trans, saved-same}
-use Rattle.cxx_grammar.specs.State.{State, Named, Parses, skip}
+use Rattle.cxx_grammar.specs.State.{State, LearnedName, Parses, skip}
 use Rattle.cxx_grammar.specs.Cases.{is_args_end, is_encoding_end}
 use Rattle.cxx_reader.specs.declared.reader.Reader.{Reader}
 use Rattle.cxx_tree.specs.declared.arena.Stop.{Stop}
@@ -109,7 +109,7 @@ items_stop Unreadable from after item l e f = items_fail l e f
 items_stop Memory from after item l e f = tt
 
 -- a component isn't read
-pub components_stop : (e : Stop) (after : Reader) (p : Productions) {whole : Option (Named × State)} {q : Named} {u : State} → ComponentsSoFar whole p q u → is_args_end u.rest ≡ false
+pub components_stop : (e : Stop) (after : Reader) (p : Productions) {whole : Option (LearnedName × State)} {q : LearnedName} {u : State} → ComponentsSoFar whole p q u → is_args_end u.rest ≡ false
     → GivesNamed (Err e) after (parse_next p q u) → GivesNamed (Err e) after whole
 components_stop Unreadable after p l e f = components_fail l e f
 components_stop Memory after p l e f = tt

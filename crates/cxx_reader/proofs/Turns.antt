@@ -4,7 +4,7 @@ use Rattle.std.specs.Prelude.{if◌then◌else◌, codes}
 use Rattle.std.proofs.lemmas.List.{append-nil}
 use Rattle.abi_scalars.specs.Bytes.{begins}
 use Rattle.cxx_tree.specs.Tree.{Tree}
-use Rattle.cxx_grammar.specs.State.{State, Named, Parses, ◌>>=◌, skip, past}
+use Rattle.cxx_grammar.specs.State.{State, LearnedName, Parses, ◌>>=◌, skip, past}
 use Rattle.cxx_grammar.specs.Grammar.{Productions, parse_items, parse_list, parse_components, parse_next, parse_rest}
 
 -- what is read stands after what was read before
@@ -55,27 +55,27 @@ items_more {is_end = is_end} {item = item} {so_far = so_far} {s = s} {after = af
     }
 
 -- what a name gives, after some of its components
-pub record ComponentsSoFar (whole : Option (Named × State)) (p : Productions) (q : Named) (s : State) : Type 0 where
+pub record ComponentsSoFar (whole : Option (LearnedName × State)) (p : Productions) (q : LearnedName) (s : State) : Type 0 where
   pub turns : ℕ
   pub enough : length s.rest < turns
   pub is : whole ≡ parse_components p turns q s
 
-pub components_opens : (p : Productions) (n : ℕ) (q : Named) (s : State) → 0 < n → parse_components p n q s
+pub components_opens : (p : Productions) (n : ℕ) (q : LearnedName) (s : State) → 0 < n → parse_components p n q s
     ≡ (if begins (codes "E") s.rest then Some (q, skip 1 s) else (parse_next p q s >>= λ c. parse_components p (n - 1) c.0 c.1))
 unfolding parse_components
 components_opens p zero q s h = absurd (omega arith)
 components_opens p (suc n) q s h = let less : suc n - 1 ≡ n = omega arith in rw less refl
 
-pub components_start : (p : Productions) (q : Named) (s : State) → ComponentsSoFar (parse_rest p q s) p q (past "M" s)
+pub components_start : (p : Productions) (q : LearnedName) (s : State) → ComponentsSoFar (parse_rest p q s) p q (past "M" s)
 components_start p q s = record { turns = length (past "M" s).rest + 1; enough = omega arith; is = refl }
 
-pub components_end : {whole : Option (Named × State)} {p : Productions} {q : Named} {s : State} → ComponentsSoFar whole p q s → begins (codes "E") s.rest ≡ true → whole ≡ Some (q, skip 1 s)
+pub components_end : {whole : Option (LearnedName × State)} {p : Productions} {q : LearnedName} {s : State} → ComponentsSoFar whole p q s → begins (codes "E") s.rest ≡ true → whole ≡ Some (q, skip 1 s)
 components_end {p = p} {q = q} {s = s} l e = l.is ∙ components_opens p l.turns q s (omega (arith, l.enough)) ∙ rw e refl
 
-pub components_fail : {whole : Option (Named × State)} {p : Productions} {q : Named} {s : State} → ComponentsSoFar whole p q s → begins (codes "E") s.rest ≡ false → parse_next p q s ≡ None → whole ≡ None
+pub components_fail : {whole : Option (LearnedName × State)} {p : Productions} {q : LearnedName} {s : State} → ComponentsSoFar whole p q s → begins (codes "E") s.rest ≡ false → parse_next p q s ≡ None → whole ≡ None
 components_fail {p = p} {q = q} {s = s} l e f = l.is ∙ components_opens p l.turns q s (omega (arith, l.enough)) ∙ rw (e, f) refl
 
-pub components_more : {whole : Option (Named × State)} {p : Productions} {q c : Named} {s after : State}
+pub components_more : {whole : Option (LearnedName × State)} {p : Productions} {q c : LearnedName} {s after : State}
     → ComponentsSoFar whole p q s → begins (codes "E") s.rest ≡ false → parse_next p q s ≡ Some (c, after) → length after.rest < length s.rest → ComponentsSoFar whole p c after
 components_more {p = p} {q = q} {s = s} l e f shorter =
     record {

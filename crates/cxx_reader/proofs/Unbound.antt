@@ -6,7 +6,7 @@ use Rattle.cxx_tree.specs.Tree.{Tree, Trees, named, leaf, std_name, phrase, scop
 use Rattle.cxx_tree.specs.Measure.{Measure, measure, measure_each, counted, around, join}
 use Rattle.cxx_tree.proofs.Replaced.{bind-none}
 use Rattle.cxx_grammar.specs.Bases.{args_of, args_or}
-use Rattle.cxx_grammar.specs.State.{State, Named}
+use Rattle.cxx_grammar.specs.State.{State, LearnedName}
 use Rattle.cxx_grammar.specs.Binds.{bind_args, args_of_option, bind_first, bind_tree, binding_of}
 use Rattle.cxx_reader.specs.Unbound.{IsUnbound}
 
@@ -97,7 +97,7 @@ no-inherited false o e = ap args_of_option e
 tree-free : (args : List Tree) (t : Tree) (s : State) → Free (measure t) → bind_tree args t s ≡ Some (t, s)
 tree-free args t s f = rw (bind-none (binding_of args) t f.0) (rw f.1 (rw f.0 refl))
 
-pub unbound : (n : Named) (t : Tree) → n.info.inherited ≡ None → (measure n.tree).params ≡ 0 → (measure n.tree).fits ≡ true → (measure t).params ≡ 0 → (measure t).fits ≡ true → IsUnbound n t
+pub unbound : (n : LearnedName) (t : Tree) → n.info.inherited ≡ None → (measure n.tree).params ≡ 0 → (measure n.tree).fits ≡ true → (measure t).params ≡ 0 → (measure t).fits ≡ true → IsUnbound n t
 unfolding IsUnbound
 unbound n t e p q x y = λ s.
     let all = first-free (args_of n.tree) s (free-args n.tree (p, q)) in

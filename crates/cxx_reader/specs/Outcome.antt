@@ -13,7 +13,7 @@ use Rattle.cxx_tree.specs.declared.kinds.RefQual.TheVariants as refqual
 use Rattle.std.specs.Prelude.{false}
 use Rattle.cxx_grammar.specs.State as grammar
 use Rattle.cxx_reader.specs.declared.reader.Info.{Info}
-use Rattle.cxx_reader.specs.declared.reader.Named.{Named}
+use Rattle.cxx_reader.specs.declared.reader.LearnedName.{LearnedName}
 use Rattle.cxx_reader.specs.declared.reader.Reader.{Reader}
 use Rattle.cxx_tree.specs.declared.arena.Stop.{Stop}
 use Rattle.cxx_tree.specs.declared.arena.Stop.TheVariants.{Unreadable, Memory}
@@ -47,7 +47,7 @@ Gives (Err Unreadable) after parsed = parsed ≡ None
 Gives (Err Memory) after parsed = Unit {0}
 
 -- the name is a node, and so is the name after `CI`, if there is one
-abbrev pub IsNamed : Store → Named → Type 0
+abbrev pub IsNamed : Store → LearnedName → Type 0
 IsNamed a n = IsNode a n.node × IfSome n.info.inherited (IsNode a)
 
 abbrev pub info_at : Store → Info → grammar.Info
@@ -64,15 +64,15 @@ abbrev pub info_of : Cv → RefQual → Info
 info_of cv ref = record { ends_with_args = false; no_return = false; cv = cv; ref_qual = ref; inherited = None }
 
 -- a name of which nothing is learned
-abbrev pub plain_at : ℕ → Named
+abbrev pub plain_at : ℕ → LearnedName
 plain_at node = record { node = node; info = info_of grammar.no_cv refqual.None }
 
 -- the name that a node stands for
-unfoldable pub named_at : Store → Named → grammar.Named
+unfoldable pub named_at : Store → LearnedName → grammar.LearnedName
 named_at a n = record { tree = stands a n.node; info = info_at a n.info }
 
 -- the same of a name
-abbrev pub GivesNamed : Result Named Stop → Reader → Option (grammar.Named × grammar.State) → Type 0
+abbrev pub GivesNamed : Result LearnedName Stop → Reader → Option (grammar.LearnedName × grammar.State) → Type 0
 GivesNamed (Ok n) after parsed = IsNamed after.arena n × (parsed ≡ Some (named_at after.arena n, state after))
 GivesNamed (Err Unreadable) after parsed = parsed ≡ None
 GivesNamed (Err Memory) after parsed = Unit {0}

@@ -2,7 +2,7 @@
 #![tactic(auto, using(crate::proofs::Rules::productions), unfolding(cxx_tree::specs::Grows::Makes, cxx_tree::specs::Stored::tree_of, cxx_tree::specs::Stored::plain_tree, cxx_tree::specs::Stored::IsBelow, cxx_tree::specs::Stored::IsPlainBelow, cxx_tree::specs::Stored::stands, crate::specs::Outcome::list_trees, crate::specs::Items::ends, crate::specs::Items::item_of, cxx_grammar::specs::Grammar::arg_as, cxx_grammar::specs::Grammar::literal_as))]
 
 ghost use Rattle.std.specs.Prelude.{◌≡◌, ℕ, ◌<◌, ◌≤◌, length, OnOk, Some};
-ghost use Rattle.cxx_tree.specs.Rows as rows;
+ghost use Rattle.cxx_tree.specs.Phrases as phrases;
 ghost use Rattle.cxx_tree.specs.Texts.{number_printed};
 ghost use Rattle.cxx_tree.specs.Stored.{forest, size, stands};
 ghost use Rattle.cxx_tree.specs.Kept.{IsNode};
@@ -56,7 +56,7 @@ fn read_pack(reader: &mut Reader, depth: usize) -> Result<u32, Stop>
     ensures moves { OnOk result (Moves reader.old reader.new) }
 {
     let items = tri!(read_args(reader, depth));
-    reader.make(Node::Plain(Plain::List(items)))
+    reader.make(Node::Plain(Plain::Several(items)))
 }
 
 // Reads `<expr-primary>`.
@@ -90,7 +90,7 @@ impl<'a> Reader<'a> {
     // Makes a literal of a type with a number.
     fn make_typed_literal(&mut self, t: u32, number: &[u8]) -> Result<u32, Stop>
         requires t { IsNode self.old.arena t }
-        ensures reads { Gives result self.new (state_spec.make (rows.typed_literal (stands self.old.arena t)
+        ensures reads { Gives result self.new (state_spec.make (phrases.typed_literal (stands self.old.arena t)
             (number_printed number.now)) (state self.old)) }
         ensures keeps { OnOk result (Keeps self.old self.new) }
         ensures rest { OnOk result (self.new.rest.now ≡ self.old.rest.now) }

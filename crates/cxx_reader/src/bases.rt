@@ -6,7 +6,7 @@ ghost use Rattle.cxx_tree.specs.Tree.{std_name};
 ghost use Rattle.cxx_tree.specs.Stored.{forest, size, tree_at, trees_in, text_at, IsText, IsListBelow};
 ghost use Rattle.cxx_grammar.specs.Bases as spec;
 
-use cxx_tree::{Arena, List, Node, Plain, Std, Text};
+use cxx_tree::{Arena, List, Node, Plain, Std, NodeText};
 
 // An abbreviation of std without `std::` and arguments.
 fn std_base(std: Std, is_expanded: bool) -> &'static [u8]
@@ -39,7 +39,7 @@ fn std_base(std: Std, is_expanded: bool) -> &'static [u8]
 }
 
 /// Returns the text that the constructors of a class are named by.
-pub fn base_name(arena: &Arena, i: u32) -> Text
+pub fn base_name(arena: &Arena, i: u32) -> NodeText
     requires within { i < size arena.now }
     ensures value { text_at arena.now.held result ≡ spec.base_name (tree_at (forest arena.now) i) }
     ensures text { IsText arena.now.held result }
@@ -47,13 +47,13 @@ pub fn base_name(arena: &Arena, i: u32) -> Text
     match *arena.node(i) {
         Node::Plain(Plain::Name(text)) => text,
         Node::Plain(Plain::Leaf(_, text, _)) => text,
-        Node::Plain(Plain::StdName(std, is_expanded)) => Text::Fixed(std_base(std, is_expanded)),
+        Node::Plain(Plain::StdName(std, is_expanded)) => NodeText::Fixed(std_base(std, is_expanded)),
         Node::Plain(Plain::AbiTag(name, _)) => base_name(arena, name),
         Node::Plain(Plain::InModule(name, _)) => base_name(arena, name),
         Node::Plain(Plain::WithArgs(name, _)) => base_name(arena, name),
         Node::Plain(Plain::Scoped(_, _, name)) => base_name(arena, name),
         Node::Plain(Plain::ScopedName(_, text)) => text,
-        _ => Text::Fixed(b""),
+        _ => NodeText::Fixed(b""),
     }
 }
 

@@ -13,8 +13,8 @@ ghost use Rattle.cxx_reader.specs.Unbound.{IsUnbound, bind_counted};
 ghost use Rattle.cxx_reader.specs.Outcome.{state, Keeps, KeepsFront, Gives, GivesFrom, GivesCount, IsNamed, named_at, list_trees};
 
 use crate::bases::args_of;
-use crate::reader::{Named, Reader};
-use cxx_tree::bind::{Binding, Rest, bind};
+use crate::reader::{LearnedName, Reader};
+use cxx_tree::bind::{Binding, Others, bind};
 use cxx_tree::{List, Stop};
 
 // The most nodes of a symbol that may be replaced.
@@ -50,7 +50,7 @@ impl<'a> Reader<'a> {
         let binding = Binding {
             level: 0,
             from,
-            rest: Rest::Keep,
+            others: Others::Keep,
         };
         bind(&mut self.arena, self.alloc, &binding, i)
     }
@@ -90,7 +90,7 @@ impl<'a> Reader<'a> {
     }
 
     // Returns the arguments of the name after `CI`, unless the name ends with its own.
-    fn inherited_args(&self, name: Named) -> Option<List>
+    fn inherited_args(&self, name: LearnedName) -> Option<List>
         requires named { IsNamed self.now.arena name }
         ensures value { option_map (λ l. trees_from_list (list_trees self.now.arena l)) result
             ≡ spec.inherited_args (named_at self.now.arena name) }
@@ -106,7 +106,7 @@ impl<'a> Reader<'a> {
     }
 
     // Binds the arguments of an encoding, if its name has some.
-    fn bind_arguments(&mut self, name: Named) -> Result<(), Stop>
+    fn bind_arguments(&mut self, name: LearnedName) -> Result<(), Stop>
         requires named { IsNamed self.old.arena name }
         ensures reads { GivesFrom result (length self.old.arena.pending) self.new (spec.bind_first
             (spec.inherited_args (named_at self.old.arena name)) (bases.args_of (stands self.old.arena name.node))
@@ -151,7 +151,7 @@ impl<'a> Reader<'a> {
 
     // Returns whether the tree of an encoding stays as it is, since neither it nor its name holds a template parameter.
     #[tactic(auto, using(crate::proofs::Unbound::unbound), unfolding(cxx_tree::specs::Stored::stands, crate::specs::Outcome::named_at, cxx_tree::specs::Counts::Row))]
-    fn is_unbound(&self, name: Named, i: u32) -> bool
+    fn is_unbound(&self, name: LearnedName, i: u32) -> bool
         requires named { IsNamed self.now.arena name }
         requires node { IsNode self.now.arena i }
         ensures stays { result ≡ true → IsUnbound (named_at self.now.arena name) (stands self.now.arena i) }
@@ -165,7 +165,7 @@ impl<'a> Reader<'a> {
     }
 
     // Binds the arguments of the name of an encoding, and then its tree, whose template parameters are counted.
-    fn bind_counted(&mut self, name: Named, i: u32) -> Result<u32, Stop>
+    fn bind_counted(&mut self, name: LearnedName, i: u32) -> Result<u32, Stop>
         requires named { IsNamed self.old.arena name }
         requires node { IsNode self.old.arena i }
         ensures reads { Gives result self.new (bind_counted (named_at self.old.arena name) (stands self.old.arena i)
@@ -184,7 +184,7 @@ impl<'a> Reader<'a> {
     }
 
     /// Puts the arguments of the name of an encoding in the place of the template parameters of its tree.
-    pub fn bind(&mut self, name: Named, i: u32) -> Result<u32, Stop>
+    pub fn bind(&mut self, name: LearnedName, i: u32) -> Result<u32, Stop>
         requires named { IsNamed self.old.arena name }
         requires node { IsNode self.old.arena i }
         ensures reads { Gives result self.new (spec.bind_encoding (named_at self.old.arena name)

@@ -10,12 +10,12 @@ ghost use Rattle.cxx_reader.specs.Outcome.{state, Keeps, KeepsFront, Gives, Give
 use crate::cases::is_encoding_end;
 use crate::items::{Items, read_items};
 use crate::names::read_name;
-use crate::reader::{Info, Named, Reader};
+use crate::reader::{Info, LearnedName, Reader};
 use crate::types::read_type;
 use cxx_tree::{Clauses, Node, Plain, Stop};
 
 /// Reads what follows the name of an encoding: nothing, or `<bare-function-type>`.
-pub fn read_signature(reader: &mut Reader, depth: usize, name: Named) -> Result<u32, Stop>
+pub fn read_signature(reader: &mut Reader, depth: usize, name: LearnedName) -> Result<u32, Stop>
     requires named { IsNamed reader.old.arena name }
     ensures reads { Gives result reader.new (spec.parse_signature (spec.productions depth)
         (named_at reader.old.arena name) (state reader.old)) }
@@ -28,7 +28,7 @@ pub fn read_signature(reader: &mut Reader, depth: usize, name: Named) -> Result<
 }
 
 // Reads `<bare-function-type> ::= [<return type>] <parameters>`.
-fn read_function(reader: &mut Reader, depth: usize, name: Named) -> Result<u32, Stop>
+fn read_function(reader: &mut Reader, depth: usize, name: LearnedName) -> Result<u32, Stop>
     requires named { IsNamed reader.old.arena name }
     ensures reads { Gives result reader.new (spec.parse_function (spec.productions depth)
         (named_at reader.old.arena name) (state reader.old)) }
@@ -85,7 +85,7 @@ fn read_some_params(reader: &mut Reader, depth: usize) -> Result<(), Stop>
 
 impl<'a> Reader<'a> {
     // Makes the function of a name, whose parameters are the nodes of the list that is read from `from` on.
-    fn make_function(&mut self, ret: Option<u32>, name: Named, from: usize) -> Result<u32, Stop>
+    fn make_function(&mut self, ret: Option<u32>, name: LearnedName, from: usize) -> Result<u32, Stop>
         requires ret { IfSome ret (IsNode self.old.arena) }
         requires named { IsNamed self.old.arena name }
         requires within { from ≤ length self.old.arena.pending }

@@ -9,7 +9,7 @@ ghost use Rattle.cxx_grammar.specs.Leaves as leaves;
 ghost use Rattle.cxx_tree.specs.declared.kinds.RefQual.TheVariants as refqual;
 ghost use Rattle.cxx_tree.specs.Stored.{stands, forest, size, tree_of, IsBelow, IsText, text_at};
 ghost use Rattle.cxx_tree.specs.Kept.{IsNode};
-ghost use Rattle.cxx_tree.specs.Rows as rows;
+ghost use Rattle.cxx_tree.specs.Phrases as phrases;
 ghost use Rattle.cxx_grammar.specs.Bases as bases;
 ghost use Rattle.cxx_reader.specs.Outcome as outcome;
 ghost use Rattle.cxx_reader.specs.Outcome.{state, Keeps, Moves, Gives, GivesNamed, IsNamed, named_at, info_at};
@@ -17,10 +17,10 @@ ghost use Rattle.cxx_reader.specs.Outcome.{state, Keeps, Moves, Gives, GivesName
 use crate::args::read_args;
 use crate::bases::{base_name, is_param, is_with_args, short_std};
 use crate::cases::{begins, begins_name, component_case, first_case, name_case};
-use crate::reader::{Info, Named, Reader};
+use crate::reader::{Info, LearnedName, Reader};
 use abi_scalars::texts::begins_source;
 use cxx_grammar::cases::{ComponentCase, FirstCase, NameCase};
-use cxx_tree::{Cv, Node, Plain, RefQual, Stop, Text};
+use cxx_tree::{Cv, Node, Plain, RefQual, Stop, NodeText};
 
 /// What is learned of a name before its components are read: its qualifiers.
 fn info_of(cv: Cv, ref_qual: RefQual) -> Info
@@ -51,10 +51,10 @@ fn unqualified() -> Info
 }
 
 /// A name of which nothing is learned.
-fn plain(node: u32) -> Named
+fn plain(node: u32) -> LearnedName
     ensures value { result ≡ outcome.plain_at node }
 {
-    Named {
+    LearnedName {
         node,
         info: unqualified(),
     }
@@ -62,7 +62,7 @@ fn plain(node: u32) -> Named
 
 // Makes a name of a node, and of what is learned of it.
 #[inline(always)]
-fn make_named(reader: &mut Reader, node: Node, info: Info) -> Result<Named, Stop>
+fn make_named(reader: &mut Reader, node: Node, info: Info) -> Result<LearnedName, Stop>
     requires below { IsBelow reader.old.arena.held (size reader.old.arena) node }
     requires inherited { IfSome info.inherited (IsNode reader.old.arena) }
     ensures reads { GivesNamed result reader.new (spec.make_named (tree_of reader.old.arena.held
@@ -71,12 +71,12 @@ fn make_named(reader: &mut Reader, node: Node, info: Info) -> Result<Named, Stop
     ensures rest { OnOk result (reader.new.rest.now ≡ reader.old.rest.now) }
 {
     let node = tri!(reader.make(node));
-    Ok(Named { node, info })
+    Ok(LearnedName { node, info })
 }
 
 // Reads the arguments of a name.
 #[cycle(reader)]
-fn read_with_args(reader: &mut Reader, depth: usize, name: Named) -> Result<Named, Stop>
+fn read_with_args(reader: &mut Reader, depth: usize, name: LearnedName) -> Result<LearnedName, Stop>
     requires named { IsNamed reader.old.arena name }
     ensures reads { GivesNamed result reader.new (spec.parse_with_args (spec.productions depth)
         (named_at reader.old.arena name) (state reader.old)) }
@@ -92,7 +92,7 @@ fn read_with_args(reader: &mut Reader, depth: usize, name: Named) -> Result<Name
 
 // Reads the arguments of a name, if there are any. If there are some, the name is saved before they are read.
 #[cycle(reader)]
-fn read_unscoped(reader: &mut Reader, depth: usize, node: u32) -> Result<Named, Stop>
+fn read_unscoped(reader: &mut Reader, depth: usize, node: u32) -> Result<LearnedName, Stop>
     requires node { IsNode reader.old.arena node }
     ensures reads { GivesNamed result reader.new (spec.parse_unscoped (spec.productions depth)
         (stands reader.old.arena node) (state reader.old)) }
@@ -107,7 +107,7 @@ fn read_unscoped(reader: &mut Reader, depth: usize, node: u32) -> Result<Named, 
 
 /// Reads `<name>`. At most `depth` counted productions may nest, this one included.
 #[cycle(reader)]
-pub fn read_name(reader: &mut Reader, depth: usize) -> Result<Named, Stop>
+pub fn read_name(reader: &mut Reader, depth: usize) -> Result<LearnedName, Stop>
     ensures reads { GivesNamed result reader.new ((spec.productions depth).name (state reader.old)) }
     ensures moves { OnOk result (Moves reader.old reader.new) }
 {
@@ -125,7 +125,7 @@ pub fn read_name(reader: &mut Reader, depth: usize) -> Result<Named, Stop>
 
 // Reads `St <unqualified-name> [<template-args>]`.
 #[cycle(reader)]
-fn read_in_std(reader: &mut Reader, depth: usize) -> Result<Named, Stop>
+fn read_in_std(reader: &mut Reader, depth: usize) -> Result<LearnedName, Stop>
     requires some { 0 < length reader.old.rest.now }
     ensures reads { GivesNamed result reader.new (spec.parse_in_std (spec.productions depth) (state reader.old)) }
     ensures moves { OnOk result (Moves reader.old reader.new) }
@@ -136,7 +136,7 @@ fn read_in_std(reader: &mut Reader, depth: usize) -> Result<Named, Stop>
 
 // Reads `<substitution> <template-args>`.
 #[cycle(reader)]
-fn read_substituted(reader: &mut Reader, depth: usize) -> Result<Named, Stop>
+fn read_substituted(reader: &mut Reader, depth: usize) -> Result<LearnedName, Stop>
     ensures reads { GivesNamed result reader.new (spec.parse_substituted (spec.productions depth) (state reader.old)) }
     ensures moves { OnOk result (Moves reader.old reader.new) }
 {
@@ -149,7 +149,7 @@ fn read_substituted(reader: &mut Reader, depth: usize) -> Result<Named, Stop>
 
 // Reads `<unqualified-name> [<template-args>]`.
 #[cycle(reader)]
-fn read_unqualified(reader: &mut Reader, depth: usize) -> Result<Named, Stop>
+fn read_unqualified(reader: &mut Reader, depth: usize) -> Result<LearnedName, Stop>
     ensures reads { GivesNamed result reader.new (spec.parse_unqualified (spec.productions depth) (state reader.old)) }
     ensures moves { OnOk result (Moves reader.old reader.new) }
 {
@@ -163,7 +163,7 @@ fn read_unqualified(reader: &mut Reader, depth: usize) -> Result<Named, Stop>
 cxx_tree::specs::Stored::stands, crate::specs::Outcome::named_at))]
 #[cycle(reader)]
 #[inline(always)]
-fn read_nested_name(reader: &mut Reader, depth: usize) -> Result<Named, Stop>
+fn read_nested_name(reader: &mut Reader, depth: usize) -> Result<LearnedName, Stop>
     ensures reads { GivesNamed result reader.new (spec.parse_nested (spec.productions depth)
         (state reader.old)) }
     ensures moves { OnOk result (Moves reader.old reader.new) }
@@ -178,7 +178,7 @@ fn read_nested_name(reader: &mut Reader, depth: usize) -> Result<Named, Stop>
 // too.
 #[cycle(reader)]
 #[inline(always)]
-fn read_first(reader: &mut Reader, depth: usize, info: Info) -> Result<Named, Stop>
+fn read_first(reader: &mut Reader, depth: usize, info: Info) -> Result<LearnedName, Stop>
     requires inherited { info.inherited ≡ None }
     ensures reads { GivesNamed result reader.new (heads.parse_head (spec.productions depth)
         (info_at reader.old.arena info) (state reader.old)) }
@@ -194,7 +194,7 @@ fn read_first(reader: &mut Reader, depth: usize, info: Info) -> Result<Named, St
 
 #[cycle(reader)]
 #[inline(always)]
-fn read_first_std(reader: &mut Reader, depth: usize, info: Info) -> Result<Named, Stop>
+fn read_first_std(reader: &mut Reader, depth: usize, info: Info) -> Result<LearnedName, Stop>
     requires some { 0 < length reader.old.rest.now }
     requires inherited { info.inherited ≡ None }
     ensures reads { GivesNamed result reader.new (spec.parse_component (spec.productions depth)
@@ -203,47 +203,47 @@ fn read_first_std(reader: &mut Reader, depth: usize, info: Info) -> Result<Named
 {
     reader.skip(2);
     let node = tri!(reader.make_std());
-    read_component(reader, depth, Named { node, info })
+    read_component(reader, depth, LearnedName { node, info })
 }
 
 #[cycle(reader)]
 #[inline(always)]
-fn read_first_substitution(reader: &mut Reader, depth: usize, info: Info) -> Result<Named, Stop>
+fn read_first_substitution(reader: &mut Reader, depth: usize, info: Info) -> Result<LearnedName, Stop>
     requires inherited { info.inherited ≡ None }
     ensures reads { GivesNamed result reader.new (heads.head_substitution (spec.productions depth)
         (info_at reader.old.arena info) (state reader.old)) }
     ensures moves { OnOk result (Moves reader.old reader.new) }
 {
     let node = tri!(reader.read_substitution());
-    read_component(reader, depth, Named { node, info })
+    read_component(reader, depth, LearnedName { node, info })
 }
 
 #[inline(always)]
-fn read_first_param(reader: &mut Reader, info: Info) -> Result<Named, Stop>
+fn read_first_param(reader: &mut Reader, info: Info) -> Result<LearnedName, Stop>
     requires inherited { info.inherited ≡ None }
     ensures reads { GivesNamed result reader.new (heads.head_param (info_at reader.old.arena info)
         (state reader.old)) }
     ensures moves { OnOk result (Moves reader.old reader.new) }
 {
     let node = tri!(reader.read_template_param());
-    Ok(Named { node, info })
+    Ok(LearnedName { node, info })
 }
 
 #[inline(always)]
-fn read_first_base(reader: &mut Reader, info: Info) -> Result<Named, Stop>
+fn read_first_base(reader: &mut Reader, info: Info) -> Result<LearnedName, Stop>
     requires inherited { info.inherited ≡ None }
     ensures reads { GivesNamed result reader.new (heads.head_base (info_at reader.old.arena info)
         (state reader.old)) }
     ensures moves { OnOk result (Moves reader.old reader.new) }
 {
     let node = tri!(reader.read_base());
-    Ok(Named { node, info })
+    Ok(LearnedName { node, info })
 }
 
 // Reads what follows a component: other components, up to the `E`.
 #[cycle(reader)]
 #[inline(always)]
-fn read_components(reader: &mut Reader, depth: usize, name: Named) -> Result<Named, Stop>
+fn read_components(reader: &mut Reader, depth: usize, name: LearnedName) -> Result<LearnedName, Stop>
     requires named { IsNamed reader.old.arena name }
     ensures reads { GivesNamed result reader.new (spec.parse_rest (spec.productions depth)
         (named_at reader.old.arena name) (state reader.old)) }
@@ -267,7 +267,7 @@ fn read_components(reader: &mut Reader, depth: usize, name: Named) -> Result<Nam
 // Saves a component, and reads the next one with its `M`.
 #[cycle(reader)]
 #[inline(always)]
-fn read_next(reader: &mut Reader, depth: usize, scope: Named) -> Result<Named, Stop>
+fn read_next(reader: &mut Reader, depth: usize, scope: LearnedName) -> Result<LearnedName, Stop>
     requires named { IsNamed reader.old.arena scope }
     ensures reads { GivesNamed result reader.new (spec.parse_next (spec.productions depth)
         (named_at reader.old.arena scope) (state reader.old)) }
@@ -283,7 +283,7 @@ fn read_next(reader: &mut Reader, depth: usize, scope: Named) -> Result<Named, S
 // instructions.
 #[cycle(reader)]
 #[inline(always)]
-fn read_component(reader: &mut Reader, depth: usize, scope: Named) -> Result<Named, Stop>
+fn read_component(reader: &mut Reader, depth: usize, scope: LearnedName) -> Result<LearnedName, Stop>
     requires named { IsNamed reader.old.arena scope }
     ensures reads { GivesNamed result reader.new (spec.parse_component (spec.productions depth)
         (named_at reader.old.arena scope) (state reader.old)) }
@@ -297,7 +297,7 @@ fn read_component(reader: &mut Reader, depth: usize, scope: Named) -> Result<Nam
 
 // Reads a source name in a scope.
 #[inline(always)]
-fn read_scoped_source(reader: &mut Reader, scope: Named) -> Result<Named, Stop>
+fn read_scoped_source(reader: &mut Reader, scope: LearnedName) -> Result<LearnedName, Stop>
     requires named { IsNamed reader.old.arena scope }
     ensures reads { GivesNamed result reader.new (heads.named_in (named_at reader.old.arena scope)
         (state reader.old)) }
@@ -308,13 +308,13 @@ fn read_scoped_source(reader: &mut Reader, scope: Named) -> Result<Named, Stop>
         ends_with_args: false,
         ..scope.info
     };
-    Ok(Named { node, info })
+    Ok(LearnedName { node, info })
 }
 
 // Reads a component after others, of any case.
 #[cycle(reader)]
 #[inline(never)]
-fn read_other_component(reader: &mut Reader, depth: usize, scope: Named) -> Result<Named, Stop>
+fn read_other_component(reader: &mut Reader, depth: usize, scope: LearnedName) -> Result<LearnedName, Stop>
     requires named { IsNamed reader.old.arena scope }
     ensures reads { GivesNamed result reader.new (spec.parse_component (spec.productions depth)
         (named_at reader.old.arena scope) (state reader.old)) }
@@ -335,7 +335,7 @@ fn read_other_component(reader: &mut Reader, depth: usize, scope: Named) -> Resu
 
 // Reads the arguments of a name that has none yet.
 #[cycle(reader)]
-fn read_more_args(reader: &mut Reader, depth: usize, scope: Named) -> Result<Named, Stop>
+fn read_more_args(reader: &mut Reader, depth: usize, scope: LearnedName) -> Result<LearnedName, Stop>
     requires named { IsNamed reader.old.arena scope }
     ensures reads { GivesNamed result reader.new (spec.parse_more_args (spec.productions depth)
         (named_at reader.old.arena scope) (state reader.old)) }
@@ -348,7 +348,7 @@ fn read_more_args(reader: &mut Reader, depth: usize, scope: Named) -> Result<Nam
 }
 
 // Reads a name in a scope.
-fn read_scoped(reader: &mut Reader, scope: Named) -> Result<Named, Stop>
+fn read_scoped(reader: &mut Reader, scope: LearnedName) -> Result<LearnedName, Stop>
     requires named { IsNamed reader.old.arena scope }
     ensures reads { GivesNamed result reader.new (spec.parse_scoped (named_at reader.old.arena scope)
         (state reader.old)) }
@@ -367,7 +367,7 @@ fn read_scoped(reader: &mut Reader, scope: Named) -> Result<Named, Stop>
 }
 
 // Reads a constructor or a destructor.
-fn read_ctor(reader: &mut Reader, scope: Named, is_destructor: bool) -> Result<Named, Stop>
+fn read_ctor(reader: &mut Reader, scope: LearnedName, is_destructor: bool) -> Result<LearnedName, Stop>
     requires some { 0 < length reader.old.rest.now }
     requires named { IsNamed reader.old.arena scope }
     ensures reads { GivesNamed result reader.new (spec.make_ctor (named_at reader.old.arena scope) is_destructor
@@ -380,7 +380,7 @@ fn read_ctor(reader: &mut Reader, scope: Named, is_destructor: bool) -> Result<N
 
 // Reads an inherited constructor.
 #[cycle(reader)]
-fn read_inherited_ctor(reader: &mut Reader, depth: usize, scope: Named) -> Result<Named, Stop>
+fn read_inherited_ctor(reader: &mut Reader, depth: usize, scope: LearnedName) -> Result<LearnedName, Stop>
     requires some { 0 < length reader.old.rest.now }
     requires named { IsNamed reader.old.arena scope }
     ensures reads { GivesNamed result reader.new (spec.parse_inherited (spec.productions depth)
@@ -395,10 +395,10 @@ fn read_inherited_ctor(reader: &mut Reader, depth: usize, scope: Named) -> Resul
 // Makes a constructor or a destructor in its class.
 fn make_ctor(
     reader: &mut Reader,
-    scope: Named,
+    scope: LearnedName,
     is_destructor: bool,
     inherited: Option<u32>,
-) -> Result<Named, Stop>
+) -> Result<LearnedName, Stop>
     requires named { IsNamed reader.old.arena scope }
     requires inherited { IfSome inherited (IsNode reader.old.arena) }
     ensures reads { GivesNamed result reader.new (spec.make_ctor (named_at reader.old.arena scope) is_destructor
@@ -494,9 +494,9 @@ impl<'a> Reader<'a> {
     }
 
     // Makes a constructor or a destructor of a class.
-    fn make_ctor_dtor(&mut self, class: Text, is_destructor: bool) -> Result<u32, Stop>
+    fn make_ctor_dtor(&mut self, class: NodeText, is_destructor: bool) -> Result<u32, Stop>
         requires class { IsText self.old.arena.held class }
-        ensures reads { Gives result self.new (state_spec.make (rows.ctor_dtor (text_at self.old.arena.held
+        ensures reads { Gives result self.new (state_spec.make (phrases.ctor_dtor (text_at self.old.arena.held
             class) is_destructor) (state self.old)) }
         ensures keeps { OnOk result (Keeps self.old self.new) }
         ensures rest { OnOk result (self.new.rest.now ≡ self.old.rest.now) }

@@ -16,7 +16,7 @@ use crate::words::{builtin_of, d_builtin_of, operator_of};
 use abi_scalars::numerals::{Radix, index_of};
 use abi_scalars::texts::{begins_source, identifier, source_text};
 use cxx_grammar::cases::BaseCase;
-use cxx_tree::{Arena, Cv, Node, Plain, Prec, RefQual, Std, Stop, Text};
+use cxx_tree::{Arena, Cv, Node, Plain, Prec, RefQual, Std, Stop, NodeText};
 use std::alloc::Global;
 
 /// The bytes that aren't read yet, and what was read.
@@ -44,7 +44,7 @@ pub struct Info {
 
 /// A name, and what is learned of it.
 #[derive(Clone, Copy)]
-pub struct Named {
+pub struct LearnedName {
     pub node: u32,
     pub info: Info,
 }
@@ -175,7 +175,7 @@ impl<'a> Reader<'a> {
         self.skip(n);
         let name = tri!(self.read_source_name());
         self.arena
-            .make_prefixed(Text::Fixed(word), Text::Fixed(word), name, Prec::Primary)
+            .make_prefixed(NodeText::Fixed(word), NodeText::Fixed(word), name, Prec::Primary)
     }
 
     /// Reads a name without a scope, after its `L`.

@@ -6,10 +6,10 @@ use Rattle.cxx_tree.specs.declared.kinds.Prec.TheVariants.{Unary}
 use Rattle.cxx_tree.specs.declared.kinds.Listing.TheVariants as listing
 use Rattle.cxx_tree.specs.Tree.{Tree, Trees, Parts, phrase, no_parts, text, trees}
 use Rattle.cxx_tree.specs.Stored.{trees_at}
-use Rattle.cxx_tree.specs.Rows as rows
-use Rattle.cxx_tree.specs.Rows.{◌·◌, fixed, styled, whole, enclosed, parens, placed, parens_if_any, expression, primary}
+use Rattle.cxx_tree.specs.Phrases as rows
+use Rattle.cxx_tree.specs.Phrases.{◌·◌, fixed, styled, whole, enclosed, parens, placed, parens_if_any, expression, primary}
 
-pub conversion-others : (t : Tree) (ts : List Tree) (is : List ℕ) (p : Prec) → (length is ≡ 1 → ⊥) → rows.conversion t (trees_at ts is) p ≡ phrase (expression 0 p) (fixed "(" · enclosed t · fixed ")" · parens (trees_at ts is) · no_parts)
+pub conversion-others : (t : Tree) (ts : List Tree) (is : List ℕ) (p : Prec) → (length is ≡ 1 → ⊥) → phrases.conversion t (trees_at ts is) p ≡ phrase (expression 0 p) (fixed "(" · enclosed t · fixed ")" · parens (trees_at ts is) · no_parts)
 conversion-others t ts [] p h = refl
 conversion-others t ts (i ∷ []) p h = absurd (h refl)
 conversion-others t ts (i ∷ j ∷ is) p h = refl
@@ -31,16 +31,16 @@ pub parens-some : (ts : List Tree) (is : List ℕ) (behind : Parts) → (length 
 parens-some ts [] behind h = cc
 parens-some ts (i ∷ is) behind h = refl
 
-pub requires-none : (ts : List Tree) (is : List ℕ) (us : Trees) → (length is == 0) ≡ true → rows.requires_expression (trees_at ts is) us ≡ phrase (primary 0) (fixed "requires {" · trees listing.Sequence us · fixed " }" · no_parts)
+pub requires-none : (ts : List Tree) (is : List ℕ) (us : Trees) → (length is == 0) ≡ true → phrases.requires_expression (trees_at ts is) us ≡ phrase (primary 0) (fixed "requires {" · trees listing.Sequence us · fixed " }" · no_parts)
 requires-none ts [] us h = refl
 requires-none ts (i ∷ is) us h = absurd (grind (arith, nat_tests))
 
-pub requires-some : (ts : List Tree) (is : List ℕ) (us : Trees) → (length is == 0) ≡ false → rows.requires_expression (trees_at ts is) us ≡ phrase (primary 0) (fixed "requires " · parens (trees_at ts is) · fixed " {" · trees listing.Sequence us · fixed " }" · no_parts)
+pub requires-some : (ts : List Tree) (is : List ℕ) (us : Trees) → (length is == 0) ≡ false → phrases.requires_expression (trees_at ts is) us ≡ phrase (primary 0) (fixed "requires " · parens (trees_at ts is) · fixed " {" · trees listing.Sequence us · fixed " }" · no_parts)
 requires-some ts [] us h = cc
 requires-some ts (i ∷ is) us h = refl
 
 -- a `new` expression, by what its lists are
-pub new_expression-as : (ts : List Tree) (ps : List ℕ) (t : Tree) (is : List ℕ) (g y : Bool) (values all : Parts) → parens_if_any (trees_at ts is) no_parts ≡ values → placed (trees_at ts ps) (whole t · values) ≡ all → rows.new_expression (trees_at ts ps) t (trees_at ts is) g y ≡ phrase (expression 0 Unary) (text (rows.new_llvm g y) (rows.new_gnu g) all)
+pub new_expression-as : (ts : List Tree) (ps : List ℕ) (t : Tree) (is : List ℕ) (g y : Bool) (values all : Parts) → parens_if_any (trees_at ts is) no_parts ≡ values → placed (trees_at ts ps) (whole t · values) ≡ all → phrases.new_expression (trees_at ts ps) t (trees_at ts is) g y ≡ phrase (expression 0 Unary) (text (phrases.new_llvm g y) (phrases.new_gnu g) all)
 new_expression-as ts ps t is g y values all e p =
-    ap (λ (x : Parts). phrase (expression 0 Unary) (text (rows.new_llvm g y) (rows.new_gnu g) (placed (trees_at ts ps) (whole t · x)))) e
-    ∙ ap (λ (x : Parts). phrase (expression 0 Unary) (text (rows.new_llvm g y) (rows.new_gnu g) x)) p
+    ap (λ (x : Parts). phrase (expression 0 Unary) (text (phrases.new_llvm g y) (phrases.new_gnu g) (placed (trees_at ts ps) (whole t · x)))) e
+    ∙ ap (λ (x : Parts). phrase (expression 0 Unary) (text (phrases.new_llvm g y) (phrases.new_gnu g) x)) p

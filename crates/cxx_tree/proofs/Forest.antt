@@ -7,8 +7,8 @@ use Rattle.std.proofs.lemmas.List.{append-nil}
 use Rattle.std.specs.List.{AllByRecursion}
 use Rattle.cxx_tree.specs.declared.arena.Entry as entry
 use Rattle.cxx_tree.specs.declared.node.Range.{Range}
-use Rattle.cxx_tree.specs.declared.node.Text.{Text}
-use Rattle.cxx_tree.specs.declared.node.Text.TheVariants.{Fixed, Stored}
+use Rattle.cxx_tree.specs.declared.node.NodeText.{NodeText}
+use Rattle.cxx_tree.specs.declared.node.NodeText.TheVariants.{Fixed, Stored}
 use Rattle.cxx_tree.specs.declared.node.List as handle
 use Rattle.cxx_tree.specs.declared.node.Parts as handles
 use Rattle.cxx_tree.specs.declared.node.Part.{Part}
@@ -75,7 +75,7 @@ plain_tree-same h n ts us agree (plain.AbiTag name tag) b = ap (λ (t : Tree). a
 plain_tree-same h n ts us agree (plain.InModule name owner) b = let one = agree name b.0 in let two = agree owner b.1 in cc
 plain_tree-same h n ts us agree (plain.Data name) b = ap data_name (agree name b)
 plain_tree-same h n ts us agree (plain.ObjcProtocol t protocol) b = ap (λ (u : Tree). objc_protocol u (text_at h protocol)) (agree t b.0)
-plain_tree-same h n ts us agree (plain.List items) b = ap listed (trees_at-same n ts us agree (list_at h items) b.1)
+plain_tree-same h n ts us agree (plain.Several items) b = ap listed (trees_at-same n ts us agree (list_at h items) b.1)
 plain_tree-same h n ts us agree (plain.Expansion t) b = ap expansion (agree t b)
 plain_tree-same h n ts us agree (plain.Param level index) b = refl
 
@@ -112,7 +112,7 @@ tree_of-same h n ts us agree (node.Encoding f) b =
     let zero = option_at-same n ts us agree f.ret b.0 in
     let one = agree f.name b.1 in
     let two = trees_at-same n ts us agree (list_at h f.params) b.2.1 in
-    let three = parts_of-same h n ts us agree (parts_at h f.rest) b.3.1 in
+    let three = parts_of-same h n ts us agree (parts_at h f.clauses) b.3.1 in
     cc
 tree_of-same h n ts us agree (node.Pack items) b = ap pack (trees_at-same n ts us agree (list_at h items) b.1)
 
@@ -153,7 +153,7 @@ stored-at h ns i d s b =
     subst (λ (j : ℕ). IsBelow h j (get_or ns i d)) e (AreStored-at h 0 ns i d s b)
 
 -- what is held grows at its ends
-pub text_at-more : (h g : Held) → Extends h g → (t : Text) → IsText h t → text_at g t ≡ text_at h t
+pub text_at-more : (h g : Held) → Extends h g → (t : NodeText) → IsText h t → text_at g t ≡ text_at h t
 text_at-more h g e (Fixed bytes) b = refl
 text_at-more h g e (Stored r) b = ap (λ (l : List ℕ). slice_range l r.from r.to) e.2.1 ∙ grind (arith, common_steps)
 
@@ -195,7 +195,7 @@ plain_tree-more h g e n ts (plain.AbiTag name tag) b = ap (abi_tag (tree_at ts n
 plain_tree-more h g e n ts (plain.InModule name owner) b = refl
 plain_tree-more h g e n ts (plain.Data name) b = refl
 plain_tree-more h g e n ts (plain.ObjcProtocol t protocol) b = ap (objc_protocol (tree_at ts t)) (text_at-more h g e protocol b.1)
-plain_tree-more h g e n ts (plain.List items) b = ap listed (trees_in-more h g e n ts items b)
+plain_tree-more h g e n ts (plain.Several items) b = ap listed (trees_in-more h g e n ts items b)
 plain_tree-more h g e n ts (plain.Expansion t) b = refl
 plain_tree-more h g e n ts (plain.Param level index) b = refl
 
@@ -219,7 +219,7 @@ tree_of-more h g e n ts (node.Array element dimension) b = ap (array (tree_at ts
 tree_of-more h g e n ts (node.Function f) b =
     let one = trees_in-more h g e n ts f.params b.1 in let two = parts_in-more h g e n ts f.exception b.2 in cc
 tree_of-more h g e n ts (node.Encoding f) b =
-    let one = trees_in-more h g e n ts f.params b.2 in let two = parts_in-more h g e n ts f.rest b.3 in cc
+    let one = trees_in-more h g e n ts f.params b.2 in let two = parts_in-more h g e n ts f.clauses b.3 in cc
 tree_of-more h g e n ts (node.Pack items) b = ap pack (trees_in-more h g e n ts items b)
 
 pub IsRange-more : (n m : ℕ) (r : Range) → n ≤ m → IsRange n r → IsRange m r
@@ -228,7 +228,7 @@ IsRange-more n m r h b = (b.0, omega (arith, h, b.1))
 pub length-more : (A : Type 0) (xs ys : List A) → Begins A xs ys → length xs ≤ length ys
 length-more A xs ys e = omega (arith, ap length e.1, length-append xs e.0)
 
-pub IsText-more : (h g : Held) → Extends h g → (t : Text) → IsText h t → IsText g t
+pub IsText-more : (h g : Held) → Extends h g → (t : NodeText) → IsText h t → IsText g t
 IsText-more h g e (Fixed bytes) b = b
 IsText-more h g e (Stored r) b = IsRange-more (length h.texts) (length g.texts) r (length-more ℕ h.texts g.texts e.2) b
 
@@ -274,7 +274,7 @@ IsPlainBelow-more h g e n m le (plain.AbiTag name tag) b = (omega (arith, le, b.
 IsPlainBelow-more h g e n m le (plain.InModule name owner) b = (omega (arith, le, b.0), omega (arith, le, b.1))
 IsPlainBelow-more h g e n m le (plain.Data name) b = omega (arith, le, b)
 IsPlainBelow-more h g e n m le (plain.ObjcProtocol t protocol) b = (omega (arith, le, b.0), IsText-more h g e protocol b.1)
-IsPlainBelow-more h g e n m le (plain.List items) b = IsListBelow-more h g e n m le items b
+IsPlainBelow-more h g e n m le (plain.Several items) b = IsListBelow-more h g e n m le items b
 IsPlainBelow-more h g e n m le (plain.Expansion t) b = omega (arith, le, b)
 IsPlainBelow-more h g e n m le (plain.Param level index) b = b
 
@@ -298,7 +298,7 @@ IsBelow-more h g e n m le (node.Array element dimension) b = (omega (arith, le, 
 IsBelow-more h g e n m le (node.Function f) b =
     (omega (arith, le, b.0), IsListBelow-more h g e n m le f.params b.1, IsPartsBelow-more h g e n m le f.exception b.2)
 IsBelow-more h g e n m le (node.Encoding f) b =
-    (IsOptionBelow-more n m le f.ret b.0, omega (arith, le, b.1), IsListBelow-more h g e n m le f.params b.2, IsPartsBelow-more h g e n m le f.rest b.3)
+    (IsOptionBelow-more n m le f.ret b.0, omega (arith, le, b.1), IsListBelow-more h g e n m le f.params b.2, IsPartsBelow-more h g e n m le f.clauses b.3)
 IsBelow-more h g e n m le (node.Pack items) b = IsListBelow-more h g e n m le items b
 
 pub AreStored-more : (h g : Held) → Extends h g → (k : ℕ) (ns : List Node) → AreStored h k ns → AreStored g k ns

@@ -1,7 +1,7 @@
 -- Making nodes: texts and parts of an arena stay right as it grows.
 use Rattle.std.proofs.Common.{ℕ, ◌≡◌, ◌≤◌, List, refl, sym, ◌∙◌, arith, subst, Option, Some, None, Result, Err}
 use Rattle.std.specs.List.{AllByRecursion}
-use Rattle.cxx_tree.specs.declared.node.Text.{Text}
+use Rattle.cxx_tree.specs.declared.node.NodeText.{NodeText}
 use Rattle.cxx_tree.specs.declared.node.List as handle
 use Rattle.cxx_tree.specs.declared.node.Parts as handles
 use Rattle.cxx_tree.specs.declared.node.Part.{Part}
@@ -12,7 +12,7 @@ use Rattle.cxx_tree.specs.Grows.{Grows, Makes}
 use Rattle.cxx_tree.specs.Stored.{Store, forest, size, tree_at, option_at, text_at, parts_of, parts_in, IsListBelow, IsText, IsPartBelow, IsPartsBelow}
 use Rattle.cxx_tree.proofs.Forest.{parts_of-more, parts_of-same, text_at-more, IsText-more, IsPartsBelow-more, parts_in-more}
 use Rattle.std.specs.Prelude.{option_map}
-use Rattle.cxx_tree.specs.Rows.{at_most_one}
+use Rattle.cxx_tree.specs.Phrases.{at_most_one}
 use Rattle.cxx_tree.proofs.Grown.{Makes-after, Makes-refused}
 
 -- parts of a grown arena
@@ -25,10 +25,10 @@ pub Makes-memory : (r : Result ℕ Stop) (a b : Store) (t : Tree) → r ≡ Err 
 Makes-memory r a b t e g = subst (λ (x : Result ℕ Stop). Makes x a b t) (sym e) (Makes-refused a b t g)
 
 -- texts of a grown arena
-pub text_at-grows : (a b : Store) (t : Text) → Grows a b → IsText a.held t → text_at b.held t ≡ text_at a.held t
+pub text_at-grows : (a b : Store) (t : NodeText) → Grows a b → IsText a.held t → text_at b.held t ≡ text_at a.held t
 text_at-grows a b t g i = text_at-more a.held b.held g.extends t i
 
-pub IsText-grows : (a b : Store) (t : Text) → Grows a b → IsText a.held t → IsText b.held t
+pub IsText-grows : (a b : Store) (t : NodeText) → Grows a b → IsText a.held t → IsText b.held t
 IsText-grows a b t g i = IsText-more a.held b.held g.extends t i
 
 -- parts that were copied before

@@ -3,7 +3,7 @@ use Rattle.std.proofs.Common.{ℕ, ◌≡◌, List, [], ◌∷◌, ◌++◌, ref
 use Rattle.std.specs.Prelude.{OnOk, is_ok, if◌then◌else◌, not, option_map}
 use Rattle.std.proofs.lemmas.Bool.Decides.{nat_tests}
 use Rattle.cxx_tree.specs.declared.node.List as handle
-use Rattle.cxx_tree.specs.Rows.{declared, signature, constrained, constrained_before, parens}
+use Rattle.cxx_tree.specs.Phrases.{declared, signature, constrained, constrained_before, parens}
 use Rattle.std.specs.List.{AllByRecursion}
 use Rattle.cxx_tree.specs.declared.node.Part.{Part}
 use Rattle.cxx_tree.specs.declared.node.Part.TheVariants as part

@@ -210,7 +210,7 @@ map-grows a b g (i ∷ is) h = let one = g.same i h.0 in let rest = map-grows a 
 pub binding_at-grows : (a b : Store) (x : given.Binding) → Grows a b → AreNamed a x → binding_at b x
     ≡ binding_at a x
 binding_at-grows a b x g h =
-    ap (λ (ts : List Tree). record { level = x.level; names = ts; rest = x.rest })
+    ap (λ (ts : List Tree). record { level = x.level; names = ts; others = x.others })
     (ap (λ (is : List ℕ). map (tree_at (forest b)) (drop x.from is)) g.pending ∙ map-grows a b g (names_at a x) h.1)
 
 pub AreNamed-grows : (a b : Store) (x : given.Binding) → Grows a b → AreNamed a x → AreNamed b x
@@ -318,7 +318,7 @@ bound-name a x level index d e h =
     let yes : has_name (binding_at a x) level index ≡ true = grind (arith, common_steps, e, h) in
     sym (ap as_pack (get_or-names (forest a) (names_at a x) index d h))
     ∙ sym
-    (ap (λ (q : Bool). if q then as_pack (tree_at (binding_at a x).names index) else other x.rest x.level level index) yes)
+    (ap (λ (q : Bool). if q then as_pack (tree_at (binding_at a x).names index) else other x.others x.level level index) yes)
 
 -- an error is passed on
 pub limit_second : (A B : Type 0) (e : Stop) (x y z : Bool) → (IsErrOf {T = A} (Err e) Unreadable → z ≡ false)

@@ -2,8 +2,8 @@
 use Rattle.std.specs.Prelude.{ℕ, zero, suc, ◌+◌, ◌<◌, ◌≤◌, Bool, false, ◌&&◌, if◌then◌else◌, nat_eq, nat_le, nat_lt, List, [], ◌∷◌, ◌++◌, Option, map, drop, length, codes, decimal}
 use Rattle.std.specs.List.{AllByRecursion}
 use Rattle.cxx_tree.specs.declared.bind.Binding as given
-use Rattle.cxx_tree.specs.declared.bind.Rest.{Rest}
-use Rattle.cxx_tree.specs.declared.bind.Rest.TheVariants.{Keep, Auto, Written}
+use Rattle.cxx_tree.specs.declared.bind.Others.{Others}
+use Rattle.cxx_tree.specs.declared.bind.Others.TheVariants.{Keep, Auto, Written}
 use Rattle.cxx_tree.specs.declared.node.List as handle
 use Rattle.cxx_tree.specs.declared.node.Parts as handle_parts
 use Rattle.cxx_tree.specs.declared.node.Part.{Part}
@@ -20,7 +20,7 @@ pub record Binding : Type 0 where
   pub level : ℕ
   pub names : List Tree
   -- what becomes of the other parameters
-  pub rest : Rest
+  pub others : Others
 
 -- a parameter as it is mangled, without its last underscore
 abbrev pub written : ℕ → ℕ → List ℕ
@@ -34,7 +34,7 @@ abbrev pub auto_param : ℕ → Tree
 auto_param index = leaf false (codes "auto") (codes "auto:" ++ decimal (index + 1))
 
 -- a parameter that has no name, where the binder's level is given
-abbrev pub other : Rest → ℕ → ℕ → ℕ → Tree
+abbrev pub other : Others → ℕ → ℕ → ℕ → Tree
 other Keep binder level index = param level index
 other Auto binder level index = if nat_le binder level then auto_param index else param level index
 other Written binder level index = named (written level index)
@@ -50,7 +50,7 @@ as_pack t = t
 -- what becomes of a parameter
 abbrev pub bound : Binding → ℕ → ℕ → Tree
 bound b level index =
-    if has_name b level index then as_pack (tree_at b.names index) else other b.rest b.level level index
+    if has_name b level index then as_pack (tree_at b.names index) else other b.others b.level level index
 
 -- a tree whose template parameters are replaced
 unfoldable mutual
@@ -104,7 +104,7 @@ AreNamed s b = (b.from ≤ length s.pending) × AllByRecursion (λ n. n < size s
 
 -- a binding, whose names stand for trees
 abbrev pub binding_at : Store → given.Binding → Binding
-binding_at s b = record { level = b.level; names = map (tree_at (forest s)) (names_at s b); rest = b.rest }
+binding_at s b = record { level = b.level; names = map (tree_at (forest s)) (names_at s b); others = b.others }
 
 -- what nodes become
 abbrev pub bound_at : Store → given.Binding → ℕ → Tree

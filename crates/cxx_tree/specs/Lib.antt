@@ -5,7 +5,7 @@ pub mod Counts
 pub mod Grows
 pub mod Kept
 pub mod View
-pub mod Rows
+pub mod Phrases
 pub mod Texts
 pub mod Pieces
 pub mod Bind

@@ -7,7 +7,7 @@ use Rattle.cxx_tree.specs.declared.node.Part.TheVariants as part
 use Rattle.cxx_tree.specs.declared.kinds.Listing.TheVariants as listing
 use Rattle.cxx_tree.specs.Tree.{Tree, Trees, Parts, text, tree, trees}
 use Rattle.cxx_tree.specs.Stored.{Held, text_at, tree_at, trees_in, IsPartBelow, IsListBelow, IsOptionBelow}
-use Rattle.cxx_tree.specs.Rows.{constrained_before, parens, constrained}
+use Rattle.cxx_tree.specs.Phrases.{constrained_before, parens, constrained}
 
 -- what a part stands for, in front of others
 abbrev pub part_of : Held → List Tree → Part → Parts → Parts

@@ -2,8 +2,8 @@
 use Rattle.std.specs.Prelude.{ℕ, ◌<◌, ◌≤◌, ◌≡◌, List, [], ◌∷◌, ◌++◌, false, map, length, slice_range, Option, Some, None, get_or, IfSome}
 use Rattle.std.specs.List.{AllByRecursion}
 use Rattle.cxx_tree.specs.declared.node.Range.{Range}
-use Rattle.cxx_tree.specs.declared.node.Text.{Text}
-use Rattle.cxx_tree.specs.declared.node.Text.TheVariants.{Fixed, Stored}
+use Rattle.cxx_tree.specs.declared.node.NodeText.{NodeText}
+use Rattle.cxx_tree.specs.declared.node.NodeText.TheVariants.{Fixed, Stored}
 use Rattle.cxx_tree.specs.declared.node.List as handle
 use Rattle.cxx_tree.specs.declared.node.Parts as handles
 use Rattle.cxx_tree.specs.declared.node.Part.{Part}
@@ -22,7 +22,7 @@ pub record Held : Type 0 where
   pub parts : List Part
   pub texts : List ℕ
 
-abbrev pub text_at : Held → Text → List ℕ
+abbrev pub text_at : Held → NodeText → List ℕ
 text_at h (Fixed bytes) = bytes.now
 text_at h (Stored r) = slice_range h.texts r.from r.to
 
@@ -74,7 +74,7 @@ plain_tree h ts (plain.AbiTag name tag) = abi_tag (tree_at ts name) (text_at h t
 plain_tree h ts (plain.InModule name owner) = in_module (tree_at ts name) (tree_at ts owner)
 plain_tree h ts (plain.Data name) = data_name (tree_at ts name)
 plain_tree h ts (plain.ObjcProtocol t protocol) = objc_protocol (tree_at ts t) (text_at h protocol)
-plain_tree h ts (plain.List items) = listed (trees_in h ts items)
+plain_tree h ts (plain.Several items) = listed (trees_in h ts items)
 plain_tree h ts (plain.Expansion t) = expansion (tree_at ts t)
 plain_tree h ts (plain.Param level index) = param level index
 
@@ -96,13 +96,13 @@ tree_of h ts (node.Array element dimension) = array (tree_at ts element) (parts_
 tree_of h ts (node.Function f) =
     function (tree_at ts f.ret) (trees_in h ts f.params) f.cv f.ref_qual (parts_in h ts f.exception)
 tree_of h ts (node.Encoding f) =
-    encoding (option_at ts f.ret) (tree_at ts f.name) (trees_in h ts f.params) f.cv f.ref_qual (parts_in h ts f.rest)
+    encoding (option_at ts f.ret) (tree_at ts f.name) (trees_in h ts f.params) f.cv f.ref_qual (parts_in h ts f.clauses)
 tree_of h ts (node.Pack items) = pack (trees_in h ts items)
 
 abbrev pub IsRange : ℕ → Range → Type 0
 IsRange n r = (r.from ≤ r.to) × (r.to ≤ n)
 
-abbrev pub IsText : Held → Text → Type 0
+abbrev pub IsText : Held → NodeText → Type 0
 IsText h (Fixed bytes) = Unit {0}
 IsText h (Stored r) = IsRange (length h.texts) r
 
@@ -134,7 +134,7 @@ IsPlainBelow h n (plain.AbiTag name tag) = (name < n) × IsText h tag
 IsPlainBelow h n (plain.InModule name owner) = (name < n) × (owner < n)
 IsPlainBelow h n (plain.Data name) = name < n
 IsPlainBelow h n (plain.ObjcProtocol t protocol) = (t < n) × IsText h protocol
-IsPlainBelow h n (plain.List items) = IsListBelow h n items
+IsPlainBelow h n (plain.Several items) = IsListBelow h n items
 IsPlainBelow h n (plain.Expansion t) = t < n
 IsPlainBelow h n p = Unit {0}
 
@@ -155,7 +155,7 @@ IsBelow h n (node.MemberPointer class member) = (class < n) × (member < n)
 IsBelow h n (node.Array element dimension) = (element < n) × IsPartsBelow h n dimension
 IsBelow h n (node.Function f) = (f.ret < n) × IsListBelow h n f.params × IsPartsBelow h n f.exception
 IsBelow h n (node.Encoding f) =
-    IsOptionBelow n f.ret × (f.name < n) × IsListBelow h n f.params × IsPartsBelow h n f.rest
+    IsOptionBelow n f.ret × (f.name < n) × IsListBelow h n f.params × IsPartsBelow h n f.clauses
 IsBelow h n (node.Pack items) = IsListBelow h n items
 
 -- what an arena holds: nodes, what they refer to, the substitution candidates, and the nodes that are collected

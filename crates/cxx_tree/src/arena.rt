@@ -12,7 +12,7 @@ ghost use Rattle.cxx_tree.specs.Stored.{Store, IsWithin, forest, size, stands, s
 
 use crate::counts::Measure;
 use crate::measuring::of_node;
-use crate::node::{List, Node, Part, Parts, Plain, Range, Text};
+use crate::node::{List, Node, Part, Parts, Plain, Range, NodeText};
 use std::alloc::{AllocError, Global};
 use std::marker::Model;
 
@@ -144,13 +144,13 @@ impl Arena {
 
     /// Returns the bytes of a text.
     #[inline(always)]
-    pub fn bytes(&self, text: Text) -> &[u8]
+    pub fn bytes(&self, text: NodeText) -> &[u8]
         requires within { IsText self.now.held text }
         ensures value { result.now ≡ text_at self.now.held text }
     {
         match text {
-            Text::Fixed(bytes) => bytes,
-            Text::Stored(r) => self.texts.part(r.from as usize, r.to as usize),
+            NodeText::Fixed(bytes) => bytes,
+            NodeText::Stored(r) => self.texts.part(r.from as usize, r.to as usize),
         }
     }
 
@@ -285,13 +285,13 @@ impl Arena {
 
     /// Returns a text of the bytes from an index on.
     #[inline(always)]
-    pub fn text_from(&self, from: usize) -> Text
+    pub fn text_from(&self, from: usize) -> NodeText
         requires within { from ≤ length self.now.held.texts }
         ensures text { text_at self.now.held result ≡ drop from self.now.held.texts }
         ensures within { IsText self.now.held result }
     {
         let to = self.texts.len();
-        Text::Stored(Range {
+        NodeText::Stored(Range {
             from: from as u32,
             to: to as u32,
         })
@@ -299,7 +299,7 @@ impl Arena {
 
     /// Copies a text.
     #[inline(always)]
-    pub fn text(&mut self, bytes: &[u8]) -> Result<Text, AllocError>
+    pub fn text(&mut self, bytes: &[u8]) -> Result<NodeText, AllocError>
         ensures text { IfOk result (λ t. text_at self.new.held t ≡ bytes.now) }
         ensures within { IfOk result (λ t. IsText self.new.held t) }
         ensures nodes { self.new.nodes ≡ self.old.nodes }

@@ -15,12 +15,12 @@ ghost use Rattle.cxx_tree.specs.Stored.{forest, size, tree_of, plain_tree, decla
 use crate::arena::{Arena, Stop};
 use crate::children::bind_node;
 use crate::digits::push_number;
-use crate::node::{List, Node, Plain, Text};
+use crate::node::{List, Node, Plain, NodeText};
 use std::alloc::{AllocError, Global};
 
 /// What becomes of a template parameter that has no name.
 #[derive(Clone, Copy, PartialEq)]
-pub enum Rest {
+pub enum Others {
     /// It stays.
     Keep,
     /// From the binder's level on, it is a parameter of a lambda that has no declaration.
@@ -37,7 +37,7 @@ pub struct Binding {
     /// Where the nodes begin, of those that are collected, that the parameters of that level become, from the first on.
     pub from: usize,
     /// What the other parameters become.
-    pub rest: Rest,
+    pub others: Others,
 }
 
 // A parameter as it is mangled, without its last underscore.
@@ -76,7 +76,7 @@ fn auto_node(arena: &mut Arena, alloc: Global, index: u64) -> Result<u32, Stop>
     bytes.extend_from_slice(b"auto:")?;
     push_number(&mut bytes, index as u128 + 1)?;
     let text = arena.text(&bytes)?;
-    arena.push(Node::Plain(Plain::Leaf(false, Text::Fixed(b"auto"), text)))
+    arena.push(Node::Plain(Plain::Leaf(false, NodeText::Fixed(b"auto"), text)))
 }
 
 // Makes what becomes of the template parameter that is node `i`, if it has no name.
@@ -90,18 +90,18 @@ fn without_name(
 ) -> Result<u32, Stop>
     requires within { i < size arena.old }
     requires param { tree_at (forest arena.old) i ≡ param level index }
-    ensures makes { Makes result arena.old arena.new (spec.other binding.now.rest binding.now.level level index) }
+    ensures makes { Makes result arena.old arena.new (spec.other binding.now.others binding.now.level level index) }
     ensures few { size arena.new ≤ size arena.old + 1 }
 {
-    match binding.rest {
-        Rest::Keep => Ok(i),
-        Rest::Auto => {
+    match binding.others {
+        Others::Keep => Ok(i),
+        Others::Auto => {
             if level < binding.level {
                 return Ok(i);
             }
             auto_node(arena, alloc, index)
         }
-        Rest::Written => written_node(arena, alloc, level, index),
+        Others::Written => written_node(arena, alloc, level, index),
     }
 }
 
@@ -114,7 +114,7 @@ fn items_of(arena: &Arena, i: u32) -> Option<List>
     ensures fits { (measure (tree_at (forest arena.now) i)).fits ≡ true }
 {
     match *arena.node(i) {
-        Node::Plain(Plain::List(items)) => Some(items),
+        Node::Plain(Plain::Several(items)) => Some(items),
         _ => None,
     }
 }

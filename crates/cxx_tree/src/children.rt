@@ -356,9 +356,9 @@ fn bind_plain(
             let t = tri!(bind(arena, alloc, binding, t));
             Ok(Plain::ObjcProtocol(t, protocol))
         }
-        Plain::List(items) => {
+        Plain::Several(items) => {
             let items = tri!(bind_list(arena, alloc, binding, i, items));
-            Ok(Plain::List(items))
+            Ok(Plain::Several(items))
         }
         Plain::Expansion(t) => {
             let t = tri!(bind(arena, alloc, binding, t));
@@ -486,7 +486,7 @@ fn bind_encoding(
         encoding.ret,
         encoding.name,
         encoding.params,
-        encoding.rest
+        encoding.clauses
     ));
     Ok(Encoding {
         ret,
@@ -494,7 +494,7 @@ fn bind_encoding(
         params,
         cv: encoding.cv,
         ref_qual: encoding.ref_qual,
-        rest,
+        clauses: rest,
     })
 }
 

@@ -4,14 +4,14 @@
 ghost use Rattle.std.specs.Prelude.{◌≡◌, ℕ, ◌+◌, ◌<◌, ◌≤◌, ◌++◌, length, true, false, option_map, None};
 ghost use Rattle.cxx_tree.specs.Grows.{Makes};
 ghost use Rattle.cxx_tree.specs.Stored.{forest, size, tree_at, trees_in, text_at, IsText, IsListBelow, IsOptionBelow};
-ghost use Rattle.cxx_tree.specs.Rows as rows;
+ghost use Rattle.cxx_tree.specs.Phrases as phrases;
 ghost use Rattle.cxx_tree.specs.Texts.{number_printed};
 ghost use Rattle.cxx_tree.specs.Tree as tree;
 
 use crate::arena::{Arena, Stop};
 use crate::kinds::{Context, Guard, Listing, Manner, Phrase, Prec, Role};
 use crate::measuring::text_len;
-use crate::node::{List, Node, Part, Plain, Text};
+use crate::node::{List, Node, Part, Plain, NodeText};
 use crate::phrases::{
     enclosed, expression, fixed, gnu_operand, held, is_text, loose, open, primary, styled, tight,
     whole,
@@ -19,11 +19,11 @@ use crate::phrases::{
 
 impl Arena {
     /// Makes `LLVM` or in GNU's style `GNU`, and `TREE` after it, which is an operand in the latter if it is unary.
-    pub fn make_prefixed(&mut self, llvm: Text, gnu: Text, t: u32, prec: Prec) -> Result<u32, Stop>
+    pub fn make_prefixed(&mut self, llvm: NodeText, gnu: NodeText, t: u32, prec: Prec) -> Result<u32, Stop>
         requires llvm { IsText self.old.held llvm }
         requires gnu { IsText self.old.held gnu }
         requires t { t < size self.old }
-        ensures makes { Makes result self.old self.new (rows.prefixed (text_at self.old.held llvm)
+        ensures makes { Makes result self.old self.new (phrases.prefixed (text_at self.old.held llvm)
             (text_at self.old.held gnu) (tree_at (forest self.old) t) prec) }
     {
         let attributes = open(text_len(self, llvm), prec);
@@ -32,11 +32,11 @@ impl Arena {
     }
 
     /// Makes `LLVM(TREE)`, in GNU's style `GNU(TREE)`.
-    pub fn make_enclosing(&mut self, llvm: Text, gnu: Text, t: u32, prec: Prec) -> Result<u32, Stop>
+    pub fn make_enclosing(&mut self, llvm: NodeText, gnu: NodeText, t: u32, prec: Prec) -> Result<u32, Stop>
         requires llvm { IsText self.old.held llvm }
         requires gnu { IsText self.old.held gnu }
         requires t { t < size self.old }
-        ensures makes { Makes result self.old self.new (rows.enclosing (text_at self.old.held llvm)
+        ensures makes { Makes result self.old self.new (phrases.enclosing (text_at self.old.held llvm)
             (text_at self.old.held gnu) (tree_at (forest self.old) t) prec) }
     {
         let attributes = expression(text_len(self, llvm), prec);
@@ -49,7 +49,7 @@ impl Arena {
     /// Makes `sizeof...(PACK)`, or with a blank `sizeof... (PACK)`, in GNU's style the number of elements if it is known.
     pub fn make_pack_count(&mut self, has_blank: bool, pack: u32) -> Result<u32, Stop>
         requires pack { pack < size self.old }
-        ensures makes { Makes result self.old self.new (rows.count has_blank (tree_at (forest self.old) pack)) }
+        ensures makes { Makes result self.old self.new (phrases.count has_blank (tree_at (forest self.old) pack)) }
     {
         let parts = [Part::Tree(Manner::Count(has_blank), pack)];
         if has_blank {
@@ -59,11 +59,11 @@ impl Arena {
     }
 
     /// Makes `A SYMBOL B`, in GNU's style without blanks. Before a comma there is no blank either.
-    pub fn make_binary(&mut self, a: u32, symbol: Text, b: u32, prec: Prec) -> Result<u32, Stop>
+    pub fn make_binary(&mut self, a: u32, symbol: NodeText, b: u32, prec: Prec) -> Result<u32, Stop>
         requires a { a < size self.old }
         requires symbol { IsText self.old.held symbol }
         requires b { b < size self.old }
-        ensures makes { Makes result self.old self.new (rows.binary (tree_at (forest self.old) a)
+        ensures makes { Makes result self.old self.new (phrases.binary (tree_at (forest self.old) a)
             (text_at self.old.held symbol) (tree_at (forest self.old) b) prec) }
     {
         let attributes = Phrase {
@@ -85,7 +85,7 @@ impl Arena {
         requires a { a < size self.old }
         requires index { index < size self.old }
         ensures makes { Makes result self.old self.new
-            (rows.subscript (tree_at (forest self.old) a) (tree_at (forest self.old) index)) }
+            (phrases.subscript (tree_at (forest self.old) a) (tree_at (forest self.old) index)) }
     {
         let parts = [
             tight(Prec::Postfix, a),
@@ -97,22 +97,22 @@ impl Arena {
     }
 
     /// Makes `A` and `SYMBOL` after it.
-    pub fn make_postfix_op(&mut self, a: u32, symbol: Text) -> Result<u32, Stop>
+    pub fn make_postfix_op(&mut self, a: u32, symbol: NodeText) -> Result<u32, Stop>
         requires a { a < size self.old }
         requires symbol { IsText self.old.held symbol }
         ensures makes { Makes result self.old self.new
-            (rows.postfix_op (tree_at (forest self.old) a) (text_at self.old.held symbol)) }
+            (phrases.postfix_op (tree_at (forest self.old) a) (text_at self.old.held symbol)) }
     {
         let attributes = expression(text_len(self, symbol), Prec::Postfix);
         self.make_phrase(attributes, &[loose(Prec::Postfix, a), held(symbol)])
     }
 
     /// Makes `SYMBOL` and `A` after it.
-    pub fn make_prefix_op(&mut self, symbol: Text, a: u32, prec: Prec) -> Result<u32, Stop>
+    pub fn make_prefix_op(&mut self, symbol: NodeText, a: u32, prec: Prec) -> Result<u32, Stop>
         requires symbol { IsText self.old.held symbol }
         requires a { a < size self.old }
         ensures makes { Makes result self.old self.new
-            (rows.prefix_op (text_at self.old.held symbol) (tree_at (forest self.old) a) prec) }
+            (phrases.prefix_op (text_at self.old.held symbol) (tree_at (forest self.old) a) prec) }
     {
         let attributes = open(text_len(self, symbol), prec);
         if is_text(self, symbol, b"&") {
@@ -127,7 +127,7 @@ impl Arena {
         requires a { a < size self.old }
         requires b { b < size self.old }
         requires c { c < size self.old }
-        ensures makes { Makes result self.old self.new (rows.conditional (tree_at (forest self.old) a)
+        ensures makes { Makes result self.old self.new (phrases.conditional (tree_at (forest self.old) a)
             (tree_at (forest self.old) b) (tree_at (forest self.old) c)) }
     {
         let parts = [
@@ -141,11 +141,11 @@ impl Arena {
     }
 
     /// Makes `A`, `SYMBOL` and `B` in a row: a member of an object.
-    pub fn make_member(&mut self, a: u32, symbol: Text, b: u32, prec: Prec) -> Result<u32, Stop>
+    pub fn make_member(&mut self, a: u32, symbol: NodeText, b: u32, prec: Prec) -> Result<u32, Stop>
         requires a { a < size self.old }
         requires symbol { IsText self.old.held symbol }
         requires b { b < size self.old }
-        ensures makes { Makes result self.old self.new (rows.member (tree_at (forest self.old) a)
+        ensures makes { Makes result self.old self.new (phrases.member (tree_at (forest self.old) a)
             (text_at self.old.held symbol) (tree_at (forest self.old) b) prec) }
     {
         let attributes = open(text_len(self, symbol), prec);
@@ -153,11 +153,11 @@ impl Arena {
     }
 
     /// Makes `E.<TYPE at offset OFFSET>`, with an offset of 0 if its text is empty.
-    pub fn make_subobject(&mut self, t: u32, e: u32, offset: Text) -> Result<u32, Stop>
+    pub fn make_subobject(&mut self, t: u32, e: u32, offset: NodeText) -> Result<u32, Stop>
         requires t { t < size self.old }
         requires e { e < size self.old }
         requires offset { IsText self.old.held offset }
-        ensures makes { Makes result self.old self.new (rows.subobject (tree_at (forest self.old) t)
+        ensures makes { Makes result self.old self.new (phrases.subobject (tree_at (forest self.old) t)
             (tree_at (forest self.old) e) (text_at self.old.held offset)) }
     {
         let attributes = Phrase {
@@ -177,11 +177,11 @@ impl Arena {
     }
 
     /// Makes `WORD<TYPE>(E)`.
-    pub fn make_named_cast(&mut self, text: Text, t: u32, e: u32) -> Result<u32, Stop>
+    pub fn make_named_cast(&mut self, text: NodeText, t: u32, e: u32) -> Result<u32, Stop>
         requires text { IsText self.old.held text }
         requires t { t < size self.old }
         requires e { e < size self.old }
-        ensures makes { Makes result self.old self.new (rows.named_cast (text_at self.old.held text)
+        ensures makes { Makes result self.old self.new (phrases.named_cast (text_at self.old.held text)
             (tree_at (forest self.old) t) (tree_at (forest self.old) e)) }
     {
         let attributes = expression(text_len(self, text), Prec::Postfix);
@@ -202,7 +202,7 @@ impl Arena {
         requires function { function < size self.old }
         requires args { IsListBelow self.old.held (size self.old) args }
         ensures makes { Makes result self.old self.new
-            (rows.call (tree_at (forest self.old) function) (trees_in self.old.held (forest self.old) args)) }
+            (phrases.call (tree_at (forest self.old) function) (trees_in self.old.held (forest self.old) args)) }
     {
         let parts = [
             Part::Tree(Manner::Callee, function),
@@ -224,7 +224,7 @@ impl Arena {
         requires placement { IsListBelow self.old.held (size self.old) placement }
         requires t { t < size self.old }
         requires inits { IsListBelow self.old.held (size self.old) inits }
-        ensures makes { Makes result self.old self.new (rows.new_expression (trees_in self.old.held (forest self.old) placement)
+        ensures makes { Makes result self.old self.new (phrases.new_expression (trees_in self.old.held (forest self.old) placement)
             (tree_at (forest self.old) t) (trees_in self.old.held (forest self.old) inits) is_global is_array) }
     {
         let front = styled(new_llvm(is_global, is_array), new_gnu(is_global));
@@ -249,7 +249,7 @@ impl Arena {
     pub fn make_conversion(&mut self, t: u32, es: List, prec: Prec) -> Result<u32, Stop>
         requires t { t < size self.old }
         requires es { IsListBelow self.old.held (size self.old) es }
-        ensures makes { Makes result self.old self.new (rows.conversion (tree_at (forest self.old) t)
+        ensures makes { Makes result self.old self.new (phrases.conversion (tree_at (forest self.old) t)
             (trees_in self.old.held (forest self.old) es) prec) }
     {
         if self.items(es).len() == 1 {
@@ -272,7 +272,7 @@ impl Arena {
     pub fn make_init_list(&mut self, ty: Option<u32>, es: List) -> Result<u32, Stop>
         requires ty { IsOptionBelow (size self.old) ty }
         requires es { IsListBelow self.old.held (size self.old) es }
-        ensures makes { Makes result self.old self.new (rows.init_list (option_map (tree_at (forest self.old)) ty)
+        ensures makes { Makes result self.old self.new (phrases.init_list (option_map (tree_at (forest self.old)) ty)
             (trees_in self.old.held (forest self.old) es)) }
     {
         let attributes = Phrase {
@@ -291,7 +291,7 @@ impl Arena {
         requires d { d < size self.old }
         requires e { e < size self.old }
         ensures makes { Makes result self.old self.new
-            (rows.designated (tree_at (forest self.old) d) (tree_at (forest self.old) e) is_index) }
+            (phrases.designated (tree_at (forest self.old) d) (tree_at (forest self.old) e) is_index) }
     {
         let value = Part::Tree(Manner::Value, e);
         if is_index {
@@ -305,7 +305,7 @@ impl Arena {
         requires first { first < size self.old }
         requires last { last < size self.old }
         requires e { e < size self.old }
-        ensures makes { Makes result self.old self.new (rows.designated_range (tree_at (forest self.old) first)
+        ensures makes { Makes result self.old self.new (phrases.designated_range (tree_at (forest self.old) first)
             (tree_at (forest self.old) last) (tree_at (forest self.old) e)) }
     {
         let parts = [
@@ -323,14 +323,14 @@ impl Arena {
     fn fold_between(
         &mut self,
         attributes: Phrase,
-        symbol: Text,
+        symbol: NodeText,
         a: (Manner, u32),
         b: (Manner, u32),
     ) -> Result<u32, Stop>
         requires symbol { IsText self.old.held symbol }
         requires a { a.1 < size self.old }
         requires b { b.1 < size self.old }
-        ensures makes { Makes result self.old self.new (tree.phrase attributes (rows.fold_between
+        ensures makes { Makes result self.old self.new (tree.phrase attributes (phrases.fold_between
             (text_at self.old.held symbol) a.0 (tree_at (forest self.old) a.1) b.0 (tree_at (forest self.old) b.1))) }
     {
         let blank = styled(b" ", b"");
@@ -353,12 +353,12 @@ impl Arena {
         &mut self,
         attributes: Phrase,
         is_left: bool,
-        symbol: Text,
+        symbol: NodeText,
         pack: u32,
     ) -> Result<u32, Stop>
         requires symbol { IsText self.old.held symbol }
         requires pack { pack < size self.old }
-        ensures makes { Makes result self.old self.new (tree.phrase attributes (rows.fold_parts is_left
+        ensures makes { Makes result self.old self.new (tree.phrase attributes (phrases.fold_parts is_left
             (text_at self.old.held symbol) (tree_at (forest self.old) pack) None)) }
     {
         let folded = Part::Tree(Manner::Folded, pack);
@@ -379,14 +379,14 @@ impl Arena {
     pub fn make_fold(
         &mut self,
         is_left: bool,
-        symbol: Text,
+        symbol: NodeText,
         pack: u32,
         init: Option<u32>,
     ) -> Result<u32, Stop>
         requires symbol { IsText self.old.held symbol }
         requires pack { pack < size self.old }
         requires init { IsOptionBelow (size self.old) init }
-        ensures makes { Makes result self.old self.new (rows.fold is_left (text_at self.old.held symbol)
+        ensures makes { Makes result self.old self.new (phrases.fold is_left (text_at self.old.held symbol)
             (tree_at (forest self.old) pack) (option_map (tree_at (forest self.old)) init)) }
     {
         let attributes = Phrase {
@@ -407,7 +407,7 @@ impl Arena {
     /// Makes `"<TYPE>"`.
     pub fn make_string_literal(&mut self, t: u32) -> Result<u32, Stop>
         requires t { t < size self.old }
-        ensures makes { Makes result self.old self.new (rows.string_literal (tree_at (forest self.old) t)) }
+        ensures makes { Makes result self.old self.new (phrases.string_literal (tree_at (forest self.old) t)) }
     {
         self.make_phrase(primary(0), &[fixed(b"\"<"), whole(t), fixed(b">\"")])
     }
@@ -416,7 +416,7 @@ impl Arena {
     pub fn make_typed_literal(&mut self, t: u32, number: &[u8]) -> Result<u32, Stop>
         requires t { t < size self.old }
         ensures makes { Makes result self.old self.new
-            (rows.typed_literal (tree_at (forest self.old) t) (number_printed number.now)) }
+            (phrases.typed_literal (tree_at (forest self.old) t) (number_printed number.now)) }
     {
         let value = self.joined(b"", number, b"")?;
         let attributes = primary(text_len(self, value));
@@ -440,7 +440,7 @@ impl Arena {
     pub fn make_requires(&mut self, params: List, requirements: List) -> Result<u32, Stop>
         requires params { IsListBelow self.old.held (size self.old) params }
         requires requirements { IsListBelow self.old.held (size self.old) requirements }
-        ensures makes { Makes result self.old self.new (rows.requires_expression
+        ensures makes { Makes result self.old self.new (phrases.requires_expression
             (trees_in self.old.held (forest self.old) params) (trees_in self.old.held (forest self.old) requirements)) }
     {
         let sequence = Part::Trees(Listing::Sequence, requirements);
@@ -466,7 +466,7 @@ impl Arena {
     ) -> Result<u32, Stop>
         requires e { e < size self.old }
         requires ty { IsOptionBelow (size self.old) ty }
-        ensures makes { Makes result self.old self.new (rows.expr_requirement (tree_at (forest self.old) e)
+        ensures makes { Makes result self.old self.new (phrases.expr_requirement (tree_at (forest self.old) e)
             is_noexcept (option_map (tree_at (forest self.old)) ty)) }
     {
         let front = fixed(b" {");
@@ -494,11 +494,11 @@ impl Arena {
     }
 
     /// Makes ` WORD TREE;`.
-    pub fn make_requirement(&mut self, text: Text, t: u32) -> Result<u32, Stop>
+    pub fn make_requirement(&mut self, text: NodeText, t: u32) -> Result<u32, Stop>
         requires text { IsText self.old.held text }
         requires t { t < size self.old }
         ensures makes { Makes result self.old self.new
-            (rows.requirement (text_at self.old.held text) (tree_at (forest self.old) t)) }
+            (phrases.requirement (text_at self.old.held text) (tree_at (forest self.old) t)) }
     {
         let attributes = primary(text_len(self, text));
         self.make_phrase(
@@ -510,7 +510,7 @@ impl Arena {
 
 // How the operand of a prefix is printed.
 fn prefixed_manner(prec: Prec) -> Manner
-    ensures value { result ≡ rows.prefixed_manner prec }
+    ensures value { result ≡ phrases.prefixed_manner prec }
 {
     match prec {
         Prec::Unary => Manner::Operand(Prec::Comma, true),
@@ -519,9 +519,9 @@ fn prefixed_manner(prec: Prec) -> Manner
 }
 
 // What a binary operator is in a template argument list.
-fn guard_of(arena: &Arena, symbol: Text) -> Guard
+fn guard_of(arena: &Arena, symbol: NodeText) -> Guard
     requires symbol { IsText arena.now.held symbol }
-    ensures value { result ≡ rows.guard_of (text_at arena.now.held symbol) }
+    ensures value { result ≡ phrases.guard_of (text_at arena.now.held symbol) }
 {
     if is_text(arena, symbol, b">") {
         return Guard::Greater;
@@ -534,7 +534,7 @@ fn guard_of(arena: &Arena, symbol: Text) -> Guard
 
 // How the left operand of a binary operator is printed.
 fn left_manner(prec: Prec) -> Manner
-    ensures value { result ≡ rows.left_manner prec }
+    ensures value { result ≡ phrases.left_manner prec }
 {
     match prec {
         Prec::Assign => Manner::Operand(Prec::OrIf, false),
@@ -544,7 +544,7 @@ fn left_manner(prec: Prec) -> Manner
 
 // How the right operand of a binary operator is printed.
 fn right_manner(prec: Prec) -> Manner
-    ensures value { result ≡ rows.right_manner prec }
+    ensures value { result ≡ phrases.right_manner prec }
 {
     match prec {
         Prec::Assign => Manner::Operand(Prec::Assign, true),
@@ -553,20 +553,20 @@ fn right_manner(prec: Prec) -> Manner
 }
 
 // The text of an offset, which is 0 if its text is empty.
-fn offset_text(arena: &Arena, offset: Text) -> Text
+fn offset_text(arena: &Arena, offset: NodeText) -> NodeText
     requires offset { IsText arena.now.held offset }
     ensures within { IsText arena.now.held result }
-    ensures value { text_at arena.now.held result ≡ rows.offset_text (text_at arena.now.held offset) }
+    ensures value { text_at arena.now.held result ≡ phrases.offset_text (text_at arena.now.held offset) }
 {
     if is_text(arena, offset, b"") {
-        return Text::Fixed(b"0");
+        return NodeText::Fixed(b"0");
     }
     offset
 }
 
 // The word of a `new` expression in LLVM's style.
 fn new_llvm(is_global: bool, is_array: bool) -> &'static [u8]
-    ensures value { result.now ≡ rows.new_llvm is_global is_array }
+    ensures value { result.now ≡ phrases.new_llvm is_global is_array }
 {
     match (is_global, is_array) {
         (false, false) => b"new",
@@ -578,7 +578,7 @@ fn new_llvm(is_global: bool, is_array: bool) -> &'static [u8]
 
 // The word of a `new` expression in GNU's style.
 fn new_gnu(is_global: bool) -> &'static [u8]
-    ensures value { result.now ≡ rows.new_gnu is_global }
+    ensures value { result.now ≡ phrases.new_gnu is_global }
 {
     match is_global {
         false => b"new ",
@@ -588,7 +588,7 @@ fn new_gnu(is_global: bool) -> &'static [u8]
 
 // The attributes of a designator.
 fn designator() -> Phrase
-    ensures value { result ≡ rows.designator }
+    ensures value { result ≡ phrases.designator }
 {
     Phrase {
         role: Role::Designator,

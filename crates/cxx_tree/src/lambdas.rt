@@ -5,13 +5,13 @@ ghost use Rattle.std.specs.Prelude.{◌≡◌, ℕ, ◌+◌, ◌<◌, ◌≤◌,
 ghost use Rattle.cxx_tree.specs.Grows.{Makes};
 ghost use Rattle.cxx_tree.specs.Stored.{forest, size, tree_at};
 ghost use Rattle.cxx_tree.specs.Stored.{text_at, trees_in, IsText, IsListBelow, IsOptionBelow};
-ghost use Rattle.cxx_tree.specs.Rows as rows;
+ghost use Rattle.cxx_tree.specs.Phrases as phrases;
 ghost use Rattle.cxx_tree.specs.Pieces.{Adds, AddsBelow, declared_if, signature_at, IsSignatureBelow};
 
 use crate::arena::{Arena, Stop};
 use crate::kinds::Listing;
 use crate::measuring::text_len;
-use crate::node::{List, Part, Text};
+use crate::node::{List, Part, NodeText};
 use crate::phrases::{fixed, primary, styled, whole};
 use std::alloc::{AllocError, Global};
 
@@ -21,8 +21,8 @@ impl Arena {
         &mut self,
         alloc: Global,
         signature: Signature,
-        count: Text,
-        ordinal: Text,
+        count: NodeText,
+        ordinal: NodeText,
     ) -> Result<u32, Stop>
         requires declarations { IsListBelow self.old.held (size self.old) signature.declarations }
         requires before { IsOptionBelow (size self.old) signature.before }
@@ -30,7 +30,7 @@ impl Arena {
         requires behind { IsOptionBelow (size self.old) signature.behind }
         requires count { IsText self.old.held count }
         requires ordinal { IsText self.old.held ordinal }
-        ensures makes { Makes result self.old self.new (rows.closure
+        ensures makes { Makes result self.old self.new (phrases.closure
             (trees_in self.old.held (forest self.old) signature.declarations)
             (option_map (tree_at (forest self.old)) signature.before)
             (trees_in self.old.held (forest self.old) signature.params)
@@ -41,7 +41,7 @@ impl Arena {
         let mut parts = Vec::new(alloc);
         parts.extend_from_slice(&[
             styled(b"'lambda", b"{lambda"),
-            Part::Text(count, Text::Fixed(b"")),
+            Part::Text(count, NodeText::Fixed(b"")),
             styled(b"'", b""),
         ])?;
         push_signature(
@@ -54,7 +54,7 @@ impl Arena {
         )?;
         parts.extend_from_slice(&[
             styled(b"", b"#"),
-            Part::Text(Text::Fixed(b""), ordinal),
+            Part::Text(NodeText::Fixed(b""), ordinal),
             styled(b"", b"}"),
         ])?;
         self.make_phrase(attributes, &parts)
@@ -66,7 +66,7 @@ impl Arena {
         requires before { IsOptionBelow (size self.old) signature.before }
         requires params { IsListBelow self.old.held (size self.old) signature.params }
         requires behind { IsOptionBelow (size self.old) signature.behind }
-        ensures makes { Makes result self.old self.new (rows.lambda
+        ensures makes { Makes result self.old self.new (phrases.lambda
             (trees_in self.old.held (forest self.old) signature.declarations)
             (option_map (tree_at (forest self.old)) signature.before)
             (trees_in self.old.held (forest self.old) signature.params)
@@ -99,7 +99,7 @@ pub struct Signature {
 // Appends ` requires CONSTRAINT `, if there is one.
 fn push_before(parts: &mut Vec<Part>, constraint: Option<u32>) -> Result<(), AllocError>
     ensures adds { OnOk result (Adds parts.old.items parts.new.items
-        (λ h ts. rows.constrained_before (option_map (tree_at ts) constraint))) }
+        (λ h ts. phrases.constrained_before (option_map (tree_at ts) constraint))) }
     ensures below { OnOk result
         (AddsBelow parts.old.items parts.new.items (λ h n. IsOptionBelow n constraint)) }
 {
@@ -112,7 +112,7 @@ fn push_before(parts: &mut Vec<Part>, constraint: Option<u32>) -> Result<(), All
 // Appends ` requires CONSTRAINT`, if there is one.
 fn push_constraint(parts: &mut Vec<Part>, constraint: Option<u32>) -> Result<(), AllocError>
     ensures adds { OnOk result (Adds parts.old.items parts.new.items
-        (λ h ts. rows.constrained (option_map (tree_at ts) constraint))) }
+        (λ h ts. phrases.constrained (option_map (tree_at ts) constraint))) }
     ensures below { OnOk result
         (AddsBelow parts.old.items parts.new.items (λ h n. IsOptionBelow n constraint)) }
 {

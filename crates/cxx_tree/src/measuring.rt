@@ -11,7 +11,7 @@ ghost use Rattle.cxx_tree.specs.Stored.{forest, size, tree_of, plain_tree, decla
 use crate::arena::Arena;
 use crate::counts::{MAX_WORK, Measure, around, at_most, join, nothing, packed, param, repeated};
 use crate::kinds::Manner;
-use crate::node::{Declaration, List, Node, Part, Parts, Plain, Text};
+use crate::node::{Declaration, List, Node, Part, Parts, Plain, NodeText};
 
 // The counts of the nodes of a list.
 fn of_list(arena: &Arena, list: List) -> Measure
@@ -106,14 +106,14 @@ fn and_parts(arena: &Arena, before: Measure, parts: Parts) -> Measure
 
 /// Returns the number of bytes of a text.
 #[inline(always)]
-pub fn text_len(arena: &Arena, text: Text) -> usize
+pub fn text_len(arena: &Arena, text: NodeText) -> usize
     requires within { IsText arena.now.held text }
     ensures value { result ≡ length (text_at arena.now.held text) }
     ensures small { result < 9223372036854775808 }
 {
     match text {
-        Text::Fixed(bytes) => bytes.len(),
-        Text::Stored(range) => (range.to - range.from) as usize,
+        NodeText::Fixed(bytes) => bytes.len(),
+        NodeText::Stored(range) => (range.to - range.from) as usize,
     }
 }
 
@@ -165,7 +165,7 @@ pub fn of_name(len: usize) -> Option<Measure>
 // The counts of a text as a name in a scope, or `None` if it isn't within the limits.
 #[tactic(auto, using(crate::proofs::InScope::in_scope), unfolding(crate::specs::Measure::measure))]
 #[inline(always)]
-fn in_scope(arena: &Arena, scope: u32, name: Text) -> Option<Measure>
+fn in_scope(arena: &Arena, scope: u32, name: NodeText) -> Option<Measure>
     requires scope { scope < size arena.now }
     requires name { IsText arena.now.held name }
     ensures counts { Tallied result (spec.measure (scoped false (tree_at (forest arena.now) scope)
@@ -218,7 +218,7 @@ fn of_plain(arena: &Arena, plain: Plain) -> Option<Measure>
         Plain::InModule(name, owner) => around(1, pair(arena, name, owner)),
         Plain::Data(name) => around(1, arena.measure(name)),
         Plain::ObjcProtocol(t, protocol) => around(1 + text_len(arena, protocol), arena.measure(t)),
-        Plain::List(items) => around(1, of_list(arena, items)),
+        Plain::Several(items) => around(1, of_list(arena, items)),
         Plain::Expansion(t) => around(1, repeated(arena.measure(t))),
         Plain::Param(_, _) => param(),
     }
@@ -299,7 +299,7 @@ fn of_any(arena: &Arena, node: Node) -> Option<Measure>
         }
         Node::Encoding(encoding) => {
             let params = of_list(arena, encoding.params);
-            let after = and_parts(arena, params, encoding.rest);
+            let after = and_parts(arena, params, encoding.clauses);
             let named = join(arena.measure(encoding.name), after);
             around(1, option_and(arena, encoding.ret, named))
         }

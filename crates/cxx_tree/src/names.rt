@@ -4,13 +4,13 @@
 ghost use Rattle.std.specs.Prelude.{◌≡◌, ℕ, ◌+◌, ◌<◌, ◌≤◌, length, true, false, option_map};
 ghost use Rattle.cxx_tree.specs.Grows.{Makes};
 ghost use Rattle.cxx_tree.specs.Stored.{forest, size, tree_at, trees_in, text_at, IsText, IsListBelow, IsOptionBelow};
-ghost use Rattle.cxx_tree.specs.Rows as rows;
+ghost use Rattle.cxx_tree.specs.Phrases as phrases;
 ghost use Rattle.cxx_tree.specs.Tree as tree;
 
 use crate::arena::{Arena, Stop};
 use crate::kinds::{Listing, Manner, Phrase, Prec, Role};
 use crate::measuring::text_len;
-use crate::node::{List, Node, Part, Plain, Text};
+use crate::node::{List, Node, Part, Plain, NodeText};
 use crate::phrases::{fixed, held, open, primary, styled, whole};
 
 impl Arena {
@@ -27,7 +27,7 @@ impl Arena {
     pub fn make_fixed(&mut self, text: &'static [u8]) -> Result<u32, Stop>
         ensures makes { Makes result self.old self.new (tree.named text.now) }
     {
-        self.push(Node::Plain(Plain::Name(Text::Fixed(text))))
+        self.push(Node::Plain(Plain::Name(NodeText::Fixed(text))))
     }
 
     /// Makes a name in a scope.
@@ -50,53 +50,53 @@ impl Arena {
     ) -> Result<u32, Stop>
         ensures makes { Makes result self.old self.new (tree.leaf is_simple llvm.now gnu.now) }
     {
-        self.push(Node::Plain(Plain::Leaf(is_simple, Text::Fixed(llvm), Text::Fixed(gnu))))
+        self.push(Node::Plain(Plain::Leaf(is_simple, NodeText::Fixed(llvm), NodeText::Fixed(gnu))))
     }
 
     /// Makes a word: `LLVM`, and in GNU's style `GNU`.
-    pub fn make_word(&mut self, llvm: Text, gnu: Text) -> Result<u32, Stop>
+    pub fn make_word(&mut self, llvm: NodeText, gnu: NodeText) -> Result<u32, Stop>
         requires llvm { IsText self.old.held llvm }
         requires gnu { IsText self.old.held gnu }
         ensures makes { Makes result self.old self.new
-            (rows.word (text_at self.old.held llvm) (text_at self.old.held gnu)) }
+            (phrases.word (text_at self.old.held llvm) (text_at self.old.held gnu)) }
     {
         self.push(Node::Plain(Plain::Leaf(true, llvm, gnu)))
     }
 
     /// Makes a literal: `LLVM`, and in GNU's style `GNU`.
-    pub fn make_literal(&mut self, llvm: Text, gnu: Text) -> Result<u32, Stop>
+    pub fn make_literal(&mut self, llvm: NodeText, gnu: NodeText) -> Result<u32, Stop>
         requires llvm { IsText self.old.held llvm }
         requires gnu { IsText self.old.held gnu }
         ensures makes { Makes result self.old self.new
-            (rows.literal (text_at self.old.held llvm) (text_at self.old.held gnu)) }
+            (phrases.literal (text_at self.old.held llvm) (text_at self.old.held gnu)) }
     {
         self.push(Node::Plain(Plain::Leaf(false, llvm, gnu)))
     }
 
     /// Makes a parameter of a lambda: `LLVM`, and in GNU's style `GNU`.
-    pub fn make_lambda_param(&mut self, llvm: Text, gnu: Text) -> Result<u32, Stop>
+    pub fn make_lambda_param(&mut self, llvm: NodeText, gnu: NodeText) -> Result<u32, Stop>
         requires llvm { IsText self.old.held llvm }
         requires gnu { IsText self.old.held gnu }
         ensures makes { Makes result self.old self.new
-            (rows.lambda_param (text_at self.old.held llvm) (text_at self.old.held gnu)) }
+            (phrases.lambda_param (text_at self.old.held llvm) (text_at self.old.held gnu)) }
     {
         self.push(Node::Plain(Plain::Leaf(false, llvm, gnu)))
     }
 
     /// Makes a default argument: the scope `E`, and in GNU's style `::{default arg#ORDINAL}` after it.
-    pub fn make_default_arg(&mut self, e: u32, count: Text, ordinal: Text) -> Result<u32, Stop>
+    pub fn make_default_arg(&mut self, e: u32, count: NodeText, ordinal: NodeText) -> Result<u32, Stop>
         requires e { e < size self.old }
         requires count { IsText self.old.held count }
         requires ordinal { IsText self.old.held ordinal }
         ensures makes { Makes result self.old self.new
-            (rows.default_arg (tree_at (forest self.old) e) (text_at self.old.held count)
+            (phrases.default_arg (tree_at (forest self.old) e) (text_at self.old.held count)
             (text_at self.old.held ordinal)) }
     {
         let attributes = primary(text_len(self, count));
         let parts = [
             Part::Tree(Manner::Scope, e),
             styled(b"", b"::{default arg#"),
-            Part::Text(Text::Fixed(b""), ordinal),
+            Part::Text(NodeText::Fixed(b""), ordinal),
             styled(b"", b"}"),
         ];
         self.make_phrase(attributes, &parts)
@@ -111,7 +111,7 @@ impl Arena {
     ) -> Result<u32, Stop>
         requires parent { IsOptionBelow (size self.old) parent }
         requires n { n < size self.old }
-        ensures makes { Makes result self.old self.new (rows.module_name
+        ensures makes { Makes result self.old self.new (phrases.module_name
             (option_map (tree_at (forest self.old)) parent) (tree_at (forest self.old) n) is_partition) }
     {
         let attributes = Phrase {
@@ -127,10 +127,10 @@ impl Arena {
     }
 
     /// Makes the name of a constructor, `CLASS`, or of a destructor, `~CLASS`.
-    pub fn make_ctor_dtor(&mut self, class: Text, is_destructor: bool) -> Result<u32, Stop>
+    pub fn make_ctor_dtor(&mut self, class: NodeText, is_destructor: bool) -> Result<u32, Stop>
         requires class { IsText self.old.held class }
         ensures makes { Makes result self.old self.new
-            (rows.ctor_dtor (text_at self.old.held class) is_destructor) }
+            (phrases.ctor_dtor (text_at self.old.held class) is_destructor) }
     {
         let attributes = primary(text_len(self, class));
         if is_destructor {
@@ -142,17 +142,17 @@ impl Arena {
     /// Makes `~TYPE`.
     pub fn make_dtor_name(&mut self, t: u32) -> Result<u32, Stop>
         requires t { t < size self.old }
-        ensures makes { Makes result self.old self.new (rows.dtor_name (tree_at (forest self.old) t)) }
+        ensures makes { Makes result self.old self.new (phrases.dtor_name (tree_at (forest self.old) t)) }
     {
         self.make_phrase(open(0, Prec::Primary), &[fixed(b"~"), whole(t)])
     }
 
     /// Makes `'unnamedCOUNT'`, in GNU's style `{unnamed type#ORDINAL}`.
-    pub fn make_unnamed(&mut self, count: Text, ordinal: Text) -> Result<u32, Stop>
+    pub fn make_unnamed(&mut self, count: NodeText, ordinal: NodeText) -> Result<u32, Stop>
         requires count { IsText self.old.held count }
         requires ordinal { IsText self.old.held ordinal }
         ensures makes { Makes result self.old self.new
-            (rows.unnamed (text_at self.old.held count) (text_at self.old.held ordinal)) }
+            (phrases.unnamed (text_at self.old.held count) (text_at self.old.held ordinal)) }
     {
         let attributes = primary(text_len(self, count));
         let parts = [
@@ -166,7 +166,7 @@ impl Arena {
     /// Makes the names of a structured binding: `[NAMES]`.
     pub fn make_bindings(&mut self, names: List) -> Result<u32, Stop>
         requires names { IsListBelow self.old.held (size self.old) names }
-        ensures makes { Makes result self.old self.new (rows.bindings (trees_in self.old.held (forest self.old) names)) }
+        ensures makes { Makes result self.old self.new (phrases.bindings (trees_in self.old.held (forest self.old) names)) }
     {
         let attributes = Phrase {
             is_closed: true,
@@ -185,7 +185,7 @@ impl Arena {
         requires a { a < size self.old }
         requires b { b < size self.old }
         ensures makes { Makes result self.old self.new
-            (rows.ctor_vtable (tree_at (forest self.old) a) (tree_at (forest self.old) b)) }
+            (phrases.ctor_vtable (tree_at (forest self.old) a) (tree_at (forest self.old) b)) }
     {
         let parts = [
             fixed(b"construction vtable for "),

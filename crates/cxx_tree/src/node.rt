@@ -11,7 +11,7 @@ pub struct Range {
 
 /// A text of a node.
 #[derive(Clone, Copy)]
-pub enum Text {
+pub enum NodeText {
     Fixed(&'static [u8]),
     /// Bytes of the arena.
     Stored(Range),
@@ -33,7 +33,7 @@ pub struct Parts {
 #[derive(Clone, Copy)]
 pub enum Part {
     /// A text, in LLVM's style and in GNU's.
-    Text(Text, Text),
+    Text(NodeText, NodeText),
     Tree(Manner, u32),
     Trees(Listing, List),
 }
@@ -41,24 +41,24 @@ pub enum Part {
 /// A node whose text has one side: a name can't stand inside of it. A `u32` is the index of a node.
 #[derive(Clone, Copy)]
 pub enum Plain {
-    Name(Text),
+    Name(NodeText),
     /// A text that isn't a name, in LLVM's style and in GNU's. The flag says that it is an operand without parentheses
     /// in GNU's style.
-    Leaf(bool, Text, Text),
+    Leaf(bool, NodeText, NodeText),
     StdName(Std, bool),
     Phrase(Phrase, Parts),
     /// A scope and a name. The flag says that the name is a friend's.
     Scoped(bool, u32, u32),
     /// A scope, and the text of a name in it: one node for two trees.
-    ScopedName(u32, Text),
+    ScopedName(u32, NodeText),
     WithArgs(u32, List),
-    AbiTag(u32, Text),
+    AbiTag(u32, NodeText),
     /// A name, and the module that it is in.
     InModule(u32, u32),
     /// A name that isn't a function's.
     Data(u32),
-    ObjcProtocol(u32, Text),
-    List(List),
+    ObjcProtocol(u32, NodeText),
+    Several(List),
     Expansion(u32),
     /// A template parameter whose argument isn't known yet: level and index.
     Param(u64, u64),
@@ -97,7 +97,7 @@ pub struct Encoding {
     pub cv: Cv,
     pub ref_qual: RefQual,
     /// What follows the qualifiers.
-    pub rest: Parts,
+    pub clauses: Parts,
 }
 
 /// A node of an arena: what stands for a tree. A `u32` is the index of a node.

@@ -8,24 +8,24 @@ ghost use Rattle.std.specs.Prelude.{◌≡◌, ℕ, ◌+◌, ◌<◌, ◌≤◌,
 ghost use Rattle.std.specs.List.{AllByRecursion};
 ghost use Rattle.cxx_tree.specs.Grows.{Grows, Makes};
 ghost use Rattle.cxx_tree.specs.Stored.{forest, size, text_at, parts_of, parts_in, IsText, IsPartBelow, IsPartsBelow};
-ghost use Rattle.cxx_tree.specs.Rows as rows;
+ghost use Rattle.cxx_tree.specs.Phrases as phrases;
 ghost use Rattle.cxx_tree.specs.Tree as tree;
 ghost use Rattle.cxx_tree.specs.declared.node.Part.TheVariants as part;
-ghost use Rattle.cxx_tree.specs.declared.node.Text.TheVariants as text;
+ghost use Rattle.cxx_tree.specs.declared.node.NodeText.TheVariants as text;
 ghost use Rattle.cxx_tree.specs.declared.kinds.Manner.TheVariants as manner;
 ghost use Rattle.cxx_tree.specs.declared.kinds.Context.TheVariants as context;
 ghost use Rattle.cxx_tree.specs.declared.kinds.Prec.TheVariants as precedence;
 
 use crate::arena::{Arena, Stop};
 use crate::kinds::{Context, Guard, Manner, Phrase, Prec, Role};
-use crate::node::{Node, Part, Parts, Plain, Text};
+use crate::node::{Node, Part, Parts, Plain, NodeText};
 use std::alloc::AllocError;
 
 /// Returns the attributes of a primary expression, a name or a type whose last part isn't at its end. It holds texts of
 /// `held` bytes.
 pub fn primary(held: usize) -> Phrase
     requires small { held < 9223372036854775808 }
-    ensures value { result ≡ rows.primary held }
+    ensures value { result ≡ phrases.primary held }
 {
     expression(held, Prec::Primary)
 }
@@ -33,7 +33,7 @@ pub fn primary(held: usize) -> Phrase
 /// Returns the attributes of an expression whose last part isn't at its end.
 pub fn expression(held: usize, prec: Prec) -> Phrase
     requires small { held < 9223372036854775808 }
-    ensures value { result ≡ rows.expression held prec }
+    ensures value { result ≡ phrases.expression held prec }
 {
     Phrase {
         own: 1 + held,
@@ -49,7 +49,7 @@ pub fn expression(held: usize, prec: Prec) -> Phrase
 /// Returns the attributes of an expression that its last part ends.
 pub fn open(held: usize, prec: Prec) -> Phrase
     requires small { held < 9223372036854775808 }
-    ensures value { result ≡ rows.ending (rows.expression held prec) }
+    ensures value { result ≡ phrases.ending (phrases.expression held prec) }
 {
     Phrase {
         is_open: true,
@@ -68,11 +68,11 @@ pub fn fixed(bytes: &'static [u8]) -> Part
 pub fn styled(llvm: &'static [u8], gnu: &'static [u8]) -> Part
     ensures value { result ≡ part.Text (text.Fixed llvm.entry) (text.Fixed gnu.entry) }
 {
-    Part::Text(Text::Fixed(llvm), Text::Fixed(gnu))
+    Part::Text(NodeText::Fixed(llvm), NodeText::Fixed(gnu))
 }
 
 /// Returns a text that isn't fixed, in both styles.
-pub fn held(text: Text) -> Part
+pub fn held(text: NodeText) -> Part
     ensures value { result ≡ part.Text text text }
 {
     Part::Text(text, text)
@@ -114,7 +114,7 @@ pub fn gnu_operand(t: u32) -> Part
 }
 
 /// Says whether a text has these bytes.
-pub fn is_text(arena: &Arena, text: Text, bytes: &[u8]) -> bool
+pub fn is_text(arena: &Arena, text: NodeText, bytes: &[u8]) -> bool
     requires within { IsText arena.now.held text }
     ensures value { result ≡ bytes_eq (text_at arena.now.held text) bytes.now }
 {

@@ -7,7 +7,7 @@ ghost use Rattle.cxx_tree.specs.Stored.{forest, text_at, IsText};
 ghost use Rattle.cxx_tree.specs.Texts.{number_printed};
 
 use crate::arena::Arena;
-use crate::node::Text;
+use crate::node::NodeText;
 use std::alloc::AllocError;
 
 impl Arena {
@@ -28,7 +28,7 @@ impl Arena {
     }
 
     /// Makes a text of what is printed of a number, between two texts.
-    pub fn joined(&mut self, front: &[u8], number: &[u8], after: &[u8]) -> Result<Text, AllocError>
+    pub fn joined(&mut self, front: &[u8], number: &[u8], after: &[u8]) -> Result<NodeText, AllocError>
         ensures text { IfOk result
             (λ t. text_at self.new.held t ≡ front.now ++ (number_printed number.now ++ after.now)) }
         ensures within { IfOk result (IsText self.new.held) }

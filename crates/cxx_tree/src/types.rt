@@ -6,23 +6,23 @@ ghost use Rattle.cxx_tree.specs.Grows.{Makes, Grows};
 ghost use Rattle.cxx_tree.specs.Stored.{forest, size, tree_at, trees_in};
 ghost use Rattle.cxx_tree.specs.Stored.{text_at, parts_in, IsText, IsListBelow, IsOptionBelow, IsPartsBelow};
 ghost use Rattle.cxx_tree.specs.Tree.{no_parts};
-ghost use Rattle.cxx_tree.specs.Rows as rows;
+ghost use Rattle.cxx_tree.specs.Phrases as phrases;
 
 use crate::arena::{Arena, Stop};
 use crate::kinds::{Cv, Listing, Phrase, Prec, RefQual};
 use crate::measuring::text_len;
-use crate::node::{Declaration, Encoding, Function, List, Node, Part, Parts, Text};
+use crate::node::{Declaration, Encoding, Function, List, Node, Part, Parts, NodeText};
 use crate::phrases::{fixed, held, open, primary, styled, whole};
 use std::alloc::AllocError;
 
 impl Arena {
     /// Makes `TYPE` and `LLVM` after it, in GNU's style `GNU`.
-    pub fn make_suffixed(&mut self, t: u32, llvm: Text, gnu: Text) -> Result<u32, Stop>
+    pub fn make_suffixed(&mut self, t: u32, llvm: NodeText, gnu: NodeText) -> Result<u32, Stop>
         requires t { t < size self.old }
         requires llvm { IsText self.old.held llvm }
         requires gnu { IsText self.old.held gnu }
         ensures makes { Makes result self.old self.new
-            (rows.suffixed (tree_at (forest self.old) t) (text_at self.old.held llvm) (text_at self.old.held gnu)) }
+            (phrases.suffixed (tree_at (forest self.old) t) (text_at self.old.held llvm) (text_at self.old.held gnu)) }
     {
         let attributes = primary(text_len(self, llvm));
         self.make_phrase(attributes, &[whole(t), Part::Text(llvm, gnu)])
@@ -33,7 +33,7 @@ impl Arena {
         requires t { t < size self.old }
         requires dimension { IsOptionBelow (size self.old) dimension }
         ensures makes { Makes result self.old self.new
-            (rows.vector (tree_at (forest self.old) t) (option_map (tree_at (forest self.old)) dimension)) }
+            (phrases.vector (tree_at (forest self.old) t) (option_map (tree_at (forest self.old)) dimension)) }
     {
         let attributes = Phrase {
             is_closed: true,
@@ -54,7 +54,7 @@ impl Arena {
         requires dimension { IsOptionBelow (size self.old) dimension }
         ensures below { IfOk result (λ l. IsPartsBelow self.new.held (size self.old) l) }
         ensures parts { IfOk result (λ l. parts_in self.new.held (forest self.old) l
-            ≡ rows.dimension_of (option_map (tree_at (forest self.old)) dimension)) }
+            ≡ phrases.dimension_of (option_map (tree_at (forest self.old)) dimension)) }
         ensures grows { Grows self.old self.new }
         ensures forest { forest self.new ≡ forest self.old }
         ensures size { size self.new ≡ size self.old }
@@ -70,7 +70,7 @@ impl Arena {
         requires element { element < size self.old }
         requires dimension { IsOptionBelow (size self.old) dimension }
         ensures makes { Makes result self.old self.new
-            (rows.array_of (tree_at (forest self.old) element) (option_map (tree_at (forest self.old)) dimension)) }
+            (phrases.array_of (tree_at (forest self.old) element) (option_map (tree_at (forest self.old)) dimension)) }
     {
         let parts = self.dimension_parts(dimension)?;
         self.push(Node::Array(element, parts))
@@ -80,13 +80,13 @@ impl Arena {
     pub fn make_vendor_qualified(
         &mut self,
         t: u32,
-        qualifier: Text,
+        qualifier: NodeText,
         args: Option<List>,
     ) -> Result<u32, Stop>
         requires t { t < size self.old }
         requires qualifier { IsText self.old.held qualifier }
         requires args { IfSome args (IsListBelow self.old.held (size self.old)) }
-        ensures makes { Makes result self.old self.new (rows.vendor_qualified (tree_at (forest self.old) t)
+        ensures makes { Makes result self.old self.new (phrases.vendor_qualified (tree_at (forest self.old) t)
             (text_at self.old.held qualifier) (option_map (trees_in self.old.held (forest self.old)) args)) }
     {
         let len = text_len(self, qualifier);
@@ -105,7 +105,7 @@ impl Arena {
         requires exception { IsOptionBelow (size self.old) exception }
         ensures below { IfOk result (λ l. IsPartsBelow self.new.held (size self.old) l) }
         ensures parts { IfOk result (λ l. parts_in self.new.held (forest self.old) l
-            ≡ rows.exception_of (option_map (tree_at (forest self.old)) exception)) }
+            ≡ phrases.exception_of (option_map (tree_at (forest self.old)) exception)) }
         ensures grows { Grows self.old self.new }
         ensures forest { forest self.new ≡ forest self.old }
         ensures size { size self.new ≡ size self.old }
@@ -128,7 +128,7 @@ impl Arena {
         requires ret { ret < size self.old }
         requires params { IsListBelow self.old.held (size self.old) params }
         requires exception { IsOptionBelow (size self.old) exception }
-        ensures makes { Makes result self.old self.new (rows.function_of (tree_at (forest self.old) ret)
+        ensures makes { Makes result self.old self.new (phrases.function_of (tree_at (forest self.old) ret)
             (trees_in self.old.held (forest self.old) params) cv ref_qual (option_map (tree_at (forest self.old)) exception)) }
     {
         let parts = self.exception_parts(exception)?;
@@ -146,7 +146,7 @@ impl Arena {
         requires constraint { IsOptionBelow (size self.old) constraint }
         ensures below { IfOk result (λ l. IsPartsBelow self.new.held (size self.old) l) }
         ensures parts { IfOk result (λ l. parts_in self.new.held (forest self.old) l
-            ≡ rows.constrained (option_map (tree_at (forest self.old)) constraint) no_parts) }
+            ≡ phrases.constrained (option_map (tree_at (forest self.old)) constraint) no_parts) }
         ensures grows { Grows self.old self.new }
         ensures forest { forest self.new ≡ forest self.old }
         ensures size { size self.new ≡ size self.old }
@@ -167,7 +167,7 @@ impl Arena {
         requires n { n < size self.old }
         requires declarations { IsListBelow self.old.held (size self.old) declarations }
         requires constraint { IsOptionBelow (size self.old) constraint }
-        ensures makes { Makes result self.old self.new (rows.template_param_of (tree_at (forest self.old) n)
+        ensures makes { Makes result self.old self.new (phrases.template_param_of (tree_at (forest self.old) n)
             (trees_in self.old.held (forest self.old) declarations) (option_map (tree_at (forest self.old)) constraint)) }
     {
         let parts = self.constraint_parts(constraint)?;
@@ -180,7 +180,7 @@ impl Arena {
         requires constraint { IsOptionBelow (size self.old) clauses.constraint }
         ensures below { IfOk result (λ l. IsPartsBelow self.new.held (size self.old) l) }
         ensures parts { IfOk result (λ l. parts_in self.new.held (forest self.old) l
-            ≡ rows.rest_of (option_map (trees_in self.old.held (forest self.old)) clauses.enable_if)
+            ≡ phrases.rest_of (option_map (trees_in self.old.held (forest self.old)) clauses.enable_if)
             (option_map (tree_at (forest self.old)) clauses.constraint)) }
         ensures grows { Grows self.old self.new }
         ensures forest { forest self.new ≡ forest self.old }
@@ -202,7 +202,7 @@ impl Arena {
         requires constraint { IsOptionBelow (size self.old) constraint }
         ensures below { IfOk result (λ l. IsPartsBelow self.new.held (size self.old) l) }
         ensures parts { IfOk result (λ l. parts_in self.new.held (forest self.old) l
-            ≡ rows.rest_of (Some (trees_in self.old.held (forest self.old) conditions))
+            ≡ phrases.rest_of (Some (trees_in self.old.held (forest self.old) conditions))
             (option_map (tree_at (forest self.old)) constraint)) }
         ensures grows { Grows self.old self.new }
         ensures forest { forest self.new ≡ forest self.old }
@@ -231,7 +231,7 @@ impl Arena {
         requires params { IsListBelow self.old.held (size self.old) params }
         requires enable_if { IfSome clauses.enable_if (IsListBelow self.old.held (size self.old)) }
         requires constraint { IsOptionBelow (size self.old) clauses.constraint }
-        ensures makes { Makes result self.old self.new (rows.function_encoding
+        ensures makes { Makes result self.old self.new (phrases.function_encoding
             (option_map (tree_at (forest self.old)) ret) (tree_at (forest self.old) n)
             (trees_in self.old.held (forest self.old) params) (option_map (trees_in self.old.held (forest self.old)) clauses.enable_if)
             (option_map (tree_at (forest self.old)) clauses.constraint) cv ref_qual) }
@@ -243,7 +243,7 @@ impl Arena {
             params,
             cv,
             ref_qual,
-            rest: parts,
+            clauses: parts,
         }))
     }
 }

@@ -1,6 +1,6 @@
 use Rattle.std.proofs.Common.{false}
 use Rattle.cxx_tree.specs.Stored.{forest, tree_at}
-use Rattle.cxx_printer.specs.Printing.{print, scope_text}
+use Rattle.cxx_printer.specs.Print.{print, scope_text}
 use Rattle.cxx_printer.specs.Parts.{colons, joined, split}
 use Rattle.cxx_printer.proofs.Symbols.{prints_three}
 use Rattle.cxx_printer.proofs.parts.+scopes.Goals as goal

@@ -2,7 +2,7 @@ use Rattle.std.proofs.Common.{codes, length, nat_eq, ℕ, ◌≡◌, ◌+◌, �
 use Rattle.std.specs.List.{AllByRecursion}
 use Rattle.cxx_tree.specs.Stored.{forest, tree_at, trees_at, parts_of}
 use Rattle.cxx_printer.specs.Asked.{item}
-use Rattle.cxx_printer.specs.Printing.{items_of, print, print_parts, whole, sequence, separated, declared, head, repeated}
+use Rattle.cxx_printer.specs.Print.{items_of, print, print_parts, whole, sequence, separated, declared, head, repeated}
 use Rattle.cxx_tree.specs.Tree.{named}
 use Rattle.cxx_tree.specs.Measure.{measure, measure_parts}
 use Rattle.cxx_tree.specs.Stored.{tree_of, plain_tree, declaration_tree, IsPlainBelow, text_at, trees_in, parts_in, size, IsPartBelow}
@@ -15,7 +15,7 @@ use Rattle.cxx_printer.proofs.Symbols.{prints_three}
 use Rattle.cxx_printer.proofs.Declarators.{signature-alone, whole-qualified, whole-plain-pointer, whole-cv-pointer, whole-plain-reference, whole-cv-reference}
 use Rattle.cxx_printer.proofs.Items.{scoped_item, args_item, pointer_item, reference_item, name_item, leaf_item, items_step}
 use Rattle.cxx_printer.proofs.Turns.{so_far_step, added_twice, so_far_end, list_end, sequence_step, sequence_end, separated_step, separated_end, repeated_step, repeated_end, parts_step, whole-left}
-use Rattle.cxx_printer.specs.Printing.{collapsed}
+use Rattle.cxx_printer.specs.Print.{collapsed}
 use Rattle.cxx_printer.specs.Prints.{Prints}
 use Rattle.cxx_printer.specs.Words.{mark}
 use Rattle.cxx_printer.proofs.Appended.{prints_nothing}
@@ -183,7 +183,7 @@ print_signature-returns t c =
     let s = c.args.arena.now in
     let f = c.args.encoding.now in
     let params = items_of (trees_in s.held (forest s) f.params) in
-    let rest = print_parts (parts_in s.held (forest s) f.rest) c.args.env in
+    let rest = print_parts (parts_in s.held (forest s) f.clauses) c.args.env in
     let name = whole (print (tree_at (forest s) f.name) c.args.env) in
     record {
       prints = subst (λ (l : List ℕ). Prints c.print_qualifiers.result c.args.out.now c.print_qualifiers.new.out (name ++ l))

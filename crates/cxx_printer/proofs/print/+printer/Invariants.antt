@@ -2,7 +2,7 @@ use Rattle.std.proofs.Common.{◌≡◌, ◌+◌, ◌-◌, ◌*◌, ◌≤◌, �
 use Rattle.cxx_tree.specs.declared.node.Node.TheVariants as node
 use Rattle.cxx_tree.specs.Stored.{forest, tree_at, trees_at, parts_of}
 use Rattle.cxx_printer.specs.Asked.{item}
-use Rattle.cxx_printer.specs.Printing.{items_of, print_parts, list_from, sequence, separated, declared, head, repeated}
+use Rattle.cxx_printer.specs.Print.{items_of, print_parts, list_from, sequence, separated, declared, head, repeated}
 use Rattle.cxx_printer.proofs.Heights.{height_at, height_of, plain_height, declaration_height, option_height, items_height, list_height, part_height, parts_height}
 use Rattle.cxx_printer.proofs.print.+printer.Given as goal
 

@@ -1,6 +1,6 @@
 use Rattle.std.proofs.Common.{◌≡◌, ◌∙◌, refl, sym, subst, arith}
 use Rattle.cxx_tree.specs.Stored.{stands}
-use Rattle.cxx_grammar.specs.State.{Named}
+use Rattle.cxx_grammar.specs.State.{LearnedName}
 use Rattle.cxx_grammar.specs.Binds.{bind_encoding}
 use Rattle.cxx_grammar.specs.Grammar.{productions}
 use Rattle.cxx_reader.specs.Outcome.{state, Gives, named_at}
@@ -21,4 +21,4 @@ returns-clause-reads c =
     let is : (productions c.args.depth).encoding s ≡ bind_encoding (named_at mid.arena name) t (state end) =
     encoding_opens c.args.depth s (omega (arith, c.if-depth-eq0.false)) ∙ rw (read.1, signed.reads.1) refl in
     subst (Gives c.bind.result c.bind.new.self) (sym is)
-    (subst (λ (n : Named). Gives c.bind.result c.bind.new.self (bind_encoding n t (state end))) same c.bind.ensures.reads)
+    (subst (λ (n : LearnedName). Gives c.bind.result c.bind.new.self (bind_encoding n t (state end))) same c.bind.ensures.reads)

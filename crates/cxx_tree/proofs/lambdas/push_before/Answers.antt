@@ -1,6 +1,6 @@
 use Rattle.std.specs.Prelude.{option_map}
 use Rattle.cxx_tree.specs.Stored.{tree_at}
-use Rattle.cxx_tree.specs.Rows.{constrained_before}
+use Rattle.cxx_tree.specs.Phrases.{constrained_before}
 use Rattle.cxx_tree.proofs.Putting.{adds, on_ok}
 use Rattle.cxx_tree.proofs.lambdas.push_before.Goals as goal
 

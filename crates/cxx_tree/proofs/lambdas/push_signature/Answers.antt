@@ -1,7 +1,7 @@
 use Rattle.std.proofs.Common.{◌∙◌, refl}
 use Rattle.std.specs.Prelude.{option_map}
 use Rattle.cxx_tree.specs.Stored.{tree_at, trees_in}
-use Rattle.cxx_tree.specs.Rows.{constrained_before, constrained, parens}
+use Rattle.cxx_tree.specs.Phrases.{constrained_before, constrained, parens}
 use Rattle.cxx_tree.proofs.Putting.{adds, adds-below, ok_map}
 use Rattle.cxx_tree.specs.Pieces.{IsSignatureBelow}
 use Rattle.cxx_tree.proofs.lambdas.push_signature.Goals as goal

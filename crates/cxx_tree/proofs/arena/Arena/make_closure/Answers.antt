@@ -2,7 +2,7 @@ use Rattle.std.proofs.Common.{ℕ, ◌==◌, length, refl, ◌∙◌, ap, subst,
 use Rattle.std.specs.Prelude.{not}
 use Rattle.cxx_tree.specs.declared.node.Part.{Part}
 use Rattle.cxx_tree.specs.declared.node.Part.TheVariants as part
-use Rattle.cxx_tree.specs.declared.node.Text.TheVariants as text
+use Rattle.cxx_tree.specs.declared.node.NodeText.TheVariants as text
 use Rattle.cxx_tree.specs.Tree.{Parts, phrase, no_parts}
 use Rattle.cxx_tree.specs.Grows.{Makes}
 use Rattle.cxx_tree.specs.Stored.{forest, size, parts_of, list_at}

@@ -23,14 +23,14 @@ use Rattle.cxx_printer.specs.Words.{is_llvm, enclosed, in_angle, at, in_context,
 use Rattle.cxx_printer.specs.Heads.{prec_of, is_tight, is_simple, is_designator, is_named_address, protocol_of, count_of}
 
 -- the two texts, and how the declarators around them are written
-pub record Text : Type 0 where
+pub record Sides : Type 0 where
   pub left : List ℕ
   pub right : List ℕ
   pub bracket : Bool  -- a blank stands before the right text unless it is joined: it begins with an array's bracket
   pub form : Form
 
 -- other texts of a function in GNU's style
-pub record Named : Type 0 where
+pub record FunctionTexts : Type 0 where
   pub scope : List ℕ  -- as a scope, without its return type
   pub callee : List ℕ  -- where it is called, without its parameters
   -- where its address is taken, if it has no parameters there; and how this text ends
@@ -38,27 +38,27 @@ pub record Named : Type 0 where
 
 -- what a tree prints, and what is asked of it where it is a part of another
 pub record Printed : Type 0 where
-  pub text : Text
+  pub text : Sides
   pub kind : Option Bool  -- of a reference, whether it and those that it refers to make an lvalue reference
-  pub base : Text  -- what a reference refers to in the end; of what is no reference, its text
+  pub base : Sides  -- what a reference refers to in the end; of what is no reference, its text
   pub has_right : Bool  -- a right text may stand after the name
   pub closed : Bool  -- the left text ends with a bracket that joins one after it
   pub star : Bool  -- a pointer
   pub ends : Ending  -- how the text ends in GNU's style
-  pub function : Option Named
+  pub function : Option FunctionTexts
   -- of the declaration of a template parameter in GNU's style, the text without the name, and the name
   pub declaration : Option (record { head : List ℕ; name : List ℕ })
 
 -- a text on both sides of a name
-abbrev pub sides : List ℕ → List ℕ → Text
+abbrev pub sides : List ℕ → List ℕ → Sides
 sides left right = record { left = left; right = right; bracket = false; form = Plain }
 
 -- a text on one side
-abbrev pub simple : List ℕ → Text
+abbrev pub simple : List ℕ → Sides
 simple bytes = sides bytes []
 
 -- a text with none of the other attributes
-abbrev pub of_text : Text → Printed
+abbrev pub of_text : Sides → Printed
 of_text t = record {
   text = t;
   kind = None;
@@ -83,7 +83,7 @@ abbrev pub blank_unless : Bool → List ℕ
 blank_unless flag = if flag then [] else codes " "
 
 -- the right text. The flag says that it is joined to what stands before it
-abbrev pub right_behind : Bool → Text → List ℕ
+abbrev pub right_behind : Bool → Sides → List ℕ
 right_behind joined t = (if t.bracket then blank_unless joined else []) ++ t.right
 
 -- the right text of a type, after a name or a declarator
@@ -318,7 +318,7 @@ abbrev pub with_cv : Cv → Printed → Printed
 with_cv cv t = record (of_text (record (t.text) { left = t.text.left ++ cv_text cv })) { has_right = t.has_right }
 
 -- a declarator that refers to a type. What stands on the left of the name is given
-abbrev pub declarator : List ℕ → Text → Text
+abbrev pub declarator : List ℕ → Sides → Sides
 declarator bytes t = sides (t.left ++ bytes) (closed t.form ++ right_behind false t)
 
 -- a pointer with this declarator
@@ -337,7 +337,7 @@ collapsed lvalue None = lvalue
 collapsed lvalue (Some inner) = lvalue || inner
 
 -- a reference to what is no reference
-abbrev pub refers : Bool → Text → Text
+abbrev pub refers : Bool → Sides → Sides
 refers lvalue t = declarator (opened t.form ++ mark lvalue) t
 
 abbrev pub reference_to : Bool → Printed → Printed
@@ -393,7 +393,7 @@ signature_right env ret params cv ref rest =
     parens env params
     ++ (if is_llvm env then ret ++ qualifiers cv ref rest.text else qualifiers cv ref (ret ++ rest.text))
 
-abbrev pub named_function : Env → Item → List Item → Cv → RefQual → Run → Named
+abbrev pub named_function : Env → Item → List Item → Cv → RefQual → Run → FunctionTexts
 named_function env name params cv ref rest = record {
   scope = whole (name.printed env) ++ signature_right env [] params cv ref rest;
   callee = operand env Comma true name;
