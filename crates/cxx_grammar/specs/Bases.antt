@@ -1,4 +1,4 @@
--- What a name is asked for: the name of its constructors, and its arguments.
+-- What a tree is asked for while reading, always before its template parameters are bound.
 use Rattle.std.specs.Prelude.{ℕ, List, [], codes, Bool, true, false, Option, Some, None}
 use Rattle.cxx_tree.specs.declared.kinds.Std.{Std}
 use Rattle.cxx_tree.specs.declared.kinds.Std.TheVariants as std

@@ -1,6 +1,7 @@
--- Which case of a production the next bytes select.
-use Rattle.std.specs.Prelude.{ℕ, List, [], ◌∷◌, codes, Bool, true, false, ◌||◌, ◌&&◌, if◌then◌else◌, drop, is_some}
-use Rattle.abi_scalars.specs.Bytes.{begins, begins_between, begins_digit, begins_one_of, one_of}
+-- Which case of a production the next bytes select. Each table is in order: the first row that fits is taken.
+use Prim.Native.String.{String}
+use Rattle.std.specs.Prelude.{ℕ, List, [], ◌∷◌, codes, Bool, true, false, ◌&&◌, if◌then◌else◌, drop, is_some}
+use Rattle.abi_scalars.specs.Bytes.{begins, begins_between, begins_digit, begins_one_of}
 use Rattle.cxx_grammar.specs.Words.{builtin_of, integer_of}
 use Rattle.cxx_grammar.specs.declared.cases.NameCase.{NameCase}
 use Rattle.cxx_grammar.specs.declared.cases.NameCase.TheVariants as name_case
@@ -17,27 +18,35 @@ use Rattle.cxx_grammar.specs.declared.cases.ArgCase.TheVariants as arg
 use Rattle.cxx_grammar.specs.declared.cases.LiteralCase.{LiteralCase}
 use Rattle.cxx_grammar.specs.declared.cases.LiteralCase.TheVariants as literal
 
+-- the case of the first row that fits, or else the other one
+abbrev pub case_in : {C : Type 0} → List (String × C) → C → List ℕ → C
+case_in [] other bytes = other
+case_in ((code, case) ∷ table) other bytes = if begins (codes code) bytes then case else case_in table other bytes
+
 -- an encoding ends at the end of the symbol, or before `E`, `.` or `_`
 abbrev pub is_encoding_end : List ℕ → Bool
 is_encoding_end [] = true
 is_encoding_end (b ∷ bytes) = begins_one_of (codes "E._") (b ∷ bytes)
 
--- the arguments end before `E`
-abbrev pub is_args_end : List ℕ → Bool
-is_args_end bytes = begins (codes "E") bytes
+abbrev pub names : List (String × NameCase)
+names =
+    ("N", name_case.Nested) ∷
+    ("St", name_case.Std) ∷
+    ("S", name_case.Substitution) ∷ []
 
 abbrev pub case_of_name : List ℕ → NameCase
-case_of_name bytes =
-    if begins (codes "N") bytes then name_case.Nested else
-    if begins (codes "St") bytes then name_case.Std else
-    if begins (codes "S") bytes then name_case.Substitution else name_case.Unqualified
+case_of_name bytes = case_in names name_case.Unqualified bytes
+
+abbrev pub firsts : List (String × FirstCase)
+firsts =
+    ("St", first.Std) ∷
+    ("S", first.Substitution) ∷
+    ("T", first.Param) ∷ []
 
 abbrev pub case_of_first : List ℕ → FirstCase
-case_of_first bytes =
-    if begins (codes "St") bytes then first.Std else
-    if begins (codes "S") bytes then first.Substitution else
-    if begins (codes "T") bytes then first.Param else first.Unqualified
+case_of_first bytes = case_in firsts first.Unqualified bytes
 
+-- after the `L`
 abbrev pub case_of_component : List ℕ → ComponentCase
 case_of_component bytes =
     if begins (codes "C") bytes && begins_between "1" "5" (drop 1 bytes) then component.Ctor else
@@ -48,45 +57,47 @@ case_of_component bytes =
 abbrev pub case_of_base : List ℕ → BaseCase
 case_of_base bytes =
     if begins_between "1" "9" bytes then base.Source else
-    if begins (codes "li") bytes then base.Literal else
-    if begins (codes "v") bytes && begins_digit (drop 1 bytes) then base.Vendor else base.Operator
+    if begins (codes "v") bytes && begins_digit (drop 1 bytes) then base.Vendor else
+    if begins (codes "li") bytes then base.Literal else base.Operator
 
--- a letter of a builtin type is next
-abbrev pub begins_builtin : List ℕ → Bool
-begins_builtin [] = false
-begins_builtin (b ∷ bytes) = is_some (builtin_of b)
+abbrev pub types : List (String × TypeCase)
+types =
+    ("r", type_case.Qualified) ∷
+    ("V", type_case.Qualified) ∷
+    ("K", type_case.Qualified) ∷
+    ("Dp", type_case.Expansion) ∷
+    ("D", type_case.Builtin) ∷
+    ("T", type_case.Param) ∷
+    ("P", type_case.Pointer) ∷
+    ("R", type_case.Reference true) ∷
+    ("O", type_case.Reference false) ∷
+    ("M", type_case.MemberPointer) ∷
+    ("St", type_case.Class) ∷
+    ("S", type_case.Substitution) ∷ []
 
 abbrev pub case_of_type : List ℕ → TypeCase
-case_of_type bytes =
-    if begins_one_of (codes "rVK") bytes then type_case.Qualified else
-    if begins (codes "Dp") bytes then type_case.Expansion else
-    if begins (codes "D") bytes then type_case.Builtin else
-    if begins (codes "T") bytes then type_case.Param else
-    if begins (codes "P") bytes then type_case.Pointer else
-    if begins (codes "R") bytes then type_case.Reference true else
-    if begins (codes "O") bytes then type_case.Reference false else
-    if begins (codes "M") bytes then type_case.MemberPointer else
-    if begins (codes "St") bytes then type_case.Class else
-    if begins (codes "S") bytes then type_case.Substitution else
-    if begins_builtin bytes then type_case.Builtin else type_case.Class
+case_of_type bytes = if is_some (builtin_of bytes) then type_case.Builtin else case_in types type_case.Class bytes
+
+abbrev pub args : List (String × ArgCase)
+args =
+    ("J", arg.Pack) ∷
+    ("L", arg.Literal) ∷ []
 
 abbrev pub case_of_arg : List ℕ → ArgCase
-case_of_arg bytes =
-    if begins (codes "J") bytes then arg.Pack else
-    if begins (codes "L") bytes then arg.Literal else arg.Type
-
--- the literals of other types begin with these letters, and aren't read
-abbrev pub is_unread : ℕ → Bool
-is_unread byte = one_of (codes "fde_ATU") byte
-
-abbrev pub case_of_literal_letter : ℕ → LiteralCase
-case_of_literal_letter byte =
-    if is_some (integer_of byte) then literal.Integer else
-    if is_unread byte then literal.Unread else literal.Typed
+case_of_arg bytes = case_in args arg.Type bytes
 
 -- after the `L`
+abbrev pub literals : List (String × LiteralCase)
+literals =
+    ("b", literal.Bool) ∷
+    ("f", literal.Unread) ∷
+    ("d", literal.Unread) ∷
+    ("e", literal.Unread) ∷
+    ("_", literal.Unread) ∷
+    ("A", literal.Unread) ∷
+    ("Dn", literal.Null) ∷
+    ("T", literal.Unread) ∷
+    ("U", literal.Unread) ∷ []
+
 abbrev pub case_of_literal : List ℕ → LiteralCase
-case_of_literal [] = literal.Typed
-case_of_literal (b ∷ bytes) =
-    if begins (codes "b") (b ∷ bytes) then literal.Bool else
-    if begins (codes "Dn") (b ∷ bytes) then literal.Null else case_of_literal_letter b
+case_of_literal bytes = if is_some (integer_of bytes) then literal.Integer else case_in literals literal.Typed bytes

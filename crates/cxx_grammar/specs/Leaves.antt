@@ -1,156 +1,162 @@
--- Productions without productions inside: source names, operators, substitutions, parameters, literals.
-use Rattle.std.specs.Prelude.{ℕ, List, [], ◌∷◌, ◌++◌, codes, false, drop, slice_get, Option, Some, None, if◌then◌else◌}
+-- Productions without counted productions inside: source names, numbers, substitutions, parameters, builtin types.
+use Prim.Native.String.{String}
+use Rattle.std.specs.Prelude.{ℕ, List, [], ◌∷◌, ◌++◌, Bool, false, codes, slice_get, Option, Some, None, if◌then◌else◌}
 use Rattle.cxx_tree.specs.declared.kinds.Cv.{Cv}
 use Rattle.cxx_tree.specs.declared.kinds.Prec.TheVariants.{Primary}
 use Rattle.cxx_tree.specs.declared.kinds.RefQual.{RefQual}
 use Rattle.cxx_tree.specs.declared.kinds.RefQual.TheVariants as refqual
 use Rattle.cxx_tree.specs.declared.kinds.Std.{Std}
-use Rattle.cxx_tree.specs.declared.kinds.Std.TheVariants as std
 use Rattle.cxx_tree.specs.Tree.{Tree, named, std_name, param}
 use Rattle.cxx_tree.specs.Phrases.{word, literal, prefixed}
 use Rattle.cxx_tree.specs.Texts.{number_printed}
-use Rattle.abi_scalars.specs.Bytes.{begins}
 use Rattle.abi_scalars.specs.Scalars.{index_of, source_text}
 use Rattle.abi_scalars.specs.Texts.{identifier, number_text}
 use Rattle.abi_scalars.specs.declared.numerals.Radix.TheVariants.{Decimal, Base36}
-use Rattle.cxx_grammar.specs.declared.cases.BaseCase.{BaseCase}
-use Rattle.cxx_grammar.specs.declared.cases.BaseCase.TheVariants as base
-use Rattle.cxx_grammar.specs.Words.{builtin_of, d_builtin_of, integer_of, operator_of}
-use Rattle.cxx_grammar.specs.Cases.{case_of_base}
-use Rattle.cxx_grammar.specs.State.{State, Parses, ◌>>=◌, skip, with_rest, past, make}
+use Rattle.cxx_grammar.specs.Words.{std_of, builtin_of, d_builtin_of, integer_of, operator_of}
+use Rattle.cxx_grammar.specs.Parses.{Parses, ◌>>=◌, ◌>>◌, pure, given, look, past, expect, optional, of_bytes, parse_code, make}
+
+abbrev pub make_name : List ℕ → Parses Tree
+make_name text = make (named text)
+
+abbrev pub make_word : String → Parses Tree
+make_word text = make_name (codes text)
+
+-- a code of n letters, for which there is a word
+abbrev pub make_code : ℕ → Option (List ℕ) → Parses Tree
+make_code n found = do
+  word ← given found
+  past n
+  make_name word
+
+-- the word of the code that is next, in a table
+abbrev pub parse_word : ℕ → (List ℕ → Option (List ℕ)) → Parses Tree
+parse_word n word_of = do
+  bytes ← look
+  make_code n (word_of bytes)
+
+-- Names.
+
+-- <identifier>, with its length in front
+abbrev pub parse_identifier : Parses (List ℕ)
+parse_identifier = of_bytes identifier
 
 -- <source-name> ::= <positive length number> <identifier>
-abbrev pub parse_source : Parses Tree
-parse_source s = identifier s.rest >>= λ n. make (named (source_text n.0)) (with_rest n.1 s)
+abbrev pub parse_source_name : Parses Tree
+parse_source_name = do
+  name ← parse_identifier
+  make_name (source_text name)
 
-abbrev pub operator_here : List ℕ → Option (List ℕ)
-operator_here (first ∷ second ∷ bytes) = operator_of first second
-operator_here bytes = None
+-- a source name after n bytes, with a word in front of it
+abbrev pub parse_prefixed : ℕ → List ℕ → Parses Tree
+parse_prefixed n word = do
+  past n
+  name ← parse_source_name
+  make (prefixed word word name Primary)
 
 -- <operator-name> that is a code of two letters
 abbrev pub parse_operator : Parses Tree
-parse_operator s = operator_here s.rest >>= λ name. make (named name) (skip 2 s)
+parse_operator = parse_word 2 operator_of
 
--- a source name with a word in front of it, after n bytes
-abbrev pub parse_prefixed : List ℕ → ℕ → Parses Tree
-parse_prefixed word n s = parse_source (skip n s) >>= λ t. make (prefixed word word t.0 Primary) t.1
-
-unfoldable pub base_as : BaseCase → Parses Tree
-base_as base.Source s = parse_source s
--- li <source-name>
-base_as base.Literal s = parse_prefixed (codes "operator\"\" ") 2 s
--- v <digit> <source-name>
-base_as base.Vendor s = parse_prefixed (codes "operator ") 2 s
-base_as base.Operator s = parse_operator s
-
--- a name without a scope, after its `L`
-abbrev pub parse_unmarked_base : Parses Tree
-parse_unmarked_base s = base_as (case_of_base s.rest) s
-
--- a name without a scope
-abbrev pub parse_base : Parses Tree
-parse_base s = parse_unmarked_base (past "L" s)
-
--- the abbreviation of std that a letter stands for
-abbrev pub std_of : List ℕ → Option Std
-std_of bytes =
-    if begins (codes "a") bytes then Some std.Allocator else
-    if begins (codes "b") bytes then Some std.BasicString else
-    if begins (codes "s") bytes then Some std.String else
-    if begins (codes "i") bytes then Some std.Istream else
-    if begins (codes "o") bytes then Some std.Ostream else
-    if begins (codes "d") bytes then Some std.Iostream else None
+-- Substitutions and template parameters.
 
 -- the saved tree with the index
 abbrev pub saved_at : ℕ → Parses Tree
-saved_at k s = slice_get s.saved k >>= λ t. Some (t, s)
+saved_at k s = given (slice_get s.saved k) s
 
--- [<seq-id>] _
 abbrev pub parse_saved : Parses Tree
-parse_saved s = index_of Base36 s.rest >>= λ k. saved_at k.0 (with_rest k.1 s)
+parse_saved = do
+  k ← of_bytes (index_of Base36)
+  saved_at k
+
+abbrev pub parse_abbreviation : Std → Parses Tree
+parse_abbreviation std = do
+  past 1
+  make (std_name std false)
 
 abbrev pub substitution_as : Option Std → Parses Tree
-substitution_as None s = parse_saved s
-substitution_as (Some abbreviation) s = make (std_name abbreviation false) (skip 1 s)
+substitution_as None = parse_saved
+substitution_as (Some std) = parse_abbreviation std
 
--- <substitution> ::= S [<seq-id>] _ | Sa | Sb | Ss | Si | So | Sd
-abbrev pub parse_substitution : Parses Tree
-parse_substitution s = substitution_as (std_of (drop 1 s.rest)) (skip 1 s)
+-- <substitution> ::= S <seq-id> _ | S_
+--                ::= Sa | Sb | Ss | Si | So | Sd
+unfoldable pub parse_substitution : Parses Tree
+parse_substitution = do
+  past 1
+  bytes ← look
+  substitution_as (std_of bytes)
 
--- <template-param> ::= T [<number>] _
-abbrev pub parse_template_param : Parses Tree
-parse_template_param s = index_of Decimal (drop 1 s.rest) >>= λ k. make (param 0 k.0) (with_rest k.1 s)
+-- <template-param> ::= T_ | T <number> _
+unfoldable pub parse_template_param : Parses Tree
+parse_template_param = do
+  past 1
+  index ← of_bytes (index_of Decimal)
+  make (param 0 index)
+
+-- Qualifiers.
 
 -- <CV-qualifiers> ::= [r] [V] [K]
-abbrev pub cv_at : State → Cv
-cv_at s =
-    record {
-      is_const = begins (codes "K") (past "V" (past "r" s)).rest;
-      is_volatile = begins (codes "V") (past "r" s).rest;
-      is_restrict = begins (codes "r") s.rest;
-    }
+unfoldable pub parse_cv : Parses Cv
+parse_cv = do
+  is_restrict ← optional "r"
+  is_volatile ← optional "V"
+  is_const ← optional "K"
+  pure (record { is_const = is_const; is_volatile = is_volatile; is_restrict = is_restrict })
 
-abbrev pub past_cv : State → State
-past_cv s = past "K" (past "V" (past "r" s))
+abbrev pub parse_lvalue : Parses RefQual
+parse_lvalue = do
+  is_lvalue ← optional "R"
+  pure (if is_lvalue then refqual.Lvalue else refqual.None)
 
 -- <ref-qualifier> ::= R | O, which may be left out
-abbrev pub ref_at : State → RefQual
-ref_at s =
-    if begins (codes "O") s.rest then refqual.Rvalue else
-    if begins (codes "R") s.rest then refqual.Lvalue else refqual.None
+unfoldable pub parse_ref : Parses RefQual
+parse_ref = do
+  is_rvalue ← optional "O"
+  if is_rvalue then pure refqual.Rvalue else parse_lvalue
 
-abbrev pub past_ref : State → State
-past_ref s = if begins (codes "O") s.rest then skip 1 s else past "R" s
+-- Builtin types.
 
--- the name that is a word, if there is one
-abbrev pub builtin_word : Option (List ℕ) → Parses Tree
-builtin_word word s = word >>= λ w. make (named w) s
-
--- the word of a letter, if there is one
-abbrev pub at_letter : (ℕ → Option (List ℕ)) → List ℕ → Option (List ℕ)
-at_letter table [] = None
-at_letter table (b ∷ bytes) = table b
-
--- <builtin-type>, after its D
 abbrev pub parse_d_builtin : Parses Tree
-parse_d_builtin s =
-    if begins (codes "n") s.rest then make (word (codes "std::nullptr_t") (codes "decltype(nullptr)")) (skip 1 s)
-    else builtin_word (at_letter d_builtin_of s.rest) (skip 1 s)
+parse_d_builtin = do
+  is_null ← optional "n"
+  if is_null then make (word (codes "std::nullptr_t") (codes "decltype(nullptr)")) else parse_word 1 d_builtin_of
 
--- <builtin-type>
-abbrev pub parse_builtin : Parses Tree
-parse_builtin s =
-    if begins (codes "D") s.rest then parse_d_builtin (skip 1 s)
-    else builtin_word (at_letter builtin_of s.rest) (skip 1 s)
+-- <builtin-type> ::= v | w | b | .. | D n | D d | ..
+unfoldable pub parse_builtin : Parses Tree
+parse_builtin = do
+  is_d ← optional "D"
+  if is_d then parse_d_builtin else parse_word 1 builtin_of
 
-abbrev pub before_e : {A : Type 0} → A → Parses A
-before_e value s = if begins (codes "E") s.rest then Some (value, skip 1 s) else None
+-- Literals without a type inside.
 
 -- <number> E: what is printed of the number
 abbrev pub parse_number_end : Parses (List ℕ)
-parse_number_end s = number_text s.rest >>= λ n. before_e (number_printed n.0) (with_rest n.1 s)
+parse_number_end = do
+  number ← of_bytes number_text
+  expect "E"
+  pure (number_printed number)
+
+-- a text that is the same in both styles
+abbrev pub make_literal : List ℕ → Parses Tree
+make_literal text = make (literal text text)
 
 -- b0E | b1E
-abbrev pub parse_bool : Parses Tree
-parse_bool s =
-    if begins (codes "0E") (drop 1 s.rest) then make (literal (codes "false") (codes "false")) (skip 3 s) else
-    if begins (codes "1E") (drop 1 s.rest) then make (literal (codes "true") (codes "true")) (skip 3 s) else None
+unfoldable pub parse_bool : Parses Tree
+parse_bool = do
+  past 1
+  is_true ← optional "1E"
+  if is_true then make_literal (codes "true") else (do expect "0E"; make_literal (codes "false"))
 
 -- DnE | Dn0E
-abbrev pub parse_null : Parses Tree
-parse_null s =
-    if begins (codes "E") (drop 2 s.rest) then make (literal (codes "nullptr") (codes "decltype(nullptr)")) (skip 3 s)
-    else if begins (codes "0E") (drop 2 s.rest)
-    then make (literal (codes "nullptr") (codes "(decltype(nullptr))0")) (skip 4 s) else None
-
--- an integer, between the texts around it
-abbrev pub integer : List ℕ → List ℕ → List ℕ → Tree
-integer front number after = literal (front ++ (number ++ after)) (front ++ (number ++ after))
-
-abbrev pub integer_here : List ℕ → Option (List ℕ × List ℕ)
-integer_here [] = None
-integer_here (b ∷ bytes) = integer_of b
+unfoldable pub parse_null : Parses Tree
+parse_null = do
+  past 2
+  has_zero ← optional "0"
+  expect "E"
+  make (literal (codes "nullptr") (if has_zero then codes "(decltype(nullptr))0" else codes "decltype(nullptr)"))
 
 -- the letter of an integer type, <number> E
-abbrev pub parse_integer : Parses Tree
-parse_integer s = integer_here s.rest >>= λ w. parse_number_end (skip 1 s) >>= λ n. make (integer w.0 n.0 w.1) n.1
+unfoldable pub parse_integer : Parses Tree
+parse_integer = do
+  texts ← parse_code 1 integer_of
+  number ← parse_number_end
+  make_literal (texts.front ++ (number ++ texts.behind))

@@ -1,7 +1,13 @@
 pub mod State
 pub mod Words
+pub mod Parses
 pub mod Cases
 pub mod Bases
 pub mod Leaves
 pub mod Binds
-pub mod Grammar
+pub mod Productions
+pub mod Args
+pub mod Names
+pub mod Types
+pub mod Encodings
+pub mod Symbol

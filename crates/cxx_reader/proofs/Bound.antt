@@ -11,7 +11,7 @@ use Rattle.cxx_reader.specs.declared.reader.Reader.{Reader}
 use Rattle.cxx_tree.specs.declared.arena.Stop.{Stop}
 use Rattle.cxx_tree.specs.declared.arena.Stop.TheVariants.{Unreadable, Memory}
 use Rattle.cxx_tree.specs.Stored.{Store, stands}
-use Rattle.cxx_reader.specs.Outcome.{Gives, GivesFrom, list_trees}
+use Rattle.cxx_reader.specs.Outcome.{Gives, GivesFrom}
 use Rattle.cxx_reader.proofs.Kept.{map-stands}
 
 -- what the arguments give, after some of them
@@ -40,13 +40,16 @@ pub bound_stop : (e : Stop) (from : ℕ) (after : Reader) {whole : Option (List 
 bound_stop Unreadable from after b f = bound_fail b f
 bound_stop Memory from after b f = tt
 
--- the trees of a list of tables that grew
+-- the trees of a list
+abbrev pub listed : Store → handle.List → List Tree
+listed a l = map (stands a) (list_at a.held l)
+
+-- the trees of a list of an arena that grew
 pub list_below-keeps : (a b : Store) (l : handle.List) → KeepsNodes a b → IsListBelow a.held (size a) l → IsListBelow b.held (size b) l
 list_below-keeps a b l g h = IsListBelow-more a.held b.held g.extends (size a) (size b) g.longer l h
 
-pub list_trees-grows : (a b : Store) → KeepsNodes a b → (l : handle.List) → IsListBelow a.held (size a) l → list_trees b l ≡ list_trees a l
-unfolding list_trees
-list_trees-grows a b g l h = ap (map (stands b)) (list_at-more a.held b.held g.extends l h.0) ∙ map-stands a b g (list_at a.held l) h.1
+pub listed-grows : (a b : Store) → KeepsNodes a b → (l : handle.List) → IsListBelow a.held (size a) l → listed b l ≡ listed a l
+listed-grows a b g l h = ap (map (stands b)) (list_at-more a.held b.held g.extends l h.0) ∙ map-stands a b g (list_at a.held l) h.1
 
 map-drop : {A B : Type 0} (f : A → B) (k : ℕ) (xs : List A) → map f (drop k xs) ≡ drop k (map f xs)
 map-drop f zero xs = refl
@@ -55,11 +58,10 @@ map-drop f (suc k) (x ∷ xs) = map-drop f k xs
 
 -- the next argument
 pub next_arg : (a b : Store) → KeepsNodes a b → (l : handle.List) → IsListBelow a.held (size a) l → (k i : ℕ)
-    → drop k (list_at b.held l) ≡ i ∷ drop (k + 1) (list_at b.held l) → drop k (list_trees a l) ≡ stands b i ∷ drop (k + 1) (list_trees a l)
-unfolding list_trees
+    → drop k (list_at b.held l) ≡ i ∷ drop (k + 1) (list_at b.held l) → drop k (listed a l) ≡ stands b i ∷ drop (k + 1) (listed a l)
 next_arg a b g l h k i e =
-    ap (drop k) (sym (list_trees-grows a b g l h)) ∙ sym (map-drop (stands b) k (list_at b.held l)) ∙ ap (map (stands b)) e
-    ∙ ap (λ (ts : List Tree). stands b i ∷ ts) (map-drop (stands b) (k + 1) (list_at b.held l)) ∙ ap (λ (ts : List Tree). stands b i ∷ drop (k + 1) ts) (list_trees-grows a b g l h)
+    ap (drop k) (sym (listed-grows a b g l h)) ∙ sym (map-drop (stands b) k (list_at b.held l)) ∙ ap (map (stands b)) e
+    ∙ ap (λ (ts : List Tree). stands b i ∷ ts) (map-drop (stands b) (k + 1) (list_at b.held l)) ∙ ap (λ (ts : List Tree). stands b i ∷ drop (k + 1) ts) (listed-grows a b g l h)
 
 pub drop-all : {A : Type 0} (n : ℕ) (xs : List A) → length xs ≤ n → drop n xs ≡ []
 drop-all zero [] h = refl
@@ -72,6 +74,5 @@ length-map f [] = refl
 length-map f (x ∷ xs) = ap (λ (n : ℕ). suc n) (length-map f xs)
 
 -- no argument is left
-pub no_arg : (a : Store) (l : handle.List) (n : ℕ) → length (list_at a.held l) ≤ n → drop n (list_trees a l) ≡ []
-unfolding list_trees
+pub no_arg : (a : Store) (l : handle.List) (n : ℕ) → length (list_at a.held l) ≤ n → drop n (listed a l) ≡ []
 no_arg a l n h = drop-all n (map (stands a) (list_at a.held l)) (omega (arith, h, length-map (stands a) (list_at a.held l)))

@@ -1,19 +1,21 @@
 -- What a reader keeps as its arena grows.
-use Rattle.std.proofs.Common.{ℕ, ◌≡◌, ◌<◌, ◌≤◌, List, [], ◌∷◌, ◌++◌, length, map, take, refl, sym, ap, ◌∙◌, arith, subst, Result, Ok, Err}
+use Rattle.std.proofs.Common.{ℕ, ◌≡◌, ◌<◌, ◌≤◌, List, [], ◌∷◌, ◌++◌, length, map, take, refl, sym, ap, ◌∙◌, arith, subst, Result, Ok, Err, Option, Some, None}
 use Rattle.std.specs.List.{AllByRecursion}
-use Rattle.cxx_tree.specs.Tree.{Tree}
+use Rattle.cxx_tree.specs.Tree.{Tree, Trees}
 use Rattle.cxx_tree.specs.Grows.{Makes}
 use Rattle.cxx_tree.specs.Kept.{KeepsNodes, SameNodes, IsNode, taken}
 use Rattle.cxx_tree.specs.Stored.{Store, forest, tree_at, stands, saved_trees}
 use Rattle.cxx_tree.specs.declared.arena.Stop.{Stop}
 use Rattle.cxx_tree.specs.declared.arena.Stop.TheVariants.{Unreadable, Memory}
 use Rattle.cxx_grammar.specs.State as grammar
-use Rattle.cxx_grammar.specs.State.{make, make_saved}
+use Rattle.cxx_grammar.specs.Parses.{make, make_saved}
 use Rattle.cxx_reader.specs.declared.reader.Reader.{Reader}
-use Rattle.cxx_reader.specs.Outcome.{Gives, Keeps, Moves}
+use Rattle.cxx_grammar.specs.Bases.{args_of}
+use Rattle.cxx_reader.specs.declared.reader.LearnedName.{LearnedName}
+use Rattle.cxx_reader.specs.Outcome.{Gives, Keeps, Moves, IsNamed, named_at, info_at, inherited_at}
 use Rattle.cxx_tree.proofs.Forest.{same-forest}
 use Rattle.cxx_tree.proofs.Grown.{nodes-grow, nodes-same, nodes-trans, nodes-taken, saved-taken}
-use Rattle.std.specs.Prelude.{OnOk}
+use Rattle.std.specs.Prelude.{OnOk, IfSome}
 
 -- trees of an arena that grew
 pub map-stands : (a b : Store) → KeepsNodes a b → (is : List ℕ) → AllByRecursion (IsNode a) is → map (stands b) is ≡ map (stands a) is
@@ -120,8 +122,11 @@ Keeps-after (Err e) a b c k l = tt
 pub Moves-of : (a b : Reader) → Keeps a b → length b.rest.now < length a.rest.now → Moves a b
 Moves-of a b k l = record { keeps = k; takes = l }
 
+pub Moves-front : (a b c : Reader) → Keeps a b → Moves b c → Moves a c
+Moves-front a b c k m = record { keeps = Keeps-trans a b c k m.keeps; takes = omega (arith, k.within, m.takes) }
+
 pub Moves-skip : (a b c : Reader) → b.arena ≡ a.arena → length b.rest.now ≤ length a.rest.now → Moves b c → Moves a c
-Moves-skip a b c e w m = record { keeps = Keeps-trans a b c (Keeps-arena a b e w) m.keeps; takes = omega (arith, w, m.takes) }
+Moves-skip a b c e w m = Moves-front a b c (Keeps-arena a b e w) m
 
 pub Moves-trans : (a b c : Reader) → Moves a b → Keeps b c → Moves a c
 Moves-trans a b c m k = record { keeps = Keeps-trans a b c m.keeps k; takes = omega (arith, m.takes, k.within) }
@@ -129,5 +134,17 @@ Moves-trans a b c m k = record { keeps = Keeps-trans a b c m.keeps k; takes = om
 pub Moves-after : {A : Type 0} (r : Result A Stop) (a b c : Reader) → Moves a b → OnOk r (Keeps b c) → OnOk r (Moves a c)
 Moves-after (Ok x) a b c m k = Moves-trans a b c m k
 Moves-after (Err e) a b c m k = tt
+
+inherited_stays : (a b : Store) (o : Option ℕ) → KeepsNodes a b → IfSome o (IsNode a) → inherited_at b o ≡ inherited_at a o
+unfolding stands
+inherited_stays a b None g h = refl
+inherited_stays a b (Some k) g h = ap (λ (t : Tree). args_of t) (g.same k h)
+
+-- what was learned of a name stays
+pub named_stays : (a b : Store) (n : LearnedName) → KeepsNodes a b → IsNamed a n → named_at b n ≡ named_at a n
+unfolding named_at stands
+named_stays a b n g h =
+    ap (λ (t : Tree). record { tree = t; info = info_at b n.info }) (g.same n.node h.0)
+    ∙ ap (λ (o : Option Trees). record { tree = stands a n.node; info = record (info_at a n.info) { inherited = o } }) (inherited_stays a b n.info.inherited g h.1)
 
 pub ruleset readers = (gives_made, nodes-grow, Keeps-made, Keeps-same, Keeps-kept, Keeps-trans, Moves-of)

@@ -1,4 +1,3 @@
-pub mod Options
 pub mod Kept
 pub mod Turns
 pub mod Opens
@@ -6,4 +5,4 @@ pub mod Rules
 pub mod Lists
 pub mod Bound
 pub mod Unbound
-pub mod Heads
+pub mod Sources

@@ -1,27 +1,31 @@
 -- One level of the grammar.
 use Rattle.std.proofs.Common.{ℕ, ◌≡◌, ◌-◌, ◌<◌, refl, ap, zero, suc, arith, None}
 use Rattle.cxx_grammar.specs.State.{State}
-use Rattle.cxx_grammar.specs.Cases.{case_of_name, case_of_type, case_of_arg}
-use Rattle.cxx_grammar.specs.Grammar.{Productions, productions, one_more, name_as, arg_as, type_as, qualified_as, encoding_as}
+use Rattle.cxx_grammar.specs.Productions.{Productions}
+use Rattle.cxx_grammar.specs.Names.{parse_name}
+use Rattle.cxx_grammar.specs.Types.{parse_type, parse_qualified_type}
+use Rattle.cxx_grammar.specs.Args.{parse_arg}
+use Rattle.cxx_grammar.specs.Encodings.{parse_encoding}
+use Rattle.cxx_grammar.specs.Symbol.{productions, productions_over}
 
-pub one_level : (d : ℕ) → 0 < d → productions d ≡ one_more (productions (d - 1))
+one_level : (d : ℕ) → 0 < d → productions d ≡ productions_over (productions (d - 1))
 unfolding productions
 one_level zero h = absurd (omega arith)
 one_level (suc d) h = let less : suc d - 1 ≡ d = omega arith in rw less refl
 
-pub name_opens : (d : ℕ) (s : State) → 0 < d → (productions d).name s ≡ name_as (case_of_name s.rest) (productions (d - 1)) s
+pub name_opens : (d : ℕ) (s : State) → 0 < d → (productions d).name s ≡ parse_name (productions (d - 1)) s
 name_opens d s h = ap (λ (p : Productions). p.name s) (one_level d h)
 
-pub arg_opens : (d : ℕ) (s : State) → 0 < d → (productions d).arg s ≡ arg_as (case_of_arg s.rest) (productions (d - 1)) s
+pub arg_opens : (d : ℕ) (s : State) → 0 < d → (productions d).arg s ≡ parse_arg (productions (d - 1)) s
 arg_opens d s h = ap (λ (p : Productions). p.arg s) (one_level d h)
 
-pub type_opens : (d : ℕ) (s : State) → 0 < d → (productions d).type s ≡ type_as (case_of_type s.rest) (productions (d - 1)) s
+pub type_opens : (d : ℕ) (s : State) → 0 < d → (productions d).type s ≡ parse_type (productions (d - 1)) s
 type_opens d s h = ap (λ (p : Productions). p.type s) (one_level d h)
 
-pub qualified_opens : (d : ℕ) (s : State) → 0 < d → (productions d).qualified s ≡ qualified_as (productions (d - 1)) s
-qualified_opens d s h = ap (λ (p : Productions). p.qualified s) (one_level d h)
+pub qualified_opens : (d : ℕ) (s : State) → 0 < d → (productions d).qualified_type s ≡ parse_qualified_type (productions (d - 1)) s
+qualified_opens d s h = ap (λ (p : Productions). p.qualified_type s) (one_level d h)
 
-pub encoding_opens : (d : ℕ) (s : State) → 0 < d → (productions d).encoding s ≡ encoding_as (productions (d - 1)) s
+pub encoding_opens : (d : ℕ) (s : State) → 0 < d → (productions d).encoding s ≡ parse_encoding (productions (d - 1)) s
 encoding_opens d s h = ap (λ (p : Productions). p.encoding s) (one_level d h)
 
 pub no_name : (s : State) → (productions 0).name s ≡ None
@@ -36,7 +40,7 @@ pub no_type : (s : State) → (productions 0).type s ≡ None
 unfolding productions
 no_type s = refl
 
-pub no_qualified : (s : State) → (productions 0).qualified s ≡ None
+pub no_qualified : (s : State) → (productions 0).qualified_type s ≡ None
 unfolding productions
 no_qualified s = refl
 

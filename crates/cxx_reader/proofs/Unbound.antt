@@ -7,7 +7,7 @@ use Rattle.cxx_tree.specs.Measure.{Measure, measure, measure_each, counted, arou
 use Rattle.cxx_tree.proofs.Replaced.{bind-none}
 use Rattle.cxx_grammar.specs.Bases.{args_of, args_or}
 use Rattle.cxx_grammar.specs.State.{State, LearnedName}
-use Rattle.cxx_grammar.specs.Binds.{bind_args, args_of_option, bind_first, bind_tree, binding_of}
+use Rattle.cxx_grammar.specs.Binds.{bind_args, bind_first, bind_all, binding_of, parse_closed}
 use Rattle.cxx_reader.specs.Unbound.{IsUnbound}
 
 -- within the limits, and without a template parameter
@@ -90,11 +90,12 @@ first-free : (o : Option Trees) (s : State) → FreeArgs o → (all : List Tree)
 first-free None s f = ([], refl)
 first-free (Some ts) s f = bound-free ts [] s f
 
-no-inherited : (ends_with_args : Bool) (o : Option Tree) → o ≡ None → (if ends_with_args then None else args_of_option o) ≡ None
+no-inherited : (ends_with_args : Bool) (o : Option Trees) → o ≡ None → (if ends_with_args then None else o) ≡ None
 no-inherited true o e = refl
-no-inherited false o e = ap args_of_option e
+no-inherited false o e = e
 
-tree-free : (args : List Tree) (t : Tree) (s : State) → Free (measure t) → bind_tree args t s ≡ Some (t, s)
+tree-free : (args : List Tree) (t : Tree) (s : State) → Free (measure t) → bind_all args t s ≡ Some (t, s)
+unfolding parse_closed
 tree-free args t s f = rw (bind-none (binding_of args) t f.0) (rw f.1 (rw f.0 refl))
 
 pub unbound : (n : LearnedName) (t : Tree) → n.info.inherited ≡ None → (measure n.tree).params ≡ 0 → (measure n.tree).fits ≡ true → (measure t).params ≡ 0 → (measure t).fits ≡ true → IsUnbound n t

@@ -1,4 +1,4 @@
 pub mod Outcome
 pub mod Unbound
-pub mod Heads
+pub mod Sources
 pub mod Items

@@ -1,33 +1,47 @@
 //! Template arguments (Itanium C++ ABI 5.1.5.4, 5.1.6).
-#![tactic(auto, using(crate::proofs::Rules::productions), unfolding(cxx_tree::specs::Grows::Makes, cxx_tree::specs::Stored::tree_of, cxx_tree::specs::Stored::plain_tree, cxx_tree::specs::Stored::IsBelow, cxx_tree::specs::Stored::IsPlainBelow, cxx_tree::specs::Stored::stands, crate::specs::Outcome::list_trees, crate::specs::Items::ends, crate::specs::Items::item_of, cxx_grammar::specs::Grammar::arg_as, cxx_grammar::specs::Grammar::literal_as))]
+#![tactic(auto, using(crate::proofs::Rules::productions), unfolding(cxx_tree::specs::Grows::Makes, cxx_tree::specs::Stored::tree_of, cxx_tree::specs::Stored::plain_tree, cxx_tree::specs::Stored::IsBelow, cxx_tree::specs::Stored::IsPlainBelow, cxx_tree::specs::Stored::stands, crate::specs::Outcome::list_trees, crate::specs::Items::ends, crate::specs::Items::item_of, cxx_grammar::specs::Args::arg_as, cxx_grammar::specs::Args::literal_as))]
 
 ghost use Rattle.std.specs.Prelude.{◌≡◌, ℕ, ◌<◌, ◌≤◌, length, OnOk, Some};
 ghost use Rattle.cxx_tree.specs.Phrases as phrases;
 ghost use Rattle.cxx_tree.specs.Texts.{number_printed};
 ghost use Rattle.cxx_tree.specs.Stored.{forest, size, stands};
 ghost use Rattle.cxx_tree.specs.Kept.{IsNode};
-ghost use Rattle.cxx_grammar.specs.State as state_spec;
+ghost use Rattle.cxx_grammar.specs.Parses as parses;
 ghost use Rattle.cxx_grammar.specs.Leaves as leaves;
-ghost use Rattle.cxx_grammar.specs.Grammar as spec;
+ghost use Rattle.cxx_grammar.specs.Args as spec;
+ghost use Rattle.cxx_grammar.specs.Symbol.{productions};
 ghost use Rattle.cxx_reader.specs.Outcome.{state, Keeps, Moves, Gives, GivesList};
 
-use crate::cases::{arg_case, literal_case};
+use crate::cases::{arg_case, begins, literal_case};
 use crate::items::{Items, read_items};
 use crate::reader::Reader;
 use crate::types::read_type;
 use cxx_grammar::cases::{ArgCase, LiteralCase};
 use cxx_tree::{List, Node, Plain, Stop};
 
-/// Reads `<template-arg>* E`, after a letter.
+/// Reads `<template-args> ::= I <template-arg>* E`.
 #[cycle(reader)]
 #[inline(always)]
 pub fn read_args(reader: &mut Reader, depth: usize) -> Result<List, Stop>
-    ensures reads { GivesList result reader.new (spec.parse_args (spec.productions depth) (state reader.old)) }
+    ensures reads { GivesList result reader.new (spec.parse_args (productions depth) (state reader.old)) }
+    ensures moves { OnOk result (Moves reader.old reader.new) }
+{
+    if !begins(reader.rest, b'I') {
+        return Err(Stop::Unreadable);
+    }
+    read_list(reader, depth)
+}
+
+/// Reads `<template-arg>* E`, after a letter.
+#[cycle(reader)]
+#[inline(always)]
+pub fn read_list(reader: &mut Reader, depth: usize) -> Result<List, Stop>
+    ensures reads { GivesList result reader.new (spec.parse_list (productions depth) (state reader.old)) }
     ensures moves { OnOk result (Moves reader.old reader.new) }
 {
     reader.skip(1);
     let from = reader.arena.pending_len();
-    tri!(read_items(reader, depth, Items::Args));
+    tri!(read_items(reader, depth, Items::Args, from));
     reader.skip(1);
     reader.arena.list_from(from)
 }
@@ -35,7 +49,7 @@ pub fn read_args(reader: &mut Reader, depth: usize) -> Result<List, Stop>
 /// Reads `<template-arg>`. At most `depth` counted productions may nest, this one included.
 #[cycle(reader)]
 pub fn read_arg(reader: &mut Reader, depth: usize) -> Result<u32, Stop>
-    ensures reads { Gives result reader.new ((spec.productions depth).arg (state reader.old)) }
+    ensures reads { Gives result reader.new ((productions depth).arg (state reader.old)) }
     ensures moves { OnOk result (Moves reader.old reader.new) }
 {
     if depth == 0 {
@@ -52,17 +66,17 @@ pub fn read_arg(reader: &mut Reader, depth: usize) -> Result<u32, Stop>
 // Reads `J <template-arg>* E`.
 #[cycle(reader)]
 fn read_pack(reader: &mut Reader, depth: usize) -> Result<u32, Stop>
-    ensures reads { Gives result reader.new (spec.parse_pack (spec.productions depth) (state reader.old)) }
+    ensures reads { Gives result reader.new (spec.parse_pack (productions depth) (state reader.old)) }
     ensures moves { OnOk result (Moves reader.old reader.new) }
 {
-    let items = tri!(read_args(reader, depth));
-    reader.make(Node::Plain(Plain::Several(items)))
+    let args = tri!(read_list(reader, depth));
+    reader.make(Node::Plain(Plain::Several(args)))
 }
 
 // Reads `<expr-primary>`.
 #[cycle(reader)]
 fn read_literal(reader: &mut Reader, depth: usize) -> Result<u32, Stop>
-    ensures reads { Gives result reader.new (spec.parse_literal (spec.productions depth) (state reader.old)) }
+    ensures reads { Gives result reader.new (spec.parse_literal (productions depth) (state reader.old)) }
     ensures moves { OnOk result (Moves reader.old reader.new) }
 {
     reader.skip(1);
@@ -78,7 +92,7 @@ fn read_literal(reader: &mut Reader, depth: usize) -> Result<u32, Stop>
 // Reads `<type> <number> E`.
 #[cycle(reader)]
 fn read_typed(reader: &mut Reader, depth: usize) -> Result<u32, Stop>
-    ensures reads { Gives result reader.new (spec.parse_typed (spec.productions depth) (state reader.old)) }
+    ensures reads { Gives result reader.new (spec.parse_typed (productions depth) (state reader.old)) }
     ensures moves { OnOk result (Moves reader.old reader.new) }
 {
     let t = tri!(read_type(reader, depth));
@@ -90,7 +104,7 @@ impl<'a> Reader<'a> {
     // Makes a literal of a type with a number.
     fn make_typed_literal(&mut self, t: u32, number: &[u8]) -> Result<u32, Stop>
         requires t { IsNode self.old.arena t }
-        ensures reads { Gives result self.new (state_spec.make (phrases.typed_literal (stands self.old.arena t)
+        ensures reads { Gives result self.new (parses.make (phrases.typed_literal (stands self.old.arena t)
             (number_printed number.now)) (state self.old)) }
         ensures keeps { OnOk result (Keeps self.old self.new) }
         ensures rest { OnOk result (self.new.rest.now ≡ self.old.rest.now) }

@@ -1,16 +1,14 @@
 //! What becomes of the template parameters of an encoding.
-#![tactic(auto, using(crate::proofs::Rules::productions), unfolding(cxx_tree::specs::Grows::Makes, cxx_tree::specs::Stored::stands, cxx_tree::specs::Stored::saved_trees, crate::specs::Outcome::named_at, crate::specs::Outcome::list_trees, cxx_tree::specs::Counts::Row))]
+#![tactic(auto, using(crate::proofs::Rules::productions), unfolding(cxx_tree::specs::Grows::Makes, cxx_tree::specs::Stored::stands, cxx_tree::specs::Stored::saved_trees, cxx_grammar::specs::Binds::parse_closed, cxx_grammar::specs::Binds::bind_encoding, crate::specs::Outcome::named_at, crate::specs::Outcome::list_trees, cxx_tree::specs::Counts::Row))]
 
 ghost use Rattle.std.specs.Prelude.{◌≡◌, ℕ, ◌+◌, ◌*◌, ◌<◌, ◌≤◌, [], length, map, drop, take, OnOk, IfSome, option_map, Option, true};
 ghost use Rattle.cxx_tree.specs.Kept.{KeepsNodes, IsNode};
-ghost use Rattle.cxx_tree.specs.Bind.{bind};
 ghost use Rattle.cxx_tree.specs.Measure.{measure, measure_each};
 ghost use Rattle.cxx_tree.specs.Stored.{forest, size, trees_in, trees_from_list, IsListBelow, stands};
-ghost use Rattle.cxx_grammar.specs.State as grammar;
 ghost use Rattle.cxx_grammar.specs.Bases as bases;
 ghost use Rattle.cxx_grammar.specs.Binds as spec;
-ghost use Rattle.cxx_reader.specs.Unbound.{IsUnbound, bind_counted};
-ghost use Rattle.cxx_reader.specs.Outcome.{state, Keeps, KeepsFront, Gives, GivesFrom, GivesCount, IsNamed, named_at, list_trees};
+ghost use Rattle.cxx_reader.specs.Unbound.{IsUnbound};
+ghost use Rattle.cxx_reader.specs.Outcome.{state, Keeps, KeepsFront, Gives, GivesFrom, GivesCount, IsNamed, named_at, trees_behind, list_trees};
 
 use crate::bases::args_of;
 use crate::reader::{LearnedName, Reader};
@@ -40,8 +38,8 @@ impl<'a> Reader<'a> {
     fn bind_one(&mut self, from: usize, i: u32) -> Result<u32, Stop>
         requires node { IsNode self.old.arena i }
         requires within { from ≤ length self.old.arena.pending }
-        ensures reads { Gives result self.new (grammar.make (bind (spec.binding_of (map (stands self.old.arena)
-            (drop from self.old.arena.pending))) (stands self.old.arena i)) (state self.old)) }
+        ensures reads { Gives result self.new (spec.bind_tree (trees_behind from self.old.arena)
+            (stands self.old.arena i) (state self.old)) }
         ensures keeps { OnOk result (Keeps self.old self.new) }
         ensures rest { self.new.rest.now ≡ self.old.rest.now }
     {
@@ -59,8 +57,8 @@ impl<'a> Reader<'a> {
     fn bind_arg(&mut self, is_inherited: bool, from: usize, i: u32) -> Result<u32, Stop>
         requires node { IsNode self.old.arena i }
         requires within { from ≤ length self.old.arena.pending }
-        ensures reads { Gives result self.new (spec.bind_arg is_inherited (map (stands self.old.arena)
-            (drop from self.old.arena.pending)) (stands self.old.arena i) (state self.old)) }
+        ensures reads { Gives result self.new (spec.bind_arg is_inherited (trees_behind from self.old.arena)
+            (stands self.old.arena i) (state self.old)) }
         ensures keeps { OnOk result (Keeps self.old self.new) }
         ensures rest { self.new.rest.now ≡ self.old.rest.now }
     {
@@ -75,8 +73,8 @@ impl<'a> Reader<'a> {
     fn bind_args(&mut self, is_inherited: bool, args: List) -> Result<(), Stop>
         requires args { IsListBelow self.old.arena.held (size self.old.arena) args }
         ensures reads { GivesFrom result (length self.old.arena.pending) self.new (spec.bind_args is_inherited []
-            (trees_from_list (list_trees self.old.arena args)) (state self.old)) }
-        ensures keeps { OnOk result (KeepsFront self.old self.new) }
+            (list_trees self.old.arena args) (state self.old)) }
+        ensures keeps { OnOk result (KeepsFront (length self.old.arena.pending) self.old self.new) }
         ensures rest { self.new.rest.now ≡ self.old.rest.now }
     {
         let from = self.arena.pending_len();
@@ -92,8 +90,8 @@ impl<'a> Reader<'a> {
     // Returns the arguments of the name after `CI`, unless the name ends with its own.
     fn inherited_args(&self, name: LearnedName) -> Option<List>
         requires named { IsNamed self.now.arena name }
-        ensures value { option_map (λ l. trees_from_list (list_trees self.now.arena l)) result
-            ≡ spec.inherited_args (named_at self.now.arena name) }
+        ensures value { option_map (list_trees self.now.arena) result
+            ≡ spec.inherited_args (named_at self.now.arena name).info }
         ensures below { IfSome result (IsListBelow self.now.arena.held (size self.now.arena)) }
     {
         if name.info.ends_with_args {
@@ -109,9 +107,9 @@ impl<'a> Reader<'a> {
     fn bind_arguments(&mut self, name: LearnedName) -> Result<(), Stop>
         requires named { IsNamed self.old.arena name }
         ensures reads { GivesFrom result (length self.old.arena.pending) self.new (spec.bind_first
-            (spec.inherited_args (named_at self.old.arena name)) (bases.args_of (stands self.old.arena name.node))
+            (spec.inherited_args (named_at self.old.arena name).info) (bases.args_of (stands self.old.arena name.node))
             (state self.old)) }
-        ensures keeps { OnOk result (KeepsFront self.old self.new) }
+        ensures keeps { OnOk result (KeepsFront (length self.old.arena.pending) self.old self.new) }
         ensures rest { self.new.rest.now ≡ self.old.rest.now }
     {
         if let Some(args) = self.inherited_args(name) {
@@ -126,7 +124,7 @@ impl<'a> Reader<'a> {
     // Refuses a node whose tree holds a template parameter.
     fn closed(&self, i: u32) -> Result<u32, Stop>
         requires node { IsNode self.now.arena i }
-        ensures reads { Gives result self.now (spec.closed (stands self.now.arena i) (state self.now)) }
+        ensures reads { Gives result self.now (spec.parse_closed (stands self.now.arena i) (state self.now)) }
     {
         if !self.arena.is_closed(i) {
             return Err(Stop::Unreadable);
@@ -135,11 +133,11 @@ impl<'a> Reader<'a> {
     }
 
     // Binds the tree of an encoding to the nodes from `from` on, which leave the list that is read.
-    fn bind_tree(&mut self, from: usize, i: u32) -> Result<u32, Stop>
+    fn bind_all(&mut self, from: usize, i: u32) -> Result<u32, Stop>
         requires node { IsNode self.old.arena i }
         requires within { from ≤ length self.old.arena.pending }
-        ensures reads { Gives result self.new (spec.bind_tree (map (stands self.old.arena)
-            (drop from self.old.arena.pending)) (stands self.old.arena i) (state self.old)) }
+        ensures reads { Gives result self.new (spec.bind_all (trees_behind from self.old.arena)
+            (stands self.old.arena i) (state self.old)) }
         ensures grows { OnOk result (KeepsNodes self.old.arena self.new.arena) }
         ensures pending { OnOk result (self.new.arena.pending ≡ take from self.old.arena.pending) }
         ensures rest { self.new.rest.now ≡ self.old.rest.now }
@@ -168,14 +166,14 @@ impl<'a> Reader<'a> {
     fn bind_counted(&mut self, name: LearnedName, i: u32) -> Result<u32, Stop>
         requires named { IsNamed self.old.arena name }
         requires node { IsNode self.old.arena i }
-        ensures reads { Gives result self.new (bind_counted (named_at self.old.arena name) (stands self.old.arena i)
+        ensures reads { Gives result self.new (spec.bind_counted (named_at self.old.arena name) (stands self.old.arena i)
             (state self.old)) }
         ensures keeps { OnOk result (Keeps self.old self.new) }
         ensures rest { self.new.rest.now ≡ self.old.rest.now }
     {
         let from = self.arena.pending_len();
         match self.bind_arguments(name) {
-            Ok(()) => self.bind_tree(from, i),
+            Ok(()) => self.bind_all(from, i),
             Err(stop) => {
                 self.arena.cut(from);
                 Err(stop)

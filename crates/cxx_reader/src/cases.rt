@@ -1,8 +1,9 @@
 //! Which case the next bytes select.
+#![tactic(auto, unfolding(cxx_grammar::specs::Words::builtin_of, cxx_grammar::specs::Words::integer_of))]
+
 ghost use Rattle.std.specs.Prelude.{◌≡◌, [], ◌∷◌};
 ghost use Rattle.abi_scalars.specs.Bytes.{begins};
 ghost use Rattle.cxx_grammar.specs.Cases as spec;
-ghost use Rattle.cxx_reader.specs.Heads as heads;
 
 use crate::words::{builtin_of, integer_of};
 use cxx_grammar::cases::{
@@ -40,15 +41,6 @@ pub fn name_case(bytes: &[u8]) -> NameCase
         [b'S', ..] => NameCase::Substitution,
         _ => NameCase::Unqualified,
     }
-}
-
-/// Returns whether the first component of a `<nested-name>` is next, and not a qualifier: a source name, as most are,
-/// `St` or a substitution.
-#[inline(always)]
-pub fn begins_name(bytes: &[u8]) -> bool
-    ensures value { result ≡ heads.begins_name bytes.now }
-{
-    matches!(bytes, [b'S' | b'1'..=b'9', ..])
 }
 
 /// Returns the case of the first component of a `<nested-name>`.
@@ -102,12 +94,11 @@ pub fn type_case(bytes: &[u8]) -> TypeCase
         [b'M', ..] => TypeCase::MemberPointer,
         [b'S', b't', ..] => TypeCase::Class,
         [b'S', ..] => TypeCase::Substitution,
-        [letter, ..] => if builtin_of(*letter).is_some() {
+        _ => if builtin_of(bytes).is_some() {
             TypeCase::Builtin
         } else {
             TypeCase::Class
         },
-        [] => TypeCase::Class,
     }
 }
 
@@ -122,13 +113,6 @@ pub fn arg_case(bytes: &[u8]) -> ArgCase
     }
 }
 
-// Whether a literal that begins with this letter isn't read.
-fn is_unread(letter: u8) -> bool
-    ensures value { result ≡ spec.is_unread letter }
-{
-    matches!(letter, b'f' | b'd' | b'e' | b'_' | b'A' | b'T' | b'U')
-}
-
 /// Returns the case of an `<expr-primary>`, after its `L`.
 pub fn literal_case(bytes: &[u8]) -> LiteralCase
     ensures value { result ≡ spec.case_of_literal bytes.now }
@@ -136,19 +120,11 @@ pub fn literal_case(bytes: &[u8]) -> LiteralCase
     match bytes {
         [b'b', ..] => LiteralCase::Bool,
         [b'D', b'n', ..] => LiteralCase::Null,
-        [letter, ..] => literal_case_of(*letter),
-        [] => LiteralCase::Typed,
+        [b'f' | b'd' | b'e' | b'_' | b'A' | b'T' | b'U', ..] => LiteralCase::Unread,
+        _ => if integer_of(bytes).is_some() {
+            LiteralCase::Integer
+        } else {
+            LiteralCase::Typed
+        },
     }
-}
-
-fn literal_case_of(letter: u8) -> LiteralCase
-    ensures value { result ≡ spec.case_of_literal_letter letter }
-{
-    if integer_of(letter).is_some() {
-        return LiteralCase::Integer;
-    }
-    if is_unread(letter) {
-        return LiteralCase::Unread;
-    }
-    LiteralCase::Typed
 }

@@ -1,11 +1,12 @@
 //! Encodings (Itanium C++ ABI 5.1.2).
-#![tactic(auto, using(crate::proofs::Rules::productions), unfolding(cxx_tree::specs::Stored::tree_of, cxx_tree::specs::Stored::plain_tree, cxx_tree::specs::Stored::IsBelow, cxx_tree::specs::Stored::IsPlainBelow, cxx_tree::specs::Stored::stands, crate::specs::Outcome::named_at, crate::specs::Items::ends, crate::specs::Items::item_of))]
+#![tactic(auto, using(crate::proofs::Rules::productions), unfolding(cxx_tree::specs::Stored::tree_of, cxx_tree::specs::Stored::plain_tree, cxx_tree::specs::Stored::IsBelow, cxx_tree::specs::Stored::IsPlainBelow, cxx_tree::specs::Stored::stands, crate::specs::Outcome::named_at, crate::specs::Items::ends, crate::specs::Items::item_of, cxx_grammar::specs::Encodings::parse_signature))]
 
-ghost use Rattle.std.specs.Prelude.{◌≡◌, ℕ, ◌+◌, ◌*◌, ◌<◌, ◌≤◌, ◌&&◌, not, length, map, drop, take, OnOk, IfSome, option_map};
+ghost use Rattle.std.specs.Prelude.{◌≡◌, ℕ, ◌<◌, ◌≤◌, ◌&&◌, not, length, drop, take, OnOk, IfSome, option_map};
 ghost use Rattle.cxx_tree.specs.Kept.{KeepsNodes, IsNode};
 ghost use Rattle.cxx_tree.specs.Stored.{forest, size, stands};
-ghost use Rattle.cxx_grammar.specs.Grammar as spec;
-ghost use Rattle.cxx_reader.specs.Outcome.{state, Keeps, KeepsFront, Gives, GivesOption, GivesFrom, IsNamed, named_at, info_at};
+ghost use Rattle.cxx_grammar.specs.Encodings as spec;
+ghost use Rattle.cxx_grammar.specs.Symbol.{productions};
+ghost use Rattle.cxx_reader.specs.Outcome.{state, trees_behind, Keeps, KeepsFront, Gives, GivesOption, GivesFrom, IsNamed, named_at};
 
 use crate::cases::is_encoding_end;
 use crate::items::{Items, read_items};
@@ -17,7 +18,7 @@ use cxx_tree::{Clauses, Node, Plain, Stop};
 /// Reads what follows the name of an encoding: nothing, or `<bare-function-type>`.
 pub fn read_signature(reader: &mut Reader, depth: usize, name: LearnedName) -> Result<u32, Stop>
     requires named { IsNamed reader.old.arena name }
-    ensures reads { Gives result reader.new (spec.parse_signature (spec.productions depth)
+    ensures reads { Gives result reader.new (spec.parse_signature (productions depth)
         (named_at reader.old.arena name) (state reader.old)) }
     ensures keeps { OnOk result (Keeps reader.old reader.new) }
 {
@@ -30,7 +31,7 @@ pub fn read_signature(reader: &mut Reader, depth: usize, name: LearnedName) -> R
 // Reads `<bare-function-type> ::= [<return type>] <parameters>`.
 fn read_function(reader: &mut Reader, depth: usize, name: LearnedName) -> Result<u32, Stop>
     requires named { IsNamed reader.old.arena name }
-    ensures reads { Gives result reader.new (spec.parse_function (spec.productions depth)
+    ensures reads { Gives result reader.new (spec.parse_function (productions depth)
         (named_at reader.old.arena name) (state reader.old)) }
     ensures keeps { OnOk result (Keeps reader.old reader.new) }
 {
@@ -49,7 +50,7 @@ fn has_return(info: Info) -> bool
 
 // Reads a return type, if there is one.
 fn read_return_type(reader: &mut Reader, depth: usize, is_there: bool) -> Result<Option<u32>, Stop>
-    ensures reads { GivesOption result reader.new (spec.parse_return (spec.productions depth) is_there
+    ensures reads { GivesOption result reader.new (spec.parse_return (productions depth) is_there
         (state reader.old)) }
     ensures keeps { OnOk result (Keeps reader.old reader.new) }
 {
@@ -63,8 +64,8 @@ fn read_return_type(reader: &mut Reader, depth: usize, is_there: bool) -> Result
 // Reads `<parameters> ::= v | <type>+`, and appends their nodes to the list that is read.
 fn read_params(reader: &mut Reader, depth: usize) -> Result<(), Stop>
     ensures reads { GivesFrom result (length reader.old.arena.pending) reader.new
-        (spec.parse_params (spec.productions depth) (state reader.old)) }
-    ensures keeps { OnOk result (KeepsFront reader.old reader.new) }
+        (spec.parse_params (productions depth) (state reader.old)) }
+    ensures keeps { OnOk result (KeepsFront (length reader.old.arena.pending) reader.old reader.new) }
 {
     if reader.skip_letter(b'v') {
         return Ok(());
@@ -75,12 +76,13 @@ fn read_params(reader: &mut Reader, depth: usize) -> Result<(), Stop>
 // Reads `<type>+`, up to the end of the encoding.
 fn read_some_params(reader: &mut Reader, depth: usize) -> Result<(), Stop>
     ensures reads { GivesFrom result (length reader.old.arena.pending) reader.new
-        (spec.parse_some_params (spec.productions depth) (state reader.old)) }
-    ensures keeps { OnOk result (KeepsFront reader.old reader.new) }
+        (spec.parse_some_params (productions depth) (state reader.old)) }
+    ensures keeps { OnOk result (KeepsFront (length reader.old.arena.pending) reader.old reader.new) }
 {
+    let from = reader.arena.pending_len();
     let first = tri!(read_type(reader, depth));
     tri!(reader.arena.add(first));
-    read_items(reader, depth, Items::Params)
+    read_items(reader, depth, Items::Params, from)
 }
 
 impl<'a> Reader<'a> {
@@ -90,8 +92,7 @@ impl<'a> Reader<'a> {
         requires named { IsNamed self.old.arena name }
         requires within { from ≤ length self.old.arena.pending }
         ensures reads { Gives result self.new (spec.make_function (option_map (stands self.old.arena) ret)
-            (named_at self.old.arena name) (map (stands self.old.arena) (drop from self.old.arena.pending))
-            (state self.old)) }
+            (named_at self.old.arena name) (trees_behind from self.old.arena) (state self.old)) }
         ensures grows { OnOk result (KeepsNodes self.old.arena self.new.arena) }
         ensures pending { OnOk result (self.new.arena.pending ≡ take from self.old.arena.pending) }
         ensures rest { OnOk result (self.new.rest.now ≡ self.old.rest.now) }
@@ -109,7 +110,7 @@ impl<'a> Reader<'a> {
 
 /// Reads `<encoding>`. At most `depth` counted productions may nest, this one included.
 pub fn read_encoding(reader: &mut Reader, depth: usize) -> Result<u32, Stop>
-    ensures reads { Gives result reader.new ((spec.productions depth).encoding (state reader.old)) }
+    ensures reads { Gives result reader.new ((productions depth).encoding (state reader.old)) }
     ensures keeps { OnOk result (Keeps reader.old reader.new) }
 {
     if depth == 0 {

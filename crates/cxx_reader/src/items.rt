@@ -1,10 +1,13 @@
 //! Lists of items, each up to its end.
 #![tactic(auto, using(crate::proofs::Rules::productions), unfolding(crate::specs::Items::ends, crate::specs::Items::item_of))]
 
-ghost use Rattle.std.specs.Prelude.{◌≡◌, length, true, OnOk};
-ghost use Rattle.cxx_grammar.specs.Grammar as spec;
+ghost use Rattle.std.specs.Prelude.{◌≡◌, ℕ, ◌≤◌, length, drop, true, OnOk};
+ghost use Rattle.std.specs.List.{AllByRecursion};
+ghost use Rattle.cxx_tree.specs.Kept.{IsNode};
+ghost use Rattle.cxx_grammar.specs.Parses.{items_after};
+ghost use Rattle.cxx_grammar.specs.Symbol as spec;
 ghost use Rattle.cxx_reader.specs.Items.{ends, item_of};
-ghost use Rattle.cxx_reader.specs.Outcome.{state, KeepsFront, Moves, Gives, GivesFrom};
+ghost use Rattle.cxx_reader.specs.Outcome.{state, trees_behind, KeepsFront, Moves, Gives, GivesFrom};
 
 use crate::args::read_arg;
 use crate::cases::{begins, is_encoding_end};
@@ -21,12 +24,16 @@ pub enum Items {
     Params,
 }
 
-/// Reads the items of a list up to its end, and appends their nodes to the list that is read.
+/// Reads the items of a list up to its end, and collects their nodes. Those that were collected from `from` on are
+/// items of the same list.
 #[cycle(reader)]
-pub fn read_items(reader: &mut Reader, depth: usize, items: Items) -> Result<(), Stop>
-    ensures reads { GivesFrom result (length reader.old.arena.pending) reader.new
-        (spec.parse_list (ends items) (item_of items (spec.productions depth)) (state reader.old)) }
-    ensures keeps { OnOk result (KeepsFront reader.old reader.new) }
+pub fn read_items(reader: &mut Reader, depth: usize, items: Items, from: usize) -> Result<(), Stop>
+    requires within { from ≤ length reader.old.arena.pending }
+    requires nodes { AllByRecursion (IsNode reader.old.arena) (drop from reader.old.arena.pending) }
+    ensures reads { GivesFrom result from reader.new
+        (items_after (trees_behind from reader.old.arena) (ends items) (item_of items (spec.productions depth))
+        (state reader.old)) }
+    ensures keeps { OnOk result (KeepsFront from reader.old reader.new) }
     ensures end { OnOk result (ends items reader.new.rest.now ≡ true) }
 {
     while !is_end(reader.rest, items) {

@@ -1,7 +1,7 @@
 //! Literals that have no type inside (Itanium C++ ABI 5.1.6, `<expr-primary>`).
-#![tactic(auto, using(crate::proofs::Kept::readers), unfolding(cxx_tree::specs::Stored::stands, cxx_tree::specs::Grows::Makes))]
+#![tactic(auto, using(crate::proofs::Kept::readers), unfolding(cxx_tree::specs::Stored::stands, cxx_tree::specs::Grows::Makes, cxx_grammar::specs::Parses::past_word_if, cxx_grammar::specs::Leaves::parse_bool, cxx_grammar::specs::Leaves::parse_null, cxx_grammar::specs::Leaves::parse_integer))]
 
-ghost use Rattle.std.specs.Prelude.{◌≡◌, ◌<◌, length, OnOk, option_map};
+ghost use Rattle.std.specs.Prelude.{◌≡◌, ◌<◌, length, OnOk};
 ghost use Rattle.cxx_grammar.specs.Leaves as leaves;
 ghost use Rattle.cxx_reader.specs.Outcome.{state, Keeps, Moves, Gives, GivesNumber};
 
@@ -72,21 +72,11 @@ impl<'a> Reader<'a> {
         ensures reads { Gives result self.new (leaves.parse_integer (state self.old)) }
         ensures moves { OnOk result (Moves self.old self.new) }
     {
-        let Some((front, after)) = integer_here(self.rest) else {
+        let Some(around) = integer_of(self.rest) else {
             return Err(Stop::Unreadable);
         };
         self.skip(1);
         let number = tri!(self.read_number_end());
-        self.arena.make_integer(front, number, after)
-    }
-}
-
-// What stands around a literal of the integer type whose letter is next.
-fn integer_here(bytes: &[u8]) -> Option<(&'static [u8], &'static [u8])>
-    ensures value { option_map (λ words. (words.0.now, words.1.now)) result ≡ leaves.integer_here bytes.now }
-{
-    match bytes {
-        [letter, ..] => integer_of(*letter),
-        [] => None,
+        self.arena.make_integer(around.front, number, around.behind)
     }
 }

@@ -1,26 +1,46 @@
 //! Names (Itanium C++ ABI 5.1.2).
-#![tactic(auto, using(crate::proofs::Rules::productions), unfolding(cxx_tree::specs::Grows::Makes, cxx_tree::specs::Stored::tree_of, cxx_tree::specs::Stored::plain_tree, cxx_tree::specs::Stored::IsBelow, cxx_tree::specs::Stored::IsPlainBelow, cxx_tree::specs::Stored::stands, crate::specs::Outcome::named_at, crate::specs::Outcome::list_trees, cxx_grammar::specs::Grammar::name_as, crate::specs::Heads::head_as, cxx_grammar::specs::Grammar::component_as))]
+#![tactic(auto, using(crate::proofs::Rules::productions), unfolding(cxx_tree::specs::Grows::Makes, cxx_tree::specs::Stored::tree_of, cxx_tree::specs::Stored::plain_tree, cxx_tree::specs::Stored::IsBelow, cxx_tree::specs::Stored::IsPlainBelow, cxx_tree::specs::Stored::stands, crate::specs::Outcome::named_at, crate::specs::Outcome::place_at, crate::specs::Outcome::part_at, crate::specs::Outcome::list_trees, cxx_grammar::specs::Names::name_as, cxx_grammar::specs::Names::first_as, cxx_grammar::specs::Names::part_as, cxx_grammar::specs::Names::parse_class_of, cxx_grammar::specs::Names::parse_info, cxx_grammar::specs::Names::parse_unqualified_name, cxx_grammar::specs::Names::parse_named_args, cxx_grammar::specs::Names::parse_in_place, cxx_grammar::specs::Names::parse_component, cxx_grammar::specs::Names::parse_next))]
 
-ghost use Rattle.std.specs.Prelude.{◌≡◌, ℕ, ◌<◌, ◌≤◌, ◌∷◌, [], codes, length, true, false, Option, Some, OnOk, IfOk, IfSome, option_map};
-ghost use Rattle.cxx_grammar.specs.State as state_spec;
-ghost use Rattle.cxx_grammar.specs.Grammar as spec;
-ghost use Rattle.cxx_reader.specs.Heads as heads;
-ghost use Rattle.cxx_grammar.specs.Leaves as leaves;
-ghost use Rattle.cxx_tree.specs.declared.kinds.RefQual.TheVariants as refqual;
+ghost use Rattle.std.specs.Prelude.{◌≡◌, ℕ, ◌<◌, ◌≤◌, length, true, false, Option, Some, None, OnOk, IfSome, option_map};
+ghost use Rattle.abi_scalars.specs.Texts.{begins_source};
 ghost use Rattle.cxx_tree.specs.Stored.{stands, forest, size, tree_of, IsBelow, IsText, text_at};
 ghost use Rattle.cxx_tree.specs.Kept.{IsNode};
-ghost use Rattle.cxx_tree.specs.Phrases as phrases;
-ghost use Rattle.cxx_grammar.specs.Bases as bases;
+ghost use Rattle.cxx_grammar.specs.Parses as parses;
+ghost use Rattle.cxx_grammar.specs.Leaves as leaves;
+ghost use Rattle.cxx_grammar.specs.Bases.{expand};
+ghost use Rattle.cxx_grammar.specs.Cases.{case_of_component};
+ghost use Rattle.cxx_grammar.specs.Names as spec;
+ghost use Rattle.cxx_grammar.specs.State as grammar;
+ghost use Rattle.cxx_grammar.specs.Symbol.{productions};
 ghost use Rattle.cxx_reader.specs.Outcome as outcome;
-ghost use Rattle.cxx_reader.specs.Outcome.{state, Keeps, Moves, Gives, GivesNamed, IsNamed, named_at, info_at};
+ghost use Rattle.cxx_reader.specs.Outcome.{state, Keeps, Moves, Gives, GivesNamed, GivesPart, IsInfo, IsNamed, IsPlace, IsPart, info_at, named_at, place_at, part_at};
+ghost use Rattle.cxx_reader.specs.Sources.{parse_source_at};
 
 use crate::args::read_args;
 use crate::bases::{base_name, is_param, is_with_args, short_std};
-use crate::cases::{begins, begins_name, component_case, first_case, name_case};
+use crate::cases::{begins, component_case, first_case, name_case};
 use crate::reader::{Info, LearnedName, Reader};
 use abi_scalars::texts::begins_source;
 use cxx_grammar::cases::{ComponentCase, FirstCase, NameCase};
-use cxx_tree::{Cv, Node, Plain, RefQual, Stop, NodeText};
+use cxx_tree::{Cv, Node, Plain, RefQual, Stop};
+
+/// Where an `<unqualified-name>` stands.
+#[derive(Clone, Copy)]
+pub struct Place {
+    pub scope: Option<u32>,
+    /// It is a component of a `<nested-name>`.
+    pub is_nested: bool,
+    /// What is learned of the name by what stands in front of it.
+    pub info: Info,
+}
+
+/// A name without its scope, and the scope that it has.
+#[derive(Clone, Copy)]
+pub struct Part {
+    pub node: u32,
+    pub scope: Option<u32>,
+    pub info: Info,
+}
 
 /// What is learned of a name before its components are read: its qualifiers.
 fn info_of(cv: Cv, ref_qual: RefQual) -> Info
@@ -38,7 +58,7 @@ fn info_of(cv: Cv, ref_qual: RefQual) -> Info
 /// What is learned of a name without qualifiers.
 #[inline(always)]
 fn unqualified() -> Info
-    ensures value { result ≡ outcome.info_of state_spec.no_cv refqual.None }
+    ensures value { result ≡ outcome.no_info }
 {
     info_of(
         Cv {
@@ -50,9 +70,10 @@ fn unqualified() -> Info
     )
 }
 
-/// A name of which nothing is learned.
+// A name of which nothing is learned.
+#[inline(always)]
 fn plain(node: u32) -> LearnedName
-    ensures value { result ≡ outcome.plain_at node }
+    ensures value { result ≡ record { node = node; info = outcome.no_info } }
 {
     LearnedName {
         node,
@@ -60,55 +81,37 @@ fn plain(node: u32) -> LearnedName
     }
 }
 
-// Makes a name of a node, and of what is learned of it.
+// The place of a name outside of a `<nested-name>`.
 #[inline(always)]
-fn make_named(reader: &mut Reader, node: Node, info: Info) -> Result<LearnedName, Stop>
-    requires below { IsBelow reader.old.arena.held (size reader.old.arena) node }
-    requires inherited { IfSome info.inherited (IsNode reader.old.arena) }
-    ensures reads { GivesNamed result reader.new (spec.make_named (tree_of reader.old.arena.held
-        (forest reader.old.arena) node) (info_at reader.old.arena info) (state reader.old)) }
-    ensures keeps { OnOk result (Keeps reader.old reader.new) }
-    ensures rest { OnOk result (reader.new.rest.now ≡ reader.old.rest.now) }
+fn unscoped(scope: Option<u32>) -> Place
+    ensures value { result ≡ record { scope = scope; is_nested = false; info = outcome.no_info } }
 {
-    let node = tri!(reader.make(node));
-    Ok(LearnedName { node, info })
-}
-
-// Reads the arguments of a name.
-#[cycle(reader)]
-fn read_with_args(reader: &mut Reader, depth: usize, name: LearnedName) -> Result<LearnedName, Stop>
-    requires named { IsNamed reader.old.arena name }
-    ensures reads { GivesNamed result reader.new (spec.parse_with_args (spec.productions depth)
-        (named_at reader.old.arena name) (state reader.old)) }
-    ensures moves { OnOk result (Moves reader.old reader.new) }
-{
-    let args = tri!(read_args(reader, depth));
-    let info = Info {
-        ends_with_args: true,
-        ..name.info
-    };
-    make_named(reader, Node::Plain(Plain::WithArgs(name.node, args)), info)
-}
-
-// Reads the arguments of a name, if there are any. If there are some, the name is saved before they are read.
-#[cycle(reader)]
-fn read_unscoped(reader: &mut Reader, depth: usize, node: u32) -> Result<LearnedName, Stop>
-    requires node { IsNode reader.old.arena node }
-    ensures reads { GivesNamed result reader.new (spec.parse_unscoped (spec.productions depth)
-        (stands reader.old.arena node) (state reader.old)) }
-    ensures keeps { OnOk result (Keeps reader.old reader.new) }
-{
-    if !begins(reader.rest, b'I') {
-        return Ok(plain(node));
+    Place {
+        scope,
+        is_nested: false,
+        info: unqualified(),
     }
-    tri!(reader.arena.save(node));
-    read_with_args(reader, depth, plain(node))
+}
+
+// The place of a component of a `<nested-name>`.
+#[inline(always)]
+fn nested(scope: Option<u32>, info: Info) -> Place
+    ensures value { result ≡ record { scope = scope; is_nested = true; info = record info { ends_with_args = false } } }
+{
+    Place {
+        scope,
+        is_nested: true,
+        info: Info {
+            ends_with_args: false,
+            ..info
+        },
+    }
 }
 
 /// Reads `<name>`. At most `depth` counted productions may nest, this one included.
 #[cycle(reader)]
 pub fn read_name(reader: &mut Reader, depth: usize) -> Result<LearnedName, Stop>
-    ensures reads { GivesNamed result reader.new ((spec.productions depth).name (state reader.old)) }
+    ensures reads { GivesNamed result reader.new ((productions depth).name (state reader.old)) }
     ensures moves { OnOk result (Moves reader.old reader.new) }
 {
     if depth == 0 {
@@ -117,55 +120,147 @@ pub fn read_name(reader: &mut Reader, depth: usize) -> Result<LearnedName, Stop>
     let depth = depth - 1;
     match name_case(reader.rest) {
         NameCase::Nested => read_nested_name(reader, depth),
-        NameCase::Std => read_in_std(reader, depth),
+        NameCase::Std => read_std_name(reader, depth),
         NameCase::Substitution => read_substituted(reader, depth),
-        NameCase::Unqualified => read_unqualified(reader, depth),
+        NameCase::Unqualified => read_unscoped(reader, depth),
     }
 }
 
 // Reads `St <unqualified-name> [<template-args>]`.
 #[cycle(reader)]
-fn read_in_std(reader: &mut Reader, depth: usize) -> Result<LearnedName, Stop>
-    requires some { 0 < length reader.old.rest.now }
-    ensures reads { GivesNamed result reader.new (spec.parse_in_std (spec.productions depth) (state reader.old)) }
+fn read_std_name(reader: &mut Reader, depth: usize) -> Result<LearnedName, Stop>
+    ensures reads { GivesNamed result reader.new (spec.parse_std_name (productions depth) (state reader.old)) }
     ensures moves { OnOk result (Moves reader.old reader.new) }
 {
-    let node = tri!(reader.read_std_name());
-    read_unscoped(reader, depth, node)
+    reader.skip(2);
+    let scope = tri!(reader.make_std());
+    read_in_place(reader, depth, unscoped(Some(scope)))
+}
+
+// Reads `<unqualified-name> [<template-args>]` without a scope.
+#[cycle(reader)]
+fn read_unscoped(reader: &mut Reader, depth: usize) -> Result<LearnedName, Stop>
+    ensures reads { GivesNamed result reader.new (spec.parse_in_place (productions depth) (spec.unscoped None)
+        (state reader.old)) }
+    ensures moves { OnOk result (Moves reader.old reader.new) }
+{
+    read_in_place(reader, depth, unscoped(None))
 }
 
 // Reads `<substitution> <template-args>`.
 #[cycle(reader)]
 fn read_substituted(reader: &mut Reader, depth: usize) -> Result<LearnedName, Stop>
-    ensures reads { GivesNamed result reader.new (spec.parse_substituted (spec.productions depth) (state reader.old)) }
+    ensures reads { GivesNamed result reader.new (spec.parse_substituted (productions depth) (state reader.old)) }
     ensures moves { OnOk result (Moves reader.old reader.new) }
 {
     let node = tri!(reader.read_substitution());
-    if !begins(reader.rest, b'I') {
-        return Err(Stop::Unreadable);
-    }
-    read_with_args(reader, depth, plain(node))
+    read_named_args(reader, depth, plain(node))
 }
 
-// Reads `<unqualified-name> [<template-args>]`.
+// Reads `<unqualified-name> [<template-args>]`. With arguments the name is saved before they are read.
 #[cycle(reader)]
-fn read_unqualified(reader: &mut Reader, depth: usize) -> Result<LearnedName, Stop>
-    ensures reads { GivesNamed result reader.new (spec.parse_unqualified (spec.productions depth) (state reader.old)) }
+#[inline(always)]
+fn read_in_place(reader: &mut Reader, depth: usize, place: Place) -> Result<LearnedName, Stop>
+    requires place { IsPlace reader.old.arena place }
+    ensures reads { GivesNamed result reader.new (spec.parse_in_place (productions depth)
+        (place_at reader.old.arena place) (state reader.old)) }
     ensures moves { OnOk result (Moves reader.old reader.new) }
 {
-    let node = tri!(reader.read_base());
-    read_unscoped(reader, depth, node)
+    let name = tri!(read_unqualified_name(reader, depth, place));
+    if !begins(reader.rest, b'I') {
+        return Ok(name);
+    }
+    tri!(reader.arena.save(name.node));
+    read_named_args(reader, depth, name)
 }
 
-/// Reads `<nested-name> ::= N [<CV-qualifiers>] [<ref-qualifier>] <component>+ E`.
-#[tactic(auto, using(crate::proofs::Heads::nested), unfolding(
-// What the name is, and what is learned of it.
-cxx_tree::specs::Stored::stands, crate::specs::Outcome::named_at))]
+// Reads the arguments of a name.
+#[cycle(reader)]
+fn read_named_args(reader: &mut Reader, depth: usize, name: LearnedName) -> Result<LearnedName, Stop>
+    requires named { IsNamed reader.old.arena name }
+    ensures reads { GivesNamed result reader.new (spec.parse_named_args (productions depth)
+        (named_at reader.old.arena name) (state reader.old)) }
+    ensures moves { OnOk result (Moves reader.old reader.new) }
+{
+    let args = tri!(read_args(reader, depth));
+    let node = tri!(reader.make(Node::Plain(Plain::WithArgs(name.node, args))));
+    let info = Info {
+        ends_with_args: true,
+        ..name.info
+    };
+    Ok(LearnedName { node, info })
+}
+
+// Reads `<unqualified-name> ::= [L] (<source-name> | <operator-name> | <ctor-dtor-name>)`. A source name, as most are, is
+// read without the other cases.
+#[cycle(reader)]
+#[inline(always)]
+fn read_unqualified_name(reader: &mut Reader, depth: usize, place: Place) -> Result<LearnedName, Stop>
+    requires place { IsPlace reader.old.arena place }
+    ensures reads { GivesNamed result reader.new (spec.parse_unqualified_name (productions depth)
+        (place_at reader.old.arena place) (state reader.old)) }
+    ensures moves { OnOk result (Moves reader.old reader.new) }
+{
+    if begins_source(reader.rest) {
+        return reader.read_source_at(place);
+    }
+    read_other_name(reader, depth, place)
+}
+
+// Reads an `<unqualified-name>` of any case.
+#[cycle(reader)]
+#[inline(never)]
+fn read_other_name(reader: &mut Reader, depth: usize, place: Place) -> Result<LearnedName, Stop>
+    requires place { IsPlace reader.old.arena place }
+    ensures reads { GivesNamed result reader.new (spec.parse_unqualified_name (productions depth)
+        (place_at reader.old.arena place) (state reader.old)) }
+    ensures moves { OnOk result (Moves reader.old reader.new) }
+{
+    // The mark of internal linkage, which prints nothing.
+    reader.skip_letter(b'L');
+    let part = tri!(read_part(reader, depth, place));
+    reader.put_in_scope(part)
+}
+
+// Reads an `<unqualified-name>` after its `L`.
+#[cycle(reader)]
+fn read_part(reader: &mut Reader, depth: usize, place: Place) -> Result<Part, Stop>
+    requires place { IsPlace reader.old.arena place }
+    ensures reads { GivesPart result reader.new (spec.part_as (productions depth) (place_at reader.old.arena place)
+        (case_of_component reader.old.rest.now) (state reader.old)) }
+    ensures moves { OnOk result (Moves reader.old reader.new) }
+{
+    match component_case(reader.rest) {
+        ComponentCase::Ctor => reader.read_ctor(place, false),
+        ComponentCase::InheritedCtor => read_inherited_ctor(reader, depth, place),
+        ComponentCase::Dtor => reader.read_ctor(place, true),
+        ComponentCase::Unqualified => reader.read_base_part(place),
+    }
+}
+
+// Reads `CI1 <name>` or `CI2 <name>`.
+#[cycle(reader)]
+fn read_inherited_ctor(reader: &mut Reader, depth: usize, place: Place) -> Result<Part, Stop>
+    requires place { IsPlace reader.old.arena place }
+    ensures reads { GivesPart result reader.new (spec.parse_inherited_ctor (productions depth)
+        (place_at reader.old.arena place) (state reader.old)) }
+    ensures moves { OnOk result (Moves reader.old reader.new) }
+{
+    reader.skip(3);
+    let class = tri!(reader.class_of(place));
+    let from = tri!(read_name(reader, depth));
+    let info = Info {
+        inherited: Some(from.node),
+        ..place.info
+    };
+    reader.make_ctor(class, false, info)
+}
+
+// Reads `<nested-name> ::= N [<CV-qualifiers>] [<ref-qualifier>] <component>+ E`.
 #[cycle(reader)]
 #[inline(always)]
 fn read_nested_name(reader: &mut Reader, depth: usize) -> Result<LearnedName, Stop>
-    ensures reads { GivesNamed result reader.new (spec.parse_nested (spec.productions depth)
-        (state reader.old)) }
+    ensures reads { GivesNamed result reader.new (spec.parse_nested_name (productions depth) (state reader.old)) }
     ensures moves { OnOk result (Moves reader.old reader.new) }
 {
     reader.skip(1);
@@ -179,26 +274,26 @@ fn read_nested_name(reader: &mut Reader, depth: usize) -> Result<LearnedName, St
 #[cycle(reader)]
 #[inline(always)]
 fn read_first(reader: &mut Reader, depth: usize, info: Info) -> Result<LearnedName, Stop>
-    requires inherited { info.inherited ≡ None }
-    ensures reads { GivesNamed result reader.new (heads.parse_head (spec.productions depth)
+    requires info { IsInfo reader.old.arena info }
+    requires no_args { info.ends_with_args ≡ false }
+    ensures reads { GivesNamed result reader.new (spec.parse_first (productions depth)
         (info_at reader.old.arena info) (state reader.old)) }
     ensures moves { OnOk result (Moves reader.old reader.new) }
 {
     match first_case(reader.rest) {
         FirstCase::Std => read_first_std(reader, depth, info),
         FirstCase::Substitution => read_first_substitution(reader, depth, info),
-        FirstCase::Param => read_first_param(reader, info),
-        FirstCase::Unqualified => read_first_base(reader, info),
+        FirstCase::Param => reader.read_first_param(info),
+        FirstCase::Unqualified => read_unqualified_name(reader, depth, nested(None, info)),
     }
 }
 
 #[cycle(reader)]
 #[inline(always)]
 fn read_first_std(reader: &mut Reader, depth: usize, info: Info) -> Result<LearnedName, Stop>
-    requires some { 0 < length reader.old.rest.now }
-    requires inherited { info.inherited ≡ None }
-    ensures reads { GivesNamed result reader.new (spec.parse_component (spec.productions depth)
-        (spec.with_info (info_at reader.old.arena info) spec.std) (state_spec.skip 2 (state reader.old))) }
+    requires info { IsInfo reader.old.arena info }
+    ensures reads { GivesNamed result reader.new (spec.first_std (productions depth)
+        (info_at reader.old.arena info) (state reader.old)) }
     ensures moves { OnOk result (Moves reader.old reader.new) }
 {
     reader.skip(2);
@@ -209,8 +304,8 @@ fn read_first_std(reader: &mut Reader, depth: usize, info: Info) -> Result<Learn
 #[cycle(reader)]
 #[inline(always)]
 fn read_first_substitution(reader: &mut Reader, depth: usize, info: Info) -> Result<LearnedName, Stop>
-    requires inherited { info.inherited ≡ None }
-    ensures reads { GivesNamed result reader.new (heads.head_substitution (spec.productions depth)
+    requires info { IsInfo reader.old.arena info }
+    ensures reads { GivesNamed result reader.new (spec.first_substitution (productions depth)
         (info_at reader.old.arena info) (state reader.old)) }
     ensures moves { OnOk result (Moves reader.old reader.new) }
 {
@@ -218,34 +313,12 @@ fn read_first_substitution(reader: &mut Reader, depth: usize, info: Info) -> Res
     read_component(reader, depth, LearnedName { node, info })
 }
 
-#[inline(always)]
-fn read_first_param(reader: &mut Reader, info: Info) -> Result<LearnedName, Stop>
-    requires inherited { info.inherited ≡ None }
-    ensures reads { GivesNamed result reader.new (heads.head_param (info_at reader.old.arena info)
-        (state reader.old)) }
-    ensures moves { OnOk result (Moves reader.old reader.new) }
-{
-    let node = tri!(reader.read_template_param());
-    Ok(LearnedName { node, info })
-}
-
-#[inline(always)]
-fn read_first_base(reader: &mut Reader, info: Info) -> Result<LearnedName, Stop>
-    requires inherited { info.inherited ≡ None }
-    ensures reads { GivesNamed result reader.new (heads.head_base (info_at reader.old.arena info)
-        (state reader.old)) }
-    ensures moves { OnOk result (Moves reader.old reader.new) }
-{
-    let node = tri!(reader.read_base());
-    Ok(LearnedName { node, info })
-}
-
-// Reads what follows a component: other components, up to the `E`.
+// Reads what follows the first component: other components, up to the `E`.
 #[cycle(reader)]
 #[inline(always)]
 fn read_components(reader: &mut Reader, depth: usize, name: LearnedName) -> Result<LearnedName, Stop>
     requires named { IsNamed reader.old.arena name }
-    ensures reads { GivesNamed result reader.new (spec.parse_rest (spec.productions depth)
+    ensures reads { GivesNamed result reader.new (spec.parse_components (productions depth)
         (named_at reader.old.arena name) (state reader.old)) }
     ensures moves { OnOk result (Moves reader.old reader.new) }
 {
@@ -253,12 +326,7 @@ fn read_components(reader: &mut Reader, depth: usize, name: LearnedName) -> Resu
     reader.skip_letter(b'M');
     let mut last = name;
     while !begins(reader.rest, b'E') {
-        if begins_source(reader.rest) {
-            last.node = tri!(reader.read_next_source(last.node));
-            last.info.ends_with_args = false;
-        } else {
-            last = tri!(read_next(reader, depth, last));
-        }
+        last = tri!(read_next(reader, depth, last));
     }
     reader.skip(1);
     Ok(last)
@@ -269,245 +337,109 @@ fn read_components(reader: &mut Reader, depth: usize, name: LearnedName) -> Resu
 #[inline(always)]
 fn read_next(reader: &mut Reader, depth: usize, scope: LearnedName) -> Result<LearnedName, Stop>
     requires named { IsNamed reader.old.arena scope }
-    ensures reads { GivesNamed result reader.new (spec.parse_next (spec.productions depth)
+    ensures reads { GivesNamed result reader.new (spec.parse_next (productions depth)
         (named_at reader.old.arena scope) (state reader.old)) }
     ensures moves { OnOk result (Moves reader.old reader.new) }
 {
     tri!(reader.arena.save(scope.node));
-    let name = tri!(read_other_component(reader, depth, scope));
+    let name = tri!(read_component(reader, depth, scope));
     reader.skip_letter(b'M');
     Ok(name)
 }
 
-// Reads a component after others. A source name, as most are, is read without the other cases, which saves some 60
-// instructions.
+// Reads a component after others.
 #[cycle(reader)]
 #[inline(always)]
 fn read_component(reader: &mut Reader, depth: usize, scope: LearnedName) -> Result<LearnedName, Stop>
     requires named { IsNamed reader.old.arena scope }
-    ensures reads { GivesNamed result reader.new (spec.parse_component (spec.productions depth)
-        (named_at reader.old.arena scope) (state reader.old)) }
-    ensures moves { OnOk result (Moves reader.old reader.new) }
-{
-    if begins_source(reader.rest) {
-        return read_scoped_source(reader, scope);
-    }
-    read_other_component(reader, depth, scope)
-}
-
-// Reads a source name in a scope.
-#[inline(always)]
-fn read_scoped_source(reader: &mut Reader, scope: LearnedName) -> Result<LearnedName, Stop>
-    requires named { IsNamed reader.old.arena scope }
-    ensures reads { GivesNamed result reader.new (heads.named_in (named_at reader.old.arena scope)
-        (state reader.old)) }
-    ensures moves { OnOk result (Moves reader.old reader.new) }
-{
-    let node = tri!(reader.read_source_name_in(scope.node));
-    let info = Info {
-        ends_with_args: false,
-        ..scope.info
-    };
-    Ok(LearnedName { node, info })
-}
-
-// Reads a component after others, of any case.
-#[cycle(reader)]
-#[inline(never)]
-fn read_other_component(reader: &mut Reader, depth: usize, scope: LearnedName) -> Result<LearnedName, Stop>
-    requires named { IsNamed reader.old.arena scope }
-    ensures reads { GivesNamed result reader.new (spec.parse_component (spec.productions depth)
+    ensures reads { GivesNamed result reader.new (spec.parse_component (productions depth)
         (named_at reader.old.arena scope) (state reader.old)) }
     ensures moves { OnOk result (Moves reader.old reader.new) }
 {
     if begins(reader.rest, b'I') {
         return read_more_args(reader, depth, scope);
     }
-    // The mark of internal linkage, which prints nothing.
-    reader.skip_letter(b'L');
-    match component_case(reader.rest) {
-        ComponentCase::Ctor => read_ctor(reader, scope, false),
-        ComponentCase::InheritedCtor => read_inherited_ctor(reader, depth, scope),
-        ComponentCase::Dtor => read_ctor(reader, scope, true),
-        ComponentCase::Unqualified => read_scoped(reader, scope),
-    }
+    read_unqualified_name(reader, depth, nested(Some(scope.node), scope.info))
 }
 
 // Reads the arguments of a name that has none yet.
 #[cycle(reader)]
 fn read_more_args(reader: &mut Reader, depth: usize, scope: LearnedName) -> Result<LearnedName, Stop>
     requires named { IsNamed reader.old.arena scope }
-    ensures reads { GivesNamed result reader.new (spec.parse_more_args (spec.productions depth)
+    ensures reads { GivesNamed result reader.new (spec.parse_more_args (productions depth)
         (named_at reader.old.arena scope) (state reader.old)) }
     ensures moves { OnOk result (Moves reader.old reader.new) }
 {
     if is_with_args(&reader.arena, scope.node) {
         return Err(Stop::Unreadable);
     }
-    read_with_args(reader, depth, scope)
-}
-
-// Reads a name in a scope.
-fn read_scoped(reader: &mut Reader, scope: LearnedName) -> Result<LearnedName, Stop>
-    requires named { IsNamed reader.old.arena scope }
-    ensures reads { GivesNamed result reader.new (spec.parse_scoped (named_at reader.old.arena scope)
-        (state reader.old)) }
-    ensures moves { OnOk result (Moves reader.old reader.new) }
-{
-    let base = tri!(reader.read_unmarked_base());
-    let info = Info {
-        ends_with_args: false,
-        ..scope.info
-    };
-    make_named(
-        reader,
-        Node::Plain(Plain::Scoped(false, scope.node, base)),
-        info,
-    )
-}
-
-// Reads a constructor or a destructor.
-fn read_ctor(reader: &mut Reader, scope: LearnedName, is_destructor: bool) -> Result<LearnedName, Stop>
-    requires some { 0 < length reader.old.rest.now }
-    requires named { IsNamed reader.old.arena scope }
-    ensures reads { GivesNamed result reader.new (spec.make_ctor (named_at reader.old.arena scope) is_destructor
-        (named_at reader.old.arena scope).info.inherited (state_spec.skip 2 (state reader.old))) }
-    ensures moves { OnOk result (Moves reader.old reader.new) }
-{
-    reader.skip(2);
-    make_ctor(reader, scope, is_destructor, scope.info.inherited)
-}
-
-// Reads an inherited constructor.
-#[cycle(reader)]
-fn read_inherited_ctor(reader: &mut Reader, depth: usize, scope: LearnedName) -> Result<LearnedName, Stop>
-    requires some { 0 < length reader.old.rest.now }
-    requires named { IsNamed reader.old.arena scope }
-    ensures reads { GivesNamed result reader.new (spec.parse_inherited (spec.productions depth)
-        (named_at reader.old.arena scope) (state reader.old)) }
-    ensures moves { OnOk result (Moves reader.old reader.new) }
-{
-    reader.skip(3);
-    let from = tri!(read_name(reader, depth));
-    make_ctor(reader, scope, false, Some(from.node))
-}
-
-// Makes a constructor or a destructor in its class.
-fn make_ctor(
-    reader: &mut Reader,
-    scope: LearnedName,
-    is_destructor: bool,
-    inherited: Option<u32>,
-) -> Result<LearnedName, Stop>
-    requires named { IsNamed reader.old.arena scope }
-    requires inherited { IfSome inherited (IsNode reader.old.arena) }
-    ensures reads { GivesNamed result reader.new (spec.make_ctor (named_at reader.old.arena scope) is_destructor
-        (option_map (stands reader.old.arena) inherited) (state reader.old)) }
-    ensures keeps { OnOk result (Keeps reader.old reader.new) }
-    ensures rest { OnOk result (reader.new.rest.now ≡ reader.old.rest.now) }
-{
-    if is_param(&reader.arena, scope.node) {
-        return Err(Stop::Unreadable);
-    }
-    let class = tri!(reader.expanded(scope.node));
-    let text = base_name(&reader.arena, class);
-    let base = tri!(reader.make_ctor_dtor(text, is_destructor));
-    let info = Info {
-        ends_with_args: false,
-        no_return: true,
-        inherited,
-        ..scope.info
-    };
-    make_named(reader, Node::Plain(Plain::Scoped(false, class, base)), info)
+    read_named_args(reader, depth, scope)
 }
 
 impl<'a> Reader<'a> {
-    // Saves a component, and reads a source name in it with its `M`. What else is learned of the name stays where it
-    // is.
+    // Reads an `<unqualified-name>` that is a source name.
     #[inline(always)]
-    fn read_next_source(&mut self, scope: u32) -> Result<u32, Stop>
-        requires scope { IsNode self.old.arena scope }
-        ensures reads { Gives result self.new (heads.next_source (stands self.old.arena scope) (state self.old)) }
+    fn read_source_at(&mut self, place: Place) -> Result<LearnedName, Stop>
+        requires place { IsPlace self.old.arena place }
+        ensures reads { GivesNamed result self.new (parse_source_at (place_at self.old.arena place)
+            (state self.old)) }
         ensures moves { OnOk result (Moves self.old self.new) }
     {
-        tri!(self.arena.save(scope));
-        let node = tri!(self.read_source_name_in(scope));
-        self.skip_letter(b'M');
-        Ok(node)
+        let node = tri!(self.read_source_in(place.scope));
+        Ok(LearnedName {
+            node,
+            info: place.info,
+        })
     }
 
-    // Reads `[<CV-qualifiers>] [<ref-qualifier>]`. Returns what is learned of a name by them.
-    #[tactic(auto, using(crate::proofs::Heads::heads))]
-    #[inline(always)]
-    fn read_info(&mut self) -> Info
-        ensures value { info_at self.new.arena result ≡ spec.info_at (state self.old) }
-        ensures inherited { result.inherited ≡ None }
-        ensures state { state self.new ≡ leaves.past_ref (leaves.past_cv (state self.old)) }
-        ensures arena { self.new.arena ≡ self.old.arena }
-        ensures replaced { self.new.replaced ≡ self.old.replaced }
-        ensures within { length self.new.rest.now ≤ length self.old.rest.now }
+    // Reads a name that is no constructor.
+    fn read_base_part(&mut self, place: Place) -> Result<Part, Stop>
+        requires place { IsPlace self.old.arena place }
+        ensures reads { GivesPart result self.new (spec.parse_base_part (place_at self.old.arena place)
+            (state self.old)) }
+        ensures moves { OnOk result (Moves self.old self.new) }
     {
-        if begins_name(self.rest) {
-            return unqualified();
-        }
-        self.read_qualifiers()
+        let node = tri!(self.read_base());
+        Ok(Part {
+            node,
+            scope: place.scope,
+            info: place.info,
+        })
     }
 
-    // Reads `[<CV-qualifiers>] [<ref-qualifier>]`. Returns what is learned of a name by them.
-    #[inline(never)]
-    fn read_qualifiers(&mut self) -> Info
-        ensures value { info_at self.new.arena result ≡ spec.info_at (state self.old) }
-        ensures inherited { result.inherited ≡ None }
-        ensures state { state self.new ≡ leaves.past_ref (leaves.past_cv (state self.old)) }
-        ensures arena { self.new.arena ≡ self.old.arena }
-        ensures replaced { self.new.replaced ≡ self.old.replaced }
-        ensures within { length self.new.rest.now ≤ length self.old.rest.now }
-    {
-        let cv = self.read_cv();
-        let ref_qual = self.read_ref_qual();
-        info_of(cv, ref_qual)
-    }
-
-    // Reads `St <unqualified-name>`.
-    fn read_std_name(&mut self) -> Result<u32, Stop>
+    // Reads a constructor or a destructor: `C1`, `C2`, .., `D0`, `D1`, ..
+    fn read_ctor(&mut self, place: Place, is_destructor: bool) -> Result<Part, Stop>
         requires some { 0 < length self.old.rest.now }
-        ensures reads { Gives result self.new (spec.parse_std_name (state self.old)) }
+        requires place { IsPlace self.old.arena place }
+        ensures reads { GivesPart result self.new (spec.parse_ctor (place_at self.old.arena place) is_destructor
+            (state self.old)) }
         ensures moves { OnOk result (Moves self.old self.new) }
     {
         self.skip(2);
-        if begins_source(self.rest) {
-            let scope = tri!(self.make_std());
-            return self.read_source_name_in(scope);
-        }
-        let base = tri!(self.read_base());
-        let scope = tri!(self.make_std());
-        self.make(Node::Plain(Plain::Scoped(false, scope, base)))
-    }
-
-    // Makes the name `std`.
-    fn make_std(&mut self) -> Result<u32, Stop>
-        ensures reads { Gives result self.new (Some (spec.std, state self.old)) }
-        ensures keeps { OnOk result (Keeps self.old self.new) }
-        ensures rest { OnOk result (self.new.rest.now ≡ self.old.rest.now) }
-    {
-        self.arena.make_fixed(b"std")
-    }
-
-    // Makes a constructor or a destructor of a class.
-    fn make_ctor_dtor(&mut self, class: NodeText, is_destructor: bool) -> Result<u32, Stop>
-        requires class { IsText self.old.arena.held class }
-        ensures reads { Gives result self.new (state_spec.make (phrases.ctor_dtor (text_at self.old.arena.held
-            class) is_destructor) (state self.old)) }
-        ensures keeps { OnOk result (Keeps self.old self.new) }
-        ensures rest { OnOk result (self.new.rest.now ≡ self.old.rest.now) }
-    {
-        self.arena.make_ctor_dtor(class, is_destructor)
+        let class = tri!(self.class_of(place));
+        self.make_ctor(class, is_destructor, place.info)
     }
 
     // The class of a constructor: an abbreviation of std is written out.
+    fn class_of(&mut self, place: Place) -> Result<u32, Stop>
+        requires place { IsPlace self.old.arena place }
+        ensures reads { Gives result self.new (spec.parse_class_of (place_at self.old.arena place) (state self.old)) }
+        ensures keeps { OnOk result (Keeps self.old self.new) }
+        ensures rest { OnOk result (self.new.rest.now ≡ self.old.rest.now) }
+    {
+        let Some(class) = place.scope else {
+            return Err(Stop::Unreadable);
+        };
+        if !place.is_nested || is_param(&self.arena, class) {
+            return Err(Stop::Unreadable);
+        }
+        self.expanded(class)
+    }
+
+    // Writes an abbreviation of std out.
     fn expanded(&mut self, i: u32) -> Result<u32, Stop>
         requires node { IsNode self.old.arena i }
-        ensures reads { Gives result self.new (Some (bases.expand (stands self.old.arena i), state self.old)) }
+        ensures reads { Gives result self.new (Some (expand (stands self.old.arena i), state self.old)) }
         ensures keeps { OnOk result (Keeps self.old self.new) }
         ensures rest { OnOk result (self.new.rest.now ≡ self.old.rest.now) }
     {
@@ -515,5 +447,77 @@ impl<'a> Reader<'a> {
             Some(std) => self.make(Node::Plain(Plain::StdName(std, true))),
             None => Ok(i),
         }
+    }
+
+    // Makes a constructor or a destructor of a class.
+    fn make_ctor(&mut self, class: u32, is_destructor: bool, info: Info) -> Result<Part, Stop>
+        requires class { IsNode self.old.arena class }
+        requires info { IsInfo self.old.arena info }
+        ensures reads { GivesPart result self.new (spec.make_ctor (stands self.old.arena class) is_destructor
+            (info_at self.old.arena info) (state self.old)) }
+        ensures keeps { OnOk result (Keeps self.old self.new) }
+        ensures rest { OnOk result (self.new.rest.now ≡ self.old.rest.now) }
+    {
+        let text = base_name(&self.arena, class);
+        let node = tri!(self.arena.make_ctor_dtor(text, is_destructor));
+        Ok(Part {
+            node,
+            scope: Some(class),
+            info: Info {
+                no_return: true,
+                ..info
+            },
+        })
+    }
+
+    // Puts a name in its scope.
+    fn put_in_scope(&mut self, part: Part) -> Result<LearnedName, Stop>
+        requires part { IsPart self.old.arena part }
+        ensures reads { GivesNamed result self.new (spec.scoped_part (part_at self.old.arena part) (state self.old)) }
+        ensures keeps { OnOk result (Keeps self.old self.new) }
+        ensures rest { OnOk result (self.new.rest.now ≡ self.old.rest.now) }
+    {
+        let node = match part.scope {
+            Some(scope) => tri!(self.make(Node::Plain(Plain::Scoped(false, scope, part.node)))),
+            None => part.node,
+        };
+        Ok(LearnedName {
+            node,
+            info: part.info,
+        })
+    }
+
+    // Reads a template parameter as the first component.
+    #[inline(always)]
+    fn read_first_param(&mut self, info: Info) -> Result<LearnedName, Stop>
+        requires info { IsInfo self.old.arena info }
+        ensures reads { GivesNamed result self.new (spec.first_param (info_at self.old.arena info) (state self.old)) }
+        ensures moves { OnOk result (Moves self.old self.new) }
+    {
+        let node = tri!(self.read_template_param());
+        Ok(LearnedName { node, info })
+    }
+
+    // Reads `[<CV-qualifiers>] [<ref-qualifier>]`. Returns what is learned of a name by them.
+    #[inline(always)]
+    fn read_info(&mut self) -> Info
+        ensures reads { spec.parse_info (state self.old) ≡ Some (info_at self.new.arena result, state self.new) }
+        ensures inherited { result.inherited ≡ None }
+        ensures no_args { result.ends_with_args ≡ false }
+        ensures arena { self.new.arena ≡ self.old.arena }
+        ensures within { length self.new.rest.now ≤ length self.old.rest.now }
+    {
+        let cv = self.read_cv();
+        let ref_qual = self.read_ref_qual();
+        info_of(cv, ref_qual)
+    }
+
+    // Makes the name `std`.
+    fn make_std(&mut self) -> Result<u32, Stop>
+        ensures reads { Gives result self.new (leaves.make_word "std" (state self.old)) }
+        ensures keeps { OnOk result (Keeps self.old self.new) }
+        ensures rest { OnOk result (self.new.rest.now ≡ self.old.rest.now) }
+    {
+        self.arena.make_fixed(b"std")
     }
 }

@@ -1,20 +1,21 @@
 //! The state of the readers, and what is read by itself.
-#![tactic(auto, using(crate::proofs::Kept::readers), unfolding(cxx_tree::specs::Stored::stands, cxx_tree::specs::Grows::Makes, cxx_grammar::specs::Leaves::base_as, cxx_tree::specs::Stored::tree_of, cxx_tree::specs::Stored::plain_tree, cxx_tree::specs::Stored::IsBelow, cxx_tree::specs::Stored::IsPlainBelow))]
+#![tactic(auto, using(crate::proofs::Kept::readers), unfolding(cxx_tree::specs::Stored::stands, cxx_tree::specs::Grows::Makes, cxx_grammar::specs::Parses::past_word_if, cxx_grammar::specs::Leaves::parse_substitution, cxx_grammar::specs::Leaves::parse_template_param, cxx_grammar::specs::Leaves::parse_cv, cxx_grammar::specs::Leaves::parse_ref, cxx_grammar::specs::Leaves::parse_builtin, cxx_grammar::specs::Names::base_as, cxx_tree::specs::Stored::tree_of, cxx_tree::specs::Stored::plain_tree, cxx_tree::specs::Stored::IsBelow, cxx_tree::specs::Stored::IsPlainBelow))]
 
-ghost use Rattle.std.specs.Prelude.{◌≡◌, ℕ, ◌-◌, ◌<◌, ◌≤◌, [], ◌∷◌, codes, length, true, false, IfOk, IfSome, OnOk, option_map};
-ghost use Rattle.abi_scalars.specs.Bytes.{begins};
+ghost use Rattle.std.specs.Prelude.{◌≡◌, ℕ, ◌-◌, ◌<◌, ◌≤◌, [], ◌∷◌, length, true, false, Some, IfSome, OnOk, option_map};
 ghost use Rattle.cxx_tree.specs.Stored.{forest, size, tree_of, IsBelow, stands};
 ghost use Rattle.cxx_tree.specs.Kept.{IsNode};
 ghost use Rattle.cxx_tree.specs.Tree.{std_name};
-ghost use Rattle.cxx_grammar.specs.State as spec;
+ghost use Rattle.cxx_grammar.specs.Parses as spec;
 ghost use Rattle.cxx_grammar.specs.Leaves as leaves;
-ghost use Rattle.cxx_reader.specs.Heads as heads;
+ghost use Rattle.cxx_grammar.specs.Names as names;
+ghost use Rattle.cxx_grammar.specs.Words as words;
+ghost use Rattle.cxx_reader.specs.Sources as sources;
 ghost use Rattle.cxx_reader.specs.Outcome.{state, Keeps, Moves, Gives};
 
 use crate::cases::{base_case, begins};
 use crate::words::{builtin_of, d_builtin_of, operator_of};
 use abi_scalars::numerals::{Radix, index_of};
-use abi_scalars::texts::{begins_source, identifier, source_text};
+use abi_scalars::texts::{identifier, source_text};
 use cxx_grammar::cases::BaseCase;
 use cxx_tree::{Arena, Cv, Node, Plain, Prec, RefQual, Std, Stop, NodeText};
 use std::alloc::Global;
@@ -65,8 +66,7 @@ impl<'a> Reader<'a> {
     /// Skips a letter, if it is next. Returns whether it was.
     #[inline(always)]
     pub fn skip_letter(&mut self, letter: u8) -> bool
-        ensures value { result ≡ begins (letter ∷ []) self.old.rest.now }
-        ensures state { state self.new ≡ spec.past_byte letter (state self.old) }
+        ensures reads { spec.past_word_if (letter ∷ []) (state self.old) ≡ Some (result, state self.new) }
         ensures arena { self.new.arena ≡ self.old.arena }
         ensures replaced { self.new.replaced ≡ self.old.replaced }
         ensures within { length self.new.rest.now ≤ length self.old.rest.now }
@@ -81,8 +81,7 @@ impl<'a> Reader<'a> {
 
     /// Reads `<CV-qualifiers> ::= [r] [V] [K]`.
     pub fn read_cv(&mut self) -> Cv
-        ensures value { result ≡ leaves.cv_at (state self.old) }
-        ensures state { state self.new ≡ leaves.past_cv (state self.old) }
+        ensures reads { leaves.parse_cv (state self.old) ≡ Some (result, state self.new) }
         ensures arena { self.new.arena ≡ self.old.arena }
         ensures replaced { self.new.replaced ≡ self.old.replaced }
         ensures within { length self.new.rest.now ≤ length self.old.rest.now }
@@ -99,8 +98,7 @@ impl<'a> Reader<'a> {
 
     /// Reads `[<ref-qualifier>] ::= R | O`.
     pub fn read_ref_qual(&mut self) -> RefQual
-        ensures value { result ≡ leaves.ref_at (state self.old) }
-        ensures state { state self.new ≡ leaves.past_ref (state self.old) }
+        ensures reads { leaves.parse_ref (state self.old) ≡ Some (result, state self.new) }
         ensures arena { self.new.arena ≡ self.old.arena }
         ensures replaced { self.new.replaced ≡ self.old.replaced }
         ensures within { length self.new.rest.now ≤ length self.old.rest.now }
@@ -143,7 +141,7 @@ impl<'a> Reader<'a> {
     /// Reads `<source-name> ::= <positive length number> <identifier>`.
     #[inline(always)]
     pub fn read_source_name(&mut self) -> Result<u32, Stop>
-        ensures reads { Gives result self.new (leaves.parse_source (state self.old)) }
+        ensures reads { Gives result self.new (leaves.parse_source_name (state self.old)) }
         ensures moves { OnOk result (Moves self.old self.new) }
     {
         let Some((name, rest)) = identifier(self.rest) else {
@@ -153,23 +151,27 @@ impl<'a> Reader<'a> {
         self.arena.make_name(source_text(name))
     }
 
-    /// Reads a `<source-name>` in a scope. The name and the same in the scope are pushed together.
+    /// Reads a `<source-name>`, in a scope if there is one. It is one node then.
     #[inline(always)]
-    pub fn read_source_name_in(&mut self, scope: u32) -> Result<u32, Stop>
-        requires scope { IsNode self.old.arena scope }
-        ensures reads { Gives result self.new (heads.source_in (stands self.old.arena scope) (state self.old)) }
+    pub fn read_source_in(&mut self, scope: Option<u32>) -> Result<u32, Stop>
+        requires scope { IfSome scope (IsNode self.old.arena) }
+        ensures reads { Gives result self.new (sources.source_in (option_map (stands self.old.arena) scope)
+            (state self.old)) }
         ensures moves { OnOk result (Moves self.old self.new) }
     {
         let Some((name, rest)) = identifier(self.rest) else {
             return Err(Stop::Unreadable);
         };
         self.rest = rest;
-        self.arena.make_name_in(scope, source_text(name))
+        match scope {
+            Some(scope) => self.arena.make_name_in(scope, source_text(name)),
+            None => self.arena.make_name(source_text(name)),
+        }
     }
 
     /// Reads a `<source-name>` after n bytes, and puts a word in front of it.
-    fn read_prefixed(&mut self, word: &'static [u8], n: usize) -> Result<u32, Stop>
-        ensures reads { Gives result self.new (leaves.parse_prefixed word.now n (state self.old)) }
+    fn read_prefixed(&mut self, n: usize, word: &'static [u8]) -> Result<u32, Stop>
+        ensures reads { Gives result self.new (leaves.parse_prefixed n word.now (state self.old)) }
         ensures moves { OnOk result (Moves self.old self.new) }
     {
         self.skip(n);
@@ -178,40 +180,17 @@ impl<'a> Reader<'a> {
             .make_prefixed(NodeText::Fixed(word), NodeText::Fixed(word), name, Prec::Primary)
     }
 
-    /// Reads a name without a scope, after its `L`.
-    #[inline(always)]
-    pub fn read_unmarked_base(&mut self) -> Result<u32, Stop>
-        ensures reads { Gives result self.new (leaves.parse_unmarked_base (state self.old)) }
+    /// Reads a `<source-name>` or an `<operator-name>`.
+    pub fn read_base(&mut self) -> Result<u32, Stop>
+        ensures reads { Gives result self.new (names.parse_base (state self.old)) }
         ensures moves { OnOk result (Moves self.old self.new) }
     {
         match base_case(self.rest) {
             BaseCase::Source => self.read_source_name(),
-            BaseCase::Literal => self.read_prefixed(b"operator\"\" ", 2),
-            BaseCase::Vendor => self.read_prefixed(b"operator ", 2),
+            BaseCase::Literal => self.read_prefixed(2, b"operator\"\" "),
+            BaseCase::Vendor => self.read_prefixed(2, b"operator "),
             BaseCase::Operator => self.read_operator(),
         }
-    }
-
-    /// Reads a name without a scope.
-    #[inline(always)]
-    pub fn read_base(&mut self) -> Result<u32, Stop>
-        ensures reads { Gives result self.new (leaves.parse_base (state self.old)) }
-        ensures moves { OnOk result (Moves self.old self.new) }
-    {
-        if begins_source(self.rest) {
-            return self.read_source_name();
-        }
-        self.read_other_base()
-    }
-
-    // Reads a name without a scope that isn't a source name, or has an `L`.
-    #[inline(never)]
-    fn read_other_base(&mut self) -> Result<u32, Stop>
-        ensures reads { Gives result self.new (leaves.parse_base (state self.old)) }
-        ensures moves { OnOk result (Moves self.old self.new) }
-    {
-        self.skip_letter(b'L');
-        self.read_unmarked_base()
     }
 
     /// Reads `<operator-name>` that is a code of two letters.
@@ -219,16 +198,22 @@ impl<'a> Reader<'a> {
         ensures reads { Gives result self.new (leaves.parse_operator (state self.old)) }
         ensures moves { OnOk result (Moves self.old self.new) }
     {
-        match self.rest {
-            [first, second, rest @ ..] => match operator_of(*first, *second) {
-                Some(name) => {
-                    self.rest = rest;
-                    self.arena.make_fixed(name)
-                }
-                None => Err(Stop::Unreadable),
-            },
-            _ => Err(Stop::Unreadable),
-        }
+        self.read_word(2, operator_of(self.rest))
+    }
+
+    // Reads a code of n letters, for which there is a word or none.
+    #[inline(always)]
+    fn read_word(&mut self, n: usize, word: Option<&'static [u8]>) -> Result<u32, Stop>
+        requires n { 0 < n }
+        requires some { IfSome word (λ _. 0 < length self.old.rest.now) }
+        ensures reads { Gives result self.new (leaves.make_code n (option_map (λ w. w.now) word.entry) (state self.old)) }
+        ensures moves { OnOk result (Moves self.old self.new) }
+    {
+        let Some(word) = word else {
+            return Err(Stop::Unreadable);
+        };
+        self.skip(n);
+        self.arena.make_fixed(word)
     }
 
     /// Reads `<substitution> ::= S [<seq-id>] _ | Sa | Sb | Ss | Si | So | Sd`.
@@ -246,9 +231,9 @@ impl<'a> Reader<'a> {
     // Makes an abbreviation of std, and skips its letter.
     #[inline(never)]
     fn read_std(&mut self, std: Std) -> Result<u32, Stop>
-        ensures reads { Gives result self.new (spec.make (std_name std false) (spec.skip 1 (state self.old))) }
-        ensures keeps { OnOk result (Keeps self.old self.new) }
-        ensures takes { OnOk result (length self.new.rest.now ≡ length self.old.rest.now - 1) }
+        requires some { 0 < length self.old.rest.now }
+        ensures reads { Gives result self.new (leaves.parse_abbreviation std (state self.old)) }
+        ensures moves { OnOk result (Moves self.old self.new) }
     {
         self.skip(1);
         self.make(Node::Plain(Plain::StdName(std, false)))
@@ -291,16 +276,7 @@ impl<'a> Reader<'a> {
         if self.skip_letter(b'D') {
             return self.read_d_builtin();
         }
-        match self.rest {
-            [letter, rest @ ..] => match builtin_of(*letter) {
-                Some(word) => {
-                    self.rest = rest;
-                    self.arena.make_fixed(word)
-                }
-                None => Err(Stop::Unreadable),
-            },
-            [] => Err(Stop::Unreadable),
-        }
+        self.read_word(1, builtin_of(self.rest))
     }
 
     // Reads `<builtin-type>` after its `D`.
@@ -313,22 +289,14 @@ impl<'a> Reader<'a> {
                 .arena
                 .make_leaf(true, b"std::nullptr_t", b"decltype(nullptr)");
         }
-        match self.rest {
-            [letter, rest @ ..] => match d_builtin_of(*letter) {
-                Some(word) => {
-                    self.rest = rest;
-                    self.arena.make_fixed(word)
-                }
-                None => Err(Stop::Unreadable),
-            },
-            [] => Err(Stop::Unreadable),
-        }
+        self.read_word(1, d_builtin_of(self.rest))
     }
 }
 
 /// Returns the abbreviation of std that the letter after `S` stands for.
+#[tactic(auto, unfolding(cxx_grammar::specs::Words::std_of))]
 fn std_of(bytes: &[u8]) -> Option<Std>
-    ensures value { result ≡ leaves.std_of bytes.now }
+    ensures value { result ≡ words.std_of bytes.now }
     ensures some { IfSome result (λ _. 0 < length bytes.now) }
 {
     match bytes {

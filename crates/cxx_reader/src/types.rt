@@ -1,17 +1,19 @@
 //! Types (Itanium C++ ABI 5.1.5).
 //!
 //! The readers of the cases of a type aren't inlined, so that `read_type` only passes on its arguments.
-#![tactic(auto, using(crate::proofs::Rules::productions), unfolding(cxx_tree::specs::Stored::tree_of, cxx_tree::specs::Stored::plain_tree, cxx_tree::specs::Stored::IsBelow, cxx_tree::specs::Stored::IsPlainBelow, cxx_tree::specs::Stored::stands, crate::specs::Outcome::list_trees, crate::specs::Outcome::named_at, cxx_grammar::specs::Grammar::type_as))]
+#![tactic(auto, using(crate::proofs::Rules::productions), unfolding(cxx_tree::specs::Stored::tree_of, cxx_tree::specs::Stored::plain_tree, cxx_tree::specs::Stored::IsBelow, cxx_tree::specs::Stored::IsPlainBelow, cxx_tree::specs::Stored::stands, crate::specs::Outcome::list_trees, crate::specs::Outcome::named_at, cxx_grammar::specs::Types::type_as, cxx_grammar::specs::Types::parse_qualified_type, cxx_grammar::specs::Types::parse_type_args))]
 
 ghost use Rattle.std.specs.Prelude.{◌≡◌, ℕ, ◌<◌, ◌≤◌, length, OnOk};
 ghost use Rattle.cxx_tree.specs.Tree.{expansion, pointer};
 ghost use Rattle.cxx_tree.specs.Stored.{forest, size, stands};
 ghost use Rattle.cxx_tree.specs.Kept.{IsNode};
-ghost use Rattle.cxx_grammar.specs.Leaves as leaves;
-ghost use Rattle.cxx_grammar.specs.Grammar as spec;
+ghost use Rattle.cxx_grammar.specs.Parses.{saved};
+ghost use Rattle.cxx_grammar.specs.Productions.{name_tree};
+ghost use Rattle.cxx_grammar.specs.Types as spec;
+ghost use Rattle.cxx_grammar.specs.Symbol.{productions};
 ghost use Rattle.cxx_reader.specs.Outcome.{state, Keeps, Moves, Gives};
 
-use crate::args::read_args;
+use crate::args::read_list;
 use crate::cases::{begins, type_case};
 use crate::names::read_name;
 use crate::reader::Reader;
@@ -21,7 +23,7 @@ use cxx_tree::{Node, Plain, Stop};
 /// Reads `<type>`. At most `depth` counted productions may nest, this one included.
 #[cycle(reader)]
 pub fn read_type(reader: &mut Reader, depth: usize) -> Result<u32, Stop>
-    ensures reads { Gives result reader.new ((spec.productions depth).type (state reader.old)) }
+    ensures reads { Gives result reader.new ((productions depth).type (state reader.old)) }
     ensures moves { OnOk result (Moves reader.old reader.new) }
 {
     if depth == 0 {
@@ -45,8 +47,7 @@ pub fn read_type(reader: &mut Reader, depth: usize) -> Result<u32, Stop>
 #[cycle(reader)]
 #[inline(never)]
 fn read_saved_type(reader: &mut Reader, depth: usize) -> Result<u32, Stop>
-    requires some { length (leaves.past_cv (state reader.old)).rest < length reader.old.rest.now }
-    ensures reads { Gives result reader.new (spec.parse_saved_type (spec.productions depth) (state reader.old)) }
+    ensures reads { Gives result reader.new (saved (productions depth).qualified_type (state reader.old)) }
     ensures moves { OnOk result (Moves reader.old reader.new) }
 {
     let t = tri!(read_qualified_type(reader, depth));
@@ -58,8 +59,7 @@ fn read_saved_type(reader: &mut Reader, depth: usize) -> Result<u32, Stop>
 /// included.
 #[cycle(reader)]
 fn read_qualified_type(reader: &mut Reader, depth: usize) -> Result<u32, Stop>
-    requires some { length (leaves.past_cv (state reader.old)).rest < length reader.old.rest.now }
-    ensures reads { Gives result reader.new ((spec.productions depth).qualified (state reader.old)) }
+    ensures reads { Gives result reader.new ((productions depth).qualified_type (state reader.old)) }
     ensures moves { OnOk result (Moves reader.old reader.new) }
 {
     if depth == 0 {
@@ -71,8 +71,7 @@ fn read_qualified_type(reader: &mut Reader, depth: usize) -> Result<u32, Stop>
 
 #[cycle(reader)]
 fn read_qualified(reader: &mut Reader, depth: usize) -> Result<u32, Stop>
-    requires some { length (leaves.past_cv (state reader.old)).rest < length reader.old.rest.now }
-    ensures reads { Gives result reader.new (spec.qualified_as (spec.productions depth) (state reader.old)) }
+    ensures reads { Gives result reader.new (spec.parse_qualified_type (productions depth) (state reader.old)) }
     ensures moves { OnOk result (Moves reader.old reader.new) }
 {
     let cv = reader.read_cv();
@@ -84,8 +83,7 @@ fn read_qualified(reader: &mut Reader, depth: usize) -> Result<u32, Stop>
 #[cycle(reader)]
 #[inline(never)]
 fn read_expansion(reader: &mut Reader, depth: usize) -> Result<u32, Stop>
-    requires some { 0 < length reader.old.rest.now }
-    ensures reads { Gives result reader.new (spec.parse_around (spec.productions depth) expansion 2
+    ensures reads { Gives result reader.new (saved (spec.parse_around 2 expansion (productions depth))
         (state reader.old)) }
     ensures moves { OnOk result (Moves reader.old reader.new) }
 {
@@ -98,8 +96,7 @@ fn read_expansion(reader: &mut Reader, depth: usize) -> Result<u32, Stop>
 #[cycle(reader)]
 #[inline(never)]
 fn read_pointer(reader: &mut Reader, depth: usize) -> Result<u32, Stop>
-    requires some { 0 < length reader.old.rest.now }
-    ensures reads { Gives result reader.new (spec.parse_around (spec.productions depth) pointer 1
+    ensures reads { Gives result reader.new (saved (spec.parse_around 1 pointer (productions depth))
         (state reader.old)) }
     ensures moves { OnOk result (Moves reader.old reader.new) }
 {
@@ -112,9 +109,8 @@ fn read_pointer(reader: &mut Reader, depth: usize) -> Result<u32, Stop>
 #[cycle(reader)]
 #[inline(never)]
 fn read_reference(reader: &mut Reader, depth: usize, is_lvalue: bool) -> Result<u32, Stop>
-    requires some { 0 < length reader.old.rest.now }
-    ensures reads { Gives result reader.new (spec.parse_around (spec.productions depth) (spec.reference_to is_lvalue) 1
-        (state reader.old)) }
+    ensures reads { Gives result reader.new (saved (spec.parse_around 1 (spec.reference_to is_lvalue)
+        (productions depth)) (state reader.old)) }
     ensures moves { OnOk result (Moves reader.old reader.new) }
 {
     reader.skip(1);
@@ -126,8 +122,7 @@ fn read_reference(reader: &mut Reader, depth: usize, is_lvalue: bool) -> Result<
 #[cycle(reader)]
 #[inline(never)]
 fn read_member_pointer(reader: &mut Reader, depth: usize) -> Result<u32, Stop>
-    requires some { 0 < length reader.old.rest.now }
-    ensures reads { Gives result reader.new (spec.parse_member_pointer (spec.productions depth) (state reader.old)) }
+    ensures reads { Gives result reader.new (saved (spec.parse_member_pointer (productions depth)) (state reader.old)) }
     ensures moves { OnOk result (Moves reader.old reader.new) }
 {
     reader.skip(1);
@@ -140,7 +135,7 @@ fn read_member_pointer(reader: &mut Reader, depth: usize) -> Result<u32, Stop>
 #[cycle(reader)]
 #[inline(never)]
 fn read_param_type(reader: &mut Reader, depth: usize) -> Result<u32, Stop>
-    ensures reads { Gives result reader.new (spec.parse_param_type (spec.productions depth) (state reader.old)) }
+    ensures reads { Gives result reader.new (spec.parse_param_type (productions depth) (state reader.old)) }
     ensures moves { OnOk result (Moves reader.old reader.new) }
 {
     let t = tri!(reader.read_template_param());
@@ -152,7 +147,7 @@ fn read_param_type(reader: &mut Reader, depth: usize) -> Result<u32, Stop>
 #[cycle(reader)]
 #[inline(never)]
 fn read_substituted_type(reader: &mut Reader, depth: usize) -> Result<u32, Stop>
-    ensures reads { Gives result reader.new (spec.parse_substituted_type (spec.productions depth) (state reader.old)) }
+    ensures reads { Gives result reader.new (spec.parse_substituted_type (productions depth) (state reader.old)) }
     ensures moves { OnOk result (Moves reader.old reader.new) }
 {
     let t = tri!(reader.read_substitution());
@@ -163,14 +158,14 @@ fn read_substituted_type(reader: &mut Reader, depth: usize) -> Result<u32, Stop>
 #[cycle(reader)]
 fn read_type_args(reader: &mut Reader, depth: usize, t: u32) -> Result<u32, Stop>
     requires t { IsNode reader.old.arena t }
-    ensures reads { Gives result reader.new (spec.parse_type_args (spec.productions depth) (stands reader.old.arena t)
+    ensures reads { Gives result reader.new (spec.parse_type_args (productions depth) (stands reader.old.arena t)
         (state reader.old)) }
     ensures keeps { OnOk result (Keeps reader.old reader.new) }
 {
     if !begins(reader.rest, b'I') {
         return Ok(t);
     }
-    let args = tri!(read_args(reader, depth));
+    let args = tri!(read_list(reader, depth));
     reader.make_saved(Node::Plain(Plain::WithArgs(t, args)))
 }
 
@@ -178,7 +173,7 @@ fn read_type_args(reader: &mut Reader, depth: usize, t: u32) -> Result<u32, Stop
 #[cycle(reader)]
 #[inline(never)]
 fn read_class(reader: &mut Reader, depth: usize) -> Result<u32, Stop>
-    ensures reads { Gives result reader.new (spec.parse_class (spec.productions depth) (state reader.old)) }
+    ensures reads { Gives result reader.new (saved (name_tree (productions depth)) (state reader.old)) }
     ensures moves { OnOk result (Moves reader.old reader.new) }
 {
     let name = tri!(read_name(reader, depth));

@@ -1,15 +1,19 @@
 use Rattle.std.proofs.Common.{◌+◌, ◌*◌, length, drop}
 use Rattle.std.specs.List.{AllByRecursion}
-use Rattle.cxx_grammar.specs.Grammar.{productions, parse_list, parse_rest}
+use Rattle.cxx_grammar.specs.Parses.{items_after, item_more, is_e, repeat}
+use Rattle.cxx_grammar.specs.Names.{parse_next}
+use Rattle.cxx_grammar.specs.Symbol.{productions}
 use Rattle.cxx_reader.specs.Items.{ends, item_of}
 use Rattle.cxx_tree.specs.Kept.{IsNode}
-use Rattle.cxx_reader.specs.Outcome.{state, IsNamed, named_at, Keeps, KeepsFront}
-use Rattle.cxx_reader.proofs.Lists.{trees_behind}
-use Rattle.cxx_reader.proofs.Turns.{ListSoFar, ComponentsSoFar}
+use Rattle.cxx_reader.specs.Outcome.{state, trees_behind, IsNamed, named_at, Keeps, KeepsFront}
+use Rattle.cxx_reader.proofs.Turns.{SoFar}
 use Rattle.cxx_reader.proofs.+reader.Given as goal
 
 abbrev pub decreases-args::read_args : goal.decreases-args::read_args
-decreases-args::read_args l = 16 * l.depth + 3
+decreases-args::read_args l = 16 * l.depth + 4
+
+abbrev pub decreases-args::read_list : goal.decreases-args::read_list
+decreases-args::read_list l = 16 * l.depth + 3
 
 abbrev pub decreases-args::read_arg : goal.decreases-args::read_arg
 decreases-args::read_arg l = 16 * l.depth + 0
@@ -23,26 +27,38 @@ decreases-args::read_literal l = 16 * l.depth + 2
 abbrev pub decreases-args::read_typed : goal.decreases-args::read_typed
 decreases-args::read_typed l = 16 * l.depth + 1
 
-abbrev pub decreases-names::read_with_args : goal.decreases-names::read_with_args
-decreases-names::read_with_args l = 16 * l.depth + 4
-
-abbrev pub decreases-names::read_unscoped : goal.decreases-names::read_unscoped
-decreases-names::read_unscoped l = 16 * l.depth + 5
-
 abbrev pub decreases-names::read_name : goal.decreases-names::read_name
 decreases-names::read_name l = 16 * l.depth + 0
 
-abbrev pub decreases-names::read_in_std : goal.decreases-names::read_in_std
-decreases-names::read_in_std l = 16 * l.depth + 6
+abbrev pub decreases-names::read_std_name : goal.decreases-names::read_std_name
+decreases-names::read_std_name l = 16 * l.depth + 10
+
+abbrev pub decreases-names::read_unscoped : goal.decreases-names::read_unscoped
+decreases-names::read_unscoped l = 16 * l.depth + 10
 
 abbrev pub decreases-names::read_substituted : goal.decreases-names::read_substituted
-decreases-names::read_substituted l = 16 * l.depth + 5
+decreases-names::read_substituted l = 16 * l.depth + 6
 
-abbrev pub decreases-names::read_unqualified : goal.decreases-names::read_unqualified
-decreases-names::read_unqualified l = 16 * l.depth + 6
+abbrev pub decreases-names::read_in_place : goal.decreases-names::read_in_place
+decreases-names::read_in_place l = 16 * l.depth + 9
+
+abbrev pub decreases-names::read_named_args : goal.decreases-names::read_named_args
+decreases-names::read_named_args l = 16 * l.depth + 5
+
+abbrev pub decreases-names::read_unqualified_name : goal.decreases-names::read_unqualified_name
+decreases-names::read_unqualified_name l = 16 * l.depth + 4
+
+abbrev pub decreases-names::read_other_name : goal.decreases-names::read_other_name
+decreases-names::read_other_name l = 16 * l.depth + 3
+
+abbrev pub decreases-names::read_part : goal.decreases-names::read_part
+decreases-names::read_part l = 16 * l.depth + 2
+
+abbrev pub decreases-names::read_inherited_ctor : goal.decreases-names::read_inherited_ctor
+decreases-names::read_inherited_ctor l = 16 * l.depth + 1
 
 abbrev pub decreases-names::read_nested_name : goal.decreases-names::read_nested_name
-decreases-names::read_nested_name l = 16 * l.depth + 12
+decreases-names::read_nested_name l = 16 * l.depth + 13
 
 abbrev pub decreases-names::read_first : goal.decreases-names::read_first
 decreases-names::read_first l = 16 * l.depth + 9
@@ -62,14 +78,8 @@ decreases-names::read_next l = 16 * l.depth + 8
 abbrev pub decreases-names::read_component : goal.decreases-names::read_component
 decreases-names::read_component l = 16 * l.depth + 7
 
-abbrev pub decreases-names::read_other_component : goal.decreases-names::read_other_component
-decreases-names::read_other_component l = 16 * l.depth + 6
-
 abbrev pub decreases-names::read_more_args : goal.decreases-names::read_more_args
-decreases-names::read_more_args l = 16 * l.depth + 5
-
-abbrev pub decreases-names::read_inherited_ctor : goal.decreases-names::read_inherited_ctor
-decreases-names::read_inherited_ctor l = 16 * l.depth + 1
+decreases-names::read_more_args l = 16 * l.depth + 6
 
 abbrev pub decreases-types::read_type : goal.decreases-types::read_type
 decreases-types::read_type l = 16 * l.depth + 0
@@ -115,9 +125,10 @@ decreases-items::read_item l = 16 * l.depth + 1
 
 abbrev pub invariant-items::read_items-loop-items : goal.invariant-items::read_items-loop-items
 invariant-items::read_items-loop-items l = record {
-  reads : ListSoFar (parse_list (ends l.items) (item_of l.items (productions l.depth)) (state l.fn.reader)) (ends l.items) (item_of l.items (productions l.depth)) (trees_behind (length l.fn.reader.arena.pending) l.reader.arena) (state l.reader);
-  below : AllByRecursion (IsNode l.reader.arena) (drop (length l.fn.reader.arena.pending) l.reader.arena.pending);
-  keeps : KeepsFront l.fn.reader l.reader;
+  reads : SoFar (items_after (trees_behind l.from l.fn.reader.arena) (ends l.items) (item_of l.items (productions l.depth)) (state l.fn.reader))
+      (ends l.items) (item_more (item_of l.items (productions l.depth))) (trees_behind l.from l.reader.arena) (state l.reader);
+  below : AllByRecursion (IsNode l.reader.arena) (drop l.from l.reader.arena.pending);
+  keeps : KeepsFront l.from l.fn.reader l.reader;
 }
 
 abbrev pub decreases-items::read_items-loop-items : goal.decreases-items::read_items-loop-items
@@ -125,7 +136,8 @@ decreases-items::read_items-loop-items l = length l.reader.rest.now
 
 abbrev pub invariant-names::read_components-loop-reader : goal.invariant-names::read_components-loop-reader
 invariant-names::read_components-loop-reader l = record {
-  reads : ComponentsSoFar (parse_rest (productions l.depth) (named_at l.fn.reader.arena l.fn.name) (state l.fn.reader)) (productions l.depth) (named_at l.reader.arena l.last) (state l.reader);
+  reads : SoFar (repeat is_e (parse_next (productions l.depth)) (named_at l.initial.reader.arena l.initial.last) (state l.initial.reader))
+      is_e (parse_next (productions l.depth)) (named_at l.reader.arena l.last) (state l.reader);
   named : IsNamed l.reader.arena l.last;
   keeps : Keeps l.fn.reader l.reader;
 }

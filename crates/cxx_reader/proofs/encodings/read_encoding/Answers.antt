@@ -2,10 +2,10 @@ use Rattle.std.proofs.Common.{◌≡◌, ◌∙◌, refl, sym, subst, arith}
 use Rattle.cxx_tree.specs.Stored.{stands}
 use Rattle.cxx_grammar.specs.State.{LearnedName}
 use Rattle.cxx_grammar.specs.Binds.{bind_encoding}
-use Rattle.cxx_grammar.specs.Grammar.{productions}
+use Rattle.cxx_grammar.specs.Symbol.{productions}
 use Rattle.cxx_reader.specs.Outcome.{state, Gives, named_at}
 use Rattle.cxx_reader.proofs.Opens.{encoding_opens}
-use Rattle.cxx_reader.proofs.Heads.{named_stays}
+use Rattle.cxx_reader.proofs.Kept.{named_stays}
 use Rattle.cxx_reader.proofs.encodings.read_encoding.Goals as goal
 
 pub returns-clause-reads : goal.returns-clause-reads

@@ -2,11 +2,12 @@ use Rattle.std.proofs.Common.{◌≡◌, Some, sym, subst}
 use Rattle.cxx_tree.specs.Stored.{Store, stands}
 use Rattle.cxx_tree.specs.Kept.{IsNode}
 use Rattle.cxx_reader.specs.Outcome.{state, named_at}
-use Rattle.cxx_reader.specs.Unbound.{IsUnbound, bind_counted}
+use Rattle.cxx_grammar.specs.Binds.{bind_encoding, bind_counted}
+use Rattle.cxx_reader.specs.Unbound.{IsUnbound}
 use Rattle.cxx_reader.proofs.reader.Reader.bind.Goals as goal
 
 pub returns-then-is_unbound-clause-reads : goal.returns-then-is_unbound-clause-reads
-unfolding IsUnbound
+unfolding IsUnbound bind_encoding
 returns-then-is_unbound-clause-reads c =
     let after = c.count_replaced.new.self in
     let same = c.count_replaced.ensures.arena in (

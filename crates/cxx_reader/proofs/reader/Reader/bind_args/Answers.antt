@@ -1,7 +1,6 @@
 use Rattle.std.proofs.Common.{ℕ, ◌≡◌, ◌+◌, List, [], ◌∷◌, ◌++◌, ◌∙◌, length, map, drop, take, sym, ap, subst, arith, Some, Ok, length-append}
 use Rattle.cxx_tree.specs.Tree.{Tree}
 use Rattle.cxx_tree.specs.Kept.{KeepsNodes}
-use Rattle.cxx_tree.specs.Stored.{trees_from_list}
 use Rattle.cxx_tree.proofs.Forest.{same-forest}
 use Rattle.cxx_tree.proofs.Grown.{nodes-trans, nodes-same, saved-same}
 use Rattle.cxx_grammar.specs.State.{State}
@@ -11,7 +10,7 @@ use Rattle.cxx_tree.specs.Stored.{stands}
 use Rattle.cxx_reader.specs.Outcome.{state, GivesFrom, list_trees}
 use Rattle.cxx_reader.proofs.Kept.{stands-same, IsNode-same}
 use Rattle.cxx_reader.proofs.Lists.{take-push, one-more, one-more-below}
-use Rattle.cxx_reader.proofs.Bound.{BoundSoFar, bound_end, bound_more, bound_stop, list_below-keeps, next_arg, no_arg}
+use Rattle.cxx_reader.proofs.Bound.{BoundSoFar, listed, bound_end, bound_more, bound_stop, list_below-keeps, next_arg, no_arg}
 use Rattle.cxx_reader.proofs.reader.Reader.bind_args.Goals as goal
 
 pub item-arg-requires-clause-list : goal.item-arg-requires-clause-list
@@ -24,7 +23,7 @@ returns-in-Err-clause-reads c =
     let a = c.args.self.now.arena in
     let bound = map (stands r.arena) (drop c.pending_len-from.result r.arena.pending) in
     let next = next_arg a r.arena inv.grows c.args.args c.requires.args c.loop-k.k c.item-arg.result c.item-arg.ensures.value in
-    let so_far = subst (λ (ts : List Tree). BoundSoFar (bind_args c.args.is_inherited [] (trees_from_list (list_trees a c.args.args)) (state c.args.self.now)) c.args.is_inherited bound ts (state r)) next inv.reads in
+    let so_far = subst (λ (ts : List Tree). BoundSoFar (bind_args c.args.is_inherited [] (list_trees a c.args.args) (state c.args.self.now)) c.args.is_inherited bound ts (state r)) next inv.reads in
     bound_stop c.in-Err.error (length a.pending) c.bind_arg.new.self so_far (c.in-Err.ensures {u = tt}).reads
 
 pub loop-k-preserved : goal.loop-k-preserved
@@ -50,9 +49,9 @@ loop-k-preserved c =
     let parsed : bind_arg c.args.is_inherited bound arg (state r) ≡ Some (stands b i, state after) =
     read.reads.1 ∙ ap (λ (u : Tree). Some (u, state mid)) (sym same) ∙ ap (λ (s : State). Some (stands b i, s)) state-after in
     let next = next_arg first a inv.grows c.args.args c.requires.args c.loop-k.k c.item-arg.result c.item-arg.ensures.value in
-    let so_far = subst (λ (ts : List Tree). BoundSoFar (bind_args c.args.is_inherited [] (trees_from_list (list_trees first c.args.args)) (state c.args.self.now)) c.args.is_inherited bound ts (state r)) next inv.reads in
+    let so_far = subst (λ (ts : List Tree). BoundSoFar (bind_args c.args.is_inherited [] (list_trees first c.args.args) (state c.args.self.now)) c.args.is_inherited bound ts (state r)) next inv.reads in
     record {
-      reads = subst (λ (ts : List Tree). BoundSoFar (bind_args c.args.is_inherited [] (trees_from_list (list_trees first c.args.args)) (state c.args.self.now)) c.args.is_inherited ts (drop (c.loop-k.k + 1) (list_trees first c.args.args)) (state after))
+      reads = subst (λ (ts : List Tree). BoundSoFar (bind_args c.args.is_inherited [] (list_trees first c.args.args) (state c.args.self.now)) c.args.is_inherited ts (drop (c.loop-k.k + 1) (listed first c.args.args)) (state after))
           (sym (one-more a b from i grows inv.below inv.long pushed)) (bound_more so_far parsed);
       from = inv.from;
       len = inv.len;
@@ -69,6 +68,6 @@ returns-clause-reads c =
     let r = c.loop-k.self in
     let first = c.args.self.now.arena in
     let none = no_arg first c.args.args c.loop-k.k (omega (arith, inv.len, c.loop-k-test.false)) in
-    let so_far = subst (λ (ts : List Tree). BoundSoFar (bind_args c.args.is_inherited [] (trees_from_list (list_trees first c.args.args)) (state c.args.self.now)) c.args.is_inherited (map (stands r.arena) (drop c.pending_len-from.result r.arena.pending)) ts (state r)) none inv.reads in
-    subst (λ (n : ℕ). GivesFrom (Ok tt) n r (bind_args c.args.is_inherited [] (trees_from_list (list_trees first c.args.args)) (state c.args.self.now))) inv.from
+    let so_far = subst (λ (ts : List Tree). BoundSoFar (bind_args c.args.is_inherited [] (list_trees first c.args.args) (state c.args.self.now)) c.args.is_inherited (map (stands r.arena) (drop c.pending_len-from.result r.arena.pending)) ts (state r)) none inv.reads in
+    subst (λ (n : ℕ). GivesFrom (Ok tt) n r (bind_args c.args.is_inherited [] (list_trees first c.args.args) (state c.args.self.now))) inv.from
     (inv.below, bound_end so_far)

@@ -1,4 +1,4 @@
-use Rattle.std.proofs.Common.{◌∙◌, sym}
+use Rattle.std.proofs.Common.{refl}
 use Rattle.cxx_reader.specs.declared.reader.Reader.{Reader}
 use Rattle.cxx_reader.proofs.Kept.{gives_made}
 use Rattle.cxx_reader.proofs.reader.Reader.read_d_builtin.Goals as goal
@@ -7,6 +7,4 @@ pub returns-then-skip_letter-clause-reads : goal.returns-then-skip_letter-clause
 returns-then-skip_letter-clause-reads c =
     let r = c.skip_letter.new.self in
     let after : Reader = record { rest = r.rest; arena = c.make_leaf.new.self; replaced = r.replaced; alloc = r.alloc } in
-    let is = sym c.skip_letter.ensures.value ∙ c.if-skip_letter.true in
-    let same = rw is at c.skip_letter.ensures.state in
-    rw is (gives_made _ after _ _ _ c.make_leaf.ensures.makes (sym same))
+    rw (c.skip_letter.ensures.reads, c.if-skip_letter.true) (gives_made _ after _ _ _ c.make_leaf.ensures.makes refl)

@@ -1,0 +1,66 @@
+-- Template arguments and literals (Itanium C++ ABI 5.1.5.10, 5.1.6.1).
+use Rattle.cxx_tree.specs.Tree.{Tree, Trees, listed, with_args}
+use Rattle.cxx_tree.specs.Stored.{trees_from_list}
+use Rattle.cxx_tree.specs.Phrases.{typed_literal}
+use Rattle.cxx_grammar.specs.declared.cases.ArgCase.{ArgCase}
+use Rattle.cxx_grammar.specs.declared.cases.ArgCase.TheVariants as arg
+use Rattle.cxx_grammar.specs.declared.cases.LiteralCase.{LiteralCase}
+use Rattle.cxx_grammar.specs.declared.cases.LiteralCase.TheVariants as literal
+use Rattle.cxx_grammar.specs.Parses.{Parses, ◌>>=◌, ◌>>◌, ◌<$>◌, pure, refused, past, by, if_next, items_to_e, make}
+use Rattle.cxx_grammar.specs.Cases.{case_of_arg, case_of_literal}
+use Rattle.cxx_grammar.specs.Leaves.{parse_number_end, parse_bool, parse_null, parse_integer}
+use Rattle.cxx_grammar.specs.Productions.{Productions}
+
+-- <template-arg>* E, after a letter
+unfoldable pub parse_list : Productions → Parses Trees
+parse_list p = do
+  past 1
+  trees_from_list <$> items_to_e p.arg
+
+-- <template-args> ::= I <template-arg>* E
+abbrev pub parse_args : Productions → Parses Trees
+parse_args p = if_next "I" (parse_list p) refused
+
+-- a name with its arguments
+abbrev pub parse_with_args : Productions → Tree → Parses Tree
+parse_with_args p name = do
+  args ← parse_args p
+  make (with_args name args)
+
+-- J <template-arg>* E
+abbrev pub parse_pack : Productions → Parses Tree
+parse_pack p = do
+  args ← parse_list p
+  make (listed args)
+
+-- <type> <number> E
+abbrev pub parse_typed : Productions → Parses Tree
+parse_typed p = do
+  t ← p.type
+  value ← parse_number_end
+  make (typed_literal t value)
+
+unfoldable pub literal_as : Productions → LiteralCase → Parses Tree
+literal_as p literal.Bool = parse_bool
+literal_as p literal.Null = parse_null
+literal_as p literal.Integer = parse_integer
+literal_as p literal.Unread = refused
+literal_as p literal.Typed = parse_typed p
+
+-- <expr-primary> ::= L <type> <value number> E
+--                ::= L <nullptr type> E | L <nullptr type> 0 E
+abbrev pub parse_literal : Productions → Parses Tree
+parse_literal p = do
+  past 1
+  by case_of_literal (literal_as p)
+
+unfoldable pub arg_as : Productions → ArgCase → Parses Tree
+arg_as p arg.Pack = parse_pack p
+arg_as p arg.Literal = parse_literal p
+arg_as p arg.Type = p.type
+
+-- <template-arg> ::= <type>
+--                ::= <expr-primary>
+--                ::= J <template-arg>* E
+abbrev pub parse_arg : Productions → Parses Tree
+parse_arg p = by case_of_arg (arg_as p)

@@ -1,0 +1,242 @@
+-- Names (Itanium C++ ABI 5.1.2 and 5.1.3).
+use Rattle.std.specs.Prelude.{Bool, true, false, not, codes, Option, Some, None, if◌then◌else◌}
+use Rattle.cxx_tree.specs.Tree.{Tree, scoped}
+use Rattle.cxx_tree.specs.Phrases.{ctor_dtor}
+use Rattle.cxx_grammar.specs.declared.cases.NameCase.{NameCase}
+use Rattle.cxx_grammar.specs.declared.cases.NameCase.TheVariants as name_case
+use Rattle.cxx_grammar.specs.declared.cases.FirstCase.{FirstCase}
+use Rattle.cxx_grammar.specs.declared.cases.FirstCase.TheVariants as first
+use Rattle.cxx_grammar.specs.declared.cases.ComponentCase.{ComponentCase}
+use Rattle.cxx_grammar.specs.declared.cases.ComponentCase.TheVariants as component
+use Rattle.cxx_grammar.specs.declared.cases.BaseCase.{BaseCase}
+use Rattle.cxx_grammar.specs.declared.cases.BaseCase.TheVariants as base
+use Rattle.cxx_grammar.specs.State.{Info, LearnedName, no_info, info_of, plain}
+use Rattle.cxx_grammar.specs.Parses.{Parses, ◌>>=◌, ◌>>◌, ◌<$>◌, pure, check, given, past, expect, optional, by, if_next, repeat, is_e, make, save}
+use Rattle.cxx_grammar.specs.Cases.{case_of_name, case_of_first, case_of_component, case_of_base}
+use Rattle.cxx_grammar.specs.Bases.{base_name, args_of, is_with_args, is_param, expand}
+use Rattle.cxx_grammar.specs.Leaves.{make_word, parse_source_name, parse_prefixed, parse_operator, parse_substitution, parse_template_param, parse_cv, parse_ref}
+use Rattle.cxx_grammar.specs.Productions.{Productions}
+use Rattle.cxx_grammar.specs.Args.{parse_with_args}
+
+-- where an <unqualified-name> stands
+pub record Place : Type 0 where
+  pub scope : Option Tree
+  -- it is a component of a <nested-name>
+  pub is_nested : Bool
+  -- what is learned of the name by what stands in front of it
+  pub info : Info
+
+-- a name without its scope, and the scope that it has
+pub record Part : Type 0 where
+  pub tree : Tree
+  pub scope : Option Tree
+  pub info : Info
+
+-- Unqualified names.
+
+-- <operator-name> ::= nw | na | dl | ..
+--                 ::= li <source-name>
+--                 ::= v <digit> <source-name>
+unfoldable pub base_as : BaseCase → Parses Tree
+base_as base.Source = parse_source_name
+base_as base.Literal = parse_prefixed 2 (codes "operator\"\" ")
+base_as base.Vendor = parse_prefixed 2 (codes "operator ")
+base_as base.Operator = parse_operator
+
+abbrev pub parse_base : Parses Tree
+parse_base = by case_of_base base_as
+
+-- a name that is no constructor
+abbrev pub parse_base_part : Place → Parses Part
+parse_base_part place = do
+  t ← parse_base
+  pure (record { tree = t; scope = place.scope; info = place.info })
+
+-- A constructor has a class: a scope that is no template parameter.
+unfoldable pub parse_class_of : Place → Parses Tree
+parse_class_of place = do
+  check place.is_nested
+  class ← given place.scope
+  check (not (is_param class))
+  pure (expand class)
+
+-- the constructor or the destructor of a class
+abbrev pub make_ctor : Tree → Bool → Info → Parses Part
+make_ctor class is_destructor info = do
+  t ← make (ctor_dtor (base_name class) is_destructor)
+  pure (record { tree = t; scope = Some class; info = record info { no_return = true } })
+
+-- C1 | C2 | C3 | D0 | D1 | D2 | ..
+abbrev pub parse_ctor : Place → Bool → Parses Part
+parse_ctor place is_destructor = do
+  past 2
+  class ← parse_class_of place
+  make_ctor class is_destructor place.info
+
+-- CI1 <name> | CI2 <name>
+abbrev pub parse_inherited_ctor : Productions → Place → Parses Part
+parse_inherited_ctor p place = do
+  past 3
+  class ← parse_class_of place
+  from ← p.name
+  make_ctor class false (record place.info { inherited = args_of from.tree })
+
+unfoldable pub part_as : Productions → Place → ComponentCase → Parses Part
+part_as p place component.Ctor = parse_ctor place false
+part_as p place component.InheritedCtor = parse_inherited_ctor p place
+part_as p place component.Dtor = parse_ctor place true
+part_as p place component.Unqualified = parse_base_part place
+
+abbrev pub make_in_scope : Option Tree → Tree → Parses Tree
+make_in_scope None t = pure t
+make_in_scope (Some scope) t = make (scoped false scope t)
+
+abbrev pub scoped_part : Part → Parses LearnedName
+scoped_part part = do
+  t ← make_in_scope part.scope part.tree
+  pure (record { tree = t; info = part.info })
+
+-- <unqualified-name> ::= [L] <operator-name>
+--                    ::= [L] <ctor-dtor-name>
+--                    ::= [L] <source-name>
+-- L is the mark of internal linkage, which prints nothing
+unfoldable pub parse_unqualified_name : Productions → Place → Parses LearnedName
+parse_unqualified_name p place = do
+  optional "L"
+  part ← by case_of_component (part_as p place)
+  scoped_part part
+
+-- Names outside of a <nested-name>.
+
+abbrev pub unscoped : Option Tree → Place
+unscoped scope = record { scope = scope; is_nested = false; info = no_info }
+
+-- a name with arguments
+unfoldable pub parse_named_args : Productions → LearnedName → Parses LearnedName
+parse_named_args p n = do
+  t ← parse_with_args p n.tree
+  pure (record { tree = t; info = record n.info { ends_with_args = true } })
+
+abbrev pub parse_saved_args : Productions → LearnedName → Parses LearnedName
+parse_saved_args p n = do
+  save n.tree
+  parse_named_args p n
+
+-- <unscoped-name> [<template-args>], where the name is saved in front of arguments
+unfoldable pub parse_in_place : Productions → Place → Parses LearnedName
+parse_in_place p place = do
+  n ← parse_unqualified_name p place
+  if_next "I" (parse_saved_args p n) (pure n)
+
+-- <substitution> <template-args>
+abbrev pub parse_substituted : Productions → Parses LearnedName
+parse_substituted p = do
+  t ← parse_substitution
+  parse_named_args p (plain t)
+
+-- St <unqualified-name>
+abbrev pub parse_std_name : Productions → Parses LearnedName
+parse_std_name p = do
+  past 2
+  std ← make_word "std"
+  parse_in_place p (unscoped (Some std))
+
+-- Nested names.
+
+-- [<CV-qualifiers>] [<ref-qualifier>]
+unfoldable pub parse_info : Parses Info
+parse_info = do
+  cv ← parse_cv
+  ref ← parse_ref
+  pure (info_of cv ref)
+
+-- a component in a scope
+abbrev pub nested_in : LearnedName → Place
+nested_in q = record { scope = Some q.tree; is_nested = true; info = record q.info { ends_with_args = false } }
+
+-- the first component
+abbrev pub nested_first : Info → Place
+nested_first info = record { scope = None; is_nested = true; info = info }
+
+-- <template-args> of a name that has none yet
+abbrev pub parse_more_args : Productions → LearnedName → Parses LearnedName
+parse_more_args p q = do
+  check (not (is_with_args q.tree))
+  parse_named_args p q
+
+-- a component that isn't the first
+unfoldable pub parse_component : Productions → LearnedName → Parses LearnedName
+parse_component p q = if_next "I" (parse_more_args p q) (parse_unqualified_name p (nested_in q))
+
+abbrev pub with_info : Info → Tree → LearnedName
+with_info info t = record { tree = t; info = info }
+
+-- St and a substitution are no components: another one follows, and they aren't saved
+abbrev pub first_std : Productions → Info → Parses LearnedName
+first_std p info = do
+  past 2
+  std ← make_word "std"
+  parse_component p (with_info info std)
+
+abbrev pub first_substitution : Productions → Info → Parses LearnedName
+first_substitution p info = do
+  t ← parse_substitution
+  parse_component p (with_info info t)
+
+abbrev pub first_param : Info → Parses LearnedName
+first_param info = with_info info <$> parse_template_param
+
+unfoldable pub first_as : Productions → Info → FirstCase → Parses LearnedName
+first_as p info first.Std = first_std p info
+first_as p info first.Substitution = first_substitution p info
+first_as p info first.Param = first_param info
+first_as p info first.Unqualified = parse_unqualified_name p (nested_first info)
+
+abbrev pub parse_first : Productions → Info → Parses LearnedName
+parse_first p info = by case_of_first (first_as p info)
+
+-- The component so far is saved, and the next one is read, with its M: an old mark of data members.
+unfoldable pub parse_next : Productions → LearnedName → Parses LearnedName
+parse_next p q = do
+  save q.tree
+  n ← parse_component p q
+  optional "M"
+  pure n
+
+-- what follows the first component
+unfoldable pub parse_components : Productions → LearnedName → Parses LearnedName
+parse_components p n = do
+  optional "M"
+  last ← repeat is_e (parse_next p) n
+  expect "E"
+  pure last
+
+-- <nested-name> ::= N [<CV-qualifiers>] [<ref-qualifier>] <prefix> <unqualified-name> E
+--               ::= N [<CV-qualifiers>] [<ref-qualifier>] <template-prefix> <template-args> E
+-- <prefix> ::= <unqualified-name>
+--          ::= <prefix> <unqualified-name>
+--          ::= <template-prefix> <template-args>
+--          ::= <template-param>
+--          ::= <substitution>
+--          ::= <prefix> M
+abbrev pub parse_nested_name : Productions → Parses LearnedName
+parse_nested_name p = do
+  past 1
+  info ← parse_info
+  n ← parse_first p info
+  parse_components p n
+
+unfoldable pub name_as : Productions → NameCase → Parses LearnedName
+name_as p name_case.Nested = parse_nested_name p
+name_as p name_case.Std = parse_std_name p
+name_as p name_case.Substitution = parse_substituted p
+name_as p name_case.Unqualified = parse_in_place p (unscoped None)
+
+-- <name> ::= <nested-name>
+--        ::= <unscoped-name>
+--        ::= <unscoped-template-name> <template-args>
+-- <unscoped-name> ::= [St] <unqualified-name>
+-- <unscoped-template-name> ::= <unscoped-name>
+--                          ::= <substitution>
+abbrev pub parse_name : Productions → Parses LearnedName
+parse_name p = by case_of_name (name_as p)

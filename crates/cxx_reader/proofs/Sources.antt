@@ -1,0 +1,58 @@
+-- Source names that are read together with their scope.
+use Rattle.std.proofs.Common.{ℕ, ◌≡◌, List, [], ◌∷◌, refl, ◌∙◌, arith, Option, Some, None, true, false, Bool}
+use Rattle.std.proofs.lemmas.Grind.{common_steps}
+use Rattle.std.specs.Prelude.{if◌then◌else◌, codes}
+use Rattle.abi_scalars.specs.Bytes.{begins}
+use Rattle.abi_scalars.specs.Texts.{identifier, begins_source}
+use Rattle.abi_scalars.specs.Scalars.{source_text}
+use Rattle.cxx_tree.specs.Tree.{Tree, named, scoped}
+use Rattle.cxx_tree.specs.Measure.{measure}
+use Rattle.cxx_tree.proofs.InScope.{name-limit}
+use Rattle.cxx_grammar.specs.declared.cases.BaseCase.TheVariants as base
+use Rattle.cxx_grammar.specs.declared.cases.ComponentCase.TheVariants as component
+use Rattle.cxx_grammar.specs.State.{State, Info, LearnedName}
+use Rattle.cxx_grammar.specs.Parses.{Parses, ◌>>=◌, ◌>>◌, and_then, pure, given, with_rest, make, past_word_if}
+use Rattle.cxx_grammar.specs.Cases.{case_of_component, case_of_base}
+use Rattle.cxx_grammar.specs.Leaves.{parse_source_name}
+use Rattle.cxx_grammar.specs.Names.{Place, Part, parse_unqualified_name, part_as, base_as, make_in_scope, scoped_part}
+use Rattle.cxx_grammar.specs.Productions.{Productions}
+use Rattle.cxx_reader.specs.Sources.{source_in, parse_source_at}
+
+no_mark : (s : State) → begins_source s.rest ≡ true → past_word_if (codes "L") s ≡ Some (false, s)
+unfolding past_word_if
+no_mark s e = go s.rest e
+  where
+    go : (bytes : List ℕ) → begins_source bytes ≡ true → past_word_if (codes "L") (with_rest bytes s) ≡ Some (false, with_rest bytes s)
+    go [] f = absurd (let g = f in cc)
+    go (b ∷ bytes) f = grind (arith, common_steps)
+
+unqualified : (bytes : List ℕ) → begins_source bytes ≡ true → case_of_component bytes ≡ component.Unqualified
+unqualified [] e = refl
+unqualified (b ∷ bytes) e = grind (arith, common_steps)
+
+source : (bytes : List ℕ) → begins_source bytes ≡ true → case_of_base bytes ≡ base.Source
+source bytes e = rw e refl
+
+abbrev at : Option Tree → Bool → Info → Place
+at scope is_nested info = record { scope = scope; is_nested = is_nested; info = info }
+
+source_at : (p : Productions) (scope : Option Tree) (is_nested : Bool) (info : Info) (s : State) → begins_source s.rest ≡ true
+    → (o : Option (List ℕ × List ℕ)) → identifier s.rest ≡ o → parse_unqualified_name p (at scope is_nested info) s ≡ parse_source_at (at scope is_nested info) s
+unfolding parse_unqualified_name part_as base_as
+source_at p None is_nested info s e None f = rw (no_mark s e, unqualified s.rest e, source s.rest e, f) refl
+source_at p (Some scope) is_nested info s e None f = rw (no_mark s e, unqualified s.rest e, source s.rest e, f) refl
+source_at p None is_nested info s e (Some n) f = go (measure (named (source_text n.0))).fits refl
+  where
+    go : (fits : Bool) → (measure (named (source_text n.0))).fits ≡ fits → parse_unqualified_name p (at None is_nested info) s ≡ parse_source_at (at None is_nested info) s
+    go true g = rw (no_mark s e, unqualified s.rest e, source s.rest e, f, g) refl
+    go false g = rw (no_mark s e, unqualified s.rest e, source s.rest e, f, g) refl
+source_at p (Some scope) is_nested info s e (Some n) f = go (measure (named (source_text n.0))).fits refl
+  where
+    go : (fits : Bool) → (measure (named (source_text n.0))).fits ≡ fits
+        → parse_unqualified_name p (at (Some scope) is_nested info) s ≡ parse_source_at (at (Some scope) is_nested info) s
+    go true g = rw (no_mark s e, unqualified s.rest e, source s.rest e, f, g) refl
+    go false g = rw (no_mark s e, unqualified s.rest e, source s.rest e, f, g, name-limit scope (named (source_text n.0)) g) refl
+
+-- an <unqualified-name> that is a source name
+pub source_named : (p : Productions) (place : Place) (s : State) → begins_source s.rest ≡ true → parse_unqualified_name p place s ≡ parse_source_at place s
+source_named p place s e = source_at p place.scope place.is_nested place.info s e (identifier s.rest) refl
