@@ -8,61 +8,60 @@ use Rattle.std.specs.Prelude.{min, ◌≤◌}
 use Rattle.abi_scalars.specs.Symbol.{after_prefix}
 use Rattle.cxx_tree.specs.Tree.{Tree}
 use Rattle.cxx_tree.specs.Stored.{Store, IsWithin, size, saved_trees, stands}
-use Rattle.cxx_grammar.specs.State.{State}
-use Rattle.cxx_grammar.specs.Grammar.{parse_encoding}
-use Rattle.cxx_reader.proofs.Options.{some_same}
+use Rattle.cxx_grammar.specs.State.{State, start}
+use Rattle.cxx_grammar.specs.Symbol.{productions, max_depth, parse_inside, parse_symbol, whole}
 use Rattle.cxx_demangle.specs.declared.demangler.Printing.{Printing}
-use Rattle.cxx_demangle.specs.Answer.{start, max_depth, IsWhole, Reads, IsText, text_of, HasAnswer, HasNoAnswer, HasAtMostOneReading, HasBounds, IsAnswer, limit_of}
+use Rattle.cxx_demangle.specs.Answer.{Reads, IsText, text_of, HasAnswer, HasNoAnswer, HasAtMostOneReading, HasBounds, IsAnswer, limit_of}
 use Rattle.cxx_demangle.specs.Demangler.{answer_of}
 
--- all bytes are read
-pub whole_read : (bytes : List ℕ) (t : Tree) (end : State) → parse_encoding max_depth (start bytes) ≡ Some (t, end) → end.rest ≡ [] → IsWhole bytes t
-whole_read bytes t end e f = record { end = end; reading = e; all = f }
+abbrev pub parse_front : List ℕ → Option (Tree × State)
+parse_front bytes = (productions max_depth).encoding (start bytes)
 
--- what the parser gives of an encoding that is there
-parsed : {bytes : List ℕ} {u : Tree} (w : IsWhole bytes u) → parse_encoding max_depth (start bytes) ≡ Some (u, w.end)
-parsed w = w.reading
+-- all bytes are read
+pub whole_read : (bytes : List ℕ) (t : Tree) (end : State) → parse_front bytes ≡ Some (t, end) → end.rest ≡ [] → parse_inside bytes ≡ Some t
+whole_read bytes t end e f = rw (e, f) refl
 
 -- nothing is read
-pub none_read : (bytes : List ℕ) → parse_encoding max_depth (start bytes) ≡ None → (u : Tree) → IsWhole bytes u → ⊥
-none_read bytes e u w = let f = parsed w in absurd cc
+pub none_read : (bytes : List ℕ) → parse_front bytes ≡ None → parse_inside bytes ≡ None
+none_read bytes e = rw e refl
+
+left_over : (t : Tree) (end : State) (rest : List ℕ) → end.rest ≡ rest → rest ≢ [] → whole (Some (t, end)) ≡ None
+left_over t end [] e f = absurd (f refl)
+left_over t end (b ∷ bytes) e f = rw e refl
 
 -- some bytes aren't read
-pub some_left : (bytes : List ℕ) (t : Tree) (end : State) → parse_encoding max_depth (start bytes) ≡ Some (t, end) → end.rest ≢ [] → (u : Tree) → IsWhole bytes u → ⊥
-some_left bytes t end e f u w =
-    let g = some_same (t, end) (u, w.end) (sym e ∙ parsed w) in
-    f (ap (λ (r : Tree × State). r.1.rest) g ∙ w.all)
+pub some_left : (bytes : List ℕ) (t : Tree) (end : State) → parse_front bytes ≡ Some (t, end) → end.rest ≢ [] → parse_inside bytes ≡ None
+some_left bytes t end e f = rw e (left_over t end end.rest refl f)
 
--- one encoding at most
-pub one_whole : {bytes : List ℕ} {t u : Tree} → IsWhole bytes t → IsWhole bytes u → t ≡ u
-one_whole {t = t} {u = u} v w = ap (λ (r : Tree × State). r.0) (some_same (t, v.end) (u, w.end) (sym (parsed v) ∙ parsed w))
-
-pub whole_of : {symbol inside : List ℕ} {t : Tree} → after_prefix symbol ≡ Some inside → Reads symbol t → IsWhole inside t
-whole_of {t = t} e r = subst (λ (bytes : List ℕ). IsWhole bytes t) (some_same _ _ (sym r.prefix ∙ e)) r.encoding
+some_same : {A : Type 0} (x y : A) → Some x ≡ Some y → x ≡ y
+some_same x y e = let g = e in cc
 
 pub one_reading : (symbol : List ℕ) → HasAtMostOneReading symbol
-one_reading symbol = record { agree = λ (t u : Tree) (r : Reads symbol t) (s : Reads symbol u). one_whole r.encoding (whole_of r.prefix s) }
+one_reading symbol = record { agree = λ (t u : Tree) (r : Reads symbol t) (s : Reads symbol u). some_same t u (sym r ∙ s) }
+
+-- the symbol isn't read
+pub no_reading : (printing : Printing) (symbol : List ℕ) → parse_symbol symbol ≡ None → HasNoAnswer printing symbol
+no_reading printing symbol e t r f = absurd cc
 
 -- no prefix
 pub no_prefix : (printing : Printing) (symbol : List ℕ) → after_prefix symbol ≡ None → HasNoAnswer printing symbol
-no_prefix printing symbol e t r f = let p = r.prefix in absurd cc
+no_prefix printing symbol e = no_reading printing symbol (rw e refl)
 
 -- no encoding
-pub no_encoding : (printing : Printing) (symbol inside : List ℕ) → after_prefix symbol ≡ Some inside → ((t : Tree) → IsWhole inside t → ⊥) → HasNoAnswer printing symbol
-no_encoding printing symbol inside e none t r f = none t (whole_of e r)
+pub no_encoding : (printing : Printing) (symbol inside : List ℕ) → after_prefix symbol ≡ Some inside → parse_inside inside ≡ None → HasNoAnswer printing symbol
+no_encoding printing symbol inside e none = no_reading printing symbol (rw (e, none) refl)
 
 -- a printing that may be an answer
-pub has_answer : (printing : Printing) (symbol inside : List ℕ) (t : Tree) (text : List ℕ) → after_prefix symbol ≡ Some inside → IsWhole inside t → text ≡ text_of printing t → IsText text → HasAnswer printing symbol text
-has_answer printing symbol inside t text e w is good = record { tree = t; reads = record { inside = inside; prefix = e; encoding = w }; is = is; text = good }
+pub has_answer : (printing : Printing) (symbol : List ℕ) (t : Tree) (text : List ℕ) → Reads symbol t → text ≡ text_of printing t → IsText text → HasAnswer printing symbol text
+has_answer printing symbol t text reads is good = record { tree = t; reads = reads; is = is; text = good }
 
 -- and one that may not
-pub no_answer : (printing : Printing) (symbol inside : List ℕ) (t : Tree) (text : List ℕ) → after_prefix symbol ≡ Some inside → IsWhole inside t → text ≡ text_of printing t → ¬ (IsText text) → HasNoAnswer printing symbol
-no_answer printing symbol inside t text e w is bad u r good =
-    bad (subst IsText (ap (text_of printing) (one_whole (whole_of e r) w) ∙ sym is) good)
+pub no_answer : (printing : Printing) (symbol : List ℕ) (t : Tree) (text : List ℕ) → Reads symbol t → text ≡ text_of printing t → ¬ (IsText text) → HasNoAnswer printing symbol
+no_answer printing symbol t text reads is bad u r good = bad (subst IsText (ap (text_of printing) ((one_reading symbol).agree u t r reads) ∙ sym is) good)
 
 -- a demangler begins with nothing saved
-pub started : {x : Option (Tree × State)} (bytes : List ℕ) (saved : List Tree) → saved ≡ [] → parse_encoding max_depth (record { rest = bytes; saved = saved; replaced = 0 }) ≡ x → parse_encoding max_depth (start bytes) ≡ x
-started bytes saved e f = ap (λ (ts : List Tree). parse_encoding max_depth (record { rest = bytes; saved = ts; replaced = 0 })) (sym e) ∙ f
+pub started : {x : Option (Tree × State)} (bytes : List ℕ) (saved : List Tree) → saved ≡ [] → (productions max_depth).encoding (record { rest = bytes; saved = saved; replaced = 0 }) ≡ x → parse_front bytes ≡ x
+started bytes saved e f = ap (λ (ts : List Tree). (productions max_depth).encoding (record { rest = bytes; saved = ts; replaced = 0 })) (sym e) ∙ f
 
 pub no_bytes : (xs : List ℕ) → length xs ≡ 0 → xs ≡ []
 no_bytes [] h = refl
@@ -72,10 +71,10 @@ pub some_bytes : (xs : List ℕ) → length xs ≢ 0 → xs ≢ []
 some_bytes xs h e = h (ap length e)
 
 -- the answer, after the test of the text
-pub answered : (printing : Printing) (symbol inside : List ℕ) (t : Tree) (text : List ℕ) → after_prefix symbol ≡ Some inside → IsWhole inside t → text ≡ text_of printing t
+pub answered : (printing : Printing) (symbol inside : List ℕ) (t : Tree) (text : List ℕ) → after_prefix symbol ≡ Some inside → parse_inside inside ≡ Some t → text ≡ text_of printing t
     → (is_answer : Bool) → (is_answer ≡ true → IsText text) → (is_answer ≡ false → ¬ (IsText text)) → IsAnswer printing symbol (answer_of is_answer text)
-answered printing symbol inside t text e w is true good bad = has_answer printing symbol inside t text e w is (good refl)
-answered printing symbol inside t text e w is false good bad = no_answer printing symbol inside t text e w is (bad refl)
+answered printing symbol inside t text e r is true good bad = has_answer printing symbol t text (rw (e, r) refl) is (good refl)
+answered printing symbol inside t text e r is false good bad = no_answer printing symbol t text (rw (e, r) refl) is (bad refl)
 
 -- nothing is read, as a result
 pub refused : (r : Result ℕ Stop) (after : Reader) (x : Option (Tree × State)) → Gives r after x → r ≡ Err Unreadable → x ≡ None

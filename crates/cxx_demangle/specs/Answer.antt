@@ -1,38 +1,21 @@
 -- What a symbol's answer is.
-use Rattle.std.specs.Prelude.{◌≡◌, ℕ, ◌+◌, ◌*◌, ◌≤◌, List, [], length, Option, Some, None, false}
+use Rattle.std.specs.Prelude.{◌≡◌, ℕ, ◌+◌, ◌*◌, ◌≤◌, List, length, Option, Some, None, false}
 use Rattle.std.specs.Str.{IsUtf8}
-use Rattle.abi_scalars.specs.Symbol.{after_prefix}
 use Rattle.cxx_tree.specs.Tree.{Tree}
 use Rattle.cxx_tree.specs.Stored.{Store, IsWithin}
 use Rattle.cxx_printer.specs.Symbol.{symbol_text}
-use Rattle.cxx_grammar.specs.State.{State}
-use Rattle.cxx_grammar.specs.Grammar.{parse_encoding}
+use Rattle.cxx_grammar.specs.Symbol.{parse_symbol}
 use Rattle.cxx_demangle.specs.declared.demangler.Printing.{Printing}
-
--- the most counted productions that may nest
-abbrev pub max_depth : ℕ
-max_depth = 512
 
 -- the most bytes of an answer
 abbrev pub max_text : ℕ
 max_text = 1048576
 
--- all bytes are left, and nothing is saved
-abbrev pub start : List ℕ → State
-start bytes = record { rest = bytes; saved = []; replaced = 0 }
-
--- an encoding, within the limits, that is all of the bytes. The limits of trees stand where a tree is made (`make` of
--- `cxx_grammar/specs/State`), and that of replaced nodes in `count_replaced` of `cxx_grammar/specs/Binds`
-pub record IsWhole (bytes : List ℕ) (t : Tree) : Type 0 where
-  pub end : State
-  pub reading : parse_encoding max_depth (start bytes) ≡ Some (t, end)
-  pub all : end.rest ≡ []
-
--- the grammar reads the whole symbol as the tree, within the limits
-pub record Reads (symbol : List ℕ) (t : Tree) : Type 0 where
-  pub inside : List ℕ
-  pub prefix : after_prefix symbol ≡ Some inside
-  pub encoding : IsWhole inside t
+-- The grammar reads the whole symbol as the tree, within the limits. The limits of trees stand where a tree is made
+-- (`make` of `cxx_grammar/specs/Parses`), that of nested productions in `specs/Symbol`, and that of replaced nodes in
+-- `specs/Binds`
+abbrev pub Reads : List ℕ → Tree → Type 0
+Reads symbol t = parse_symbol symbol ≡ Some t
 
 -- what a tree prints
 abbrev pub text_of : Printing → Tree → List ℕ

@@ -1,12 +1,11 @@
 -- What a demangler keeps between calls.
-use Rattle.std.specs.Prelude.{ℕ, List, Bool, true, false, Option, Some, None, Result, Ok, Err}
+use Rattle.std.specs.Prelude.{◌≡◌, ℕ, List, Bool, true, false, Option, Some, None, Result, Ok, Err}
 use Rattle.std.specs.Str.{IsUtf8}
 use Rattle.std.specs.declared.alloc.AllocError.{AllocError}
-use Rattle.cxx_tree.specs.Tree.{Tree}
 use Rattle.cxx_tree.specs.Stored.{Store, stands}
 use Rattle.cxx_tree.specs.Kept.{IsNode}
 use Rattle.cxx_demangle.specs.declared.demangler.Demangler.TheInside.{Inside}
-use Rattle.cxx_demangle.specs.Answer.{IsWhole}
+use Rattle.cxx_grammar.specs.Symbol.{parse_inside}
 
 -- the answer to the last symbol, if there is one
 abbrev pub answer_of : Bool → List ℕ → Option (List ℕ)
@@ -36,6 +35,6 @@ KeepsAnswer d = IsOptionUtf8 (answer_of d.is_answered d.text)
 
 -- the node of the encoding that all of the bytes are read as; or there is no such encoding
 abbrev pub GivesWhole : Result (Option ℕ) AllocError → Store → List ℕ → Type 0
-GivesWhole (Ok (Some i)) after bytes = IsNode after i × IsWhole bytes (stands after i)
-GivesWhole (Ok None) after bytes = (t : Tree) → IsWhole bytes t → ⊥
+GivesWhole (Ok (Some i)) after bytes = IsNode after i × (parse_inside bytes ≡ Some (stands after i))
+GivesWhole (Ok None) after bytes = parse_inside bytes ≡ None
 GivesWhole (Err e) after bytes = Unit {0}
