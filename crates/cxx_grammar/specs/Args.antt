@@ -1,4 +1,5 @@
 -- Template arguments and literals (Itanium C++ ABI 5.1.5.10, 5.1.6.1).
+use Rattle.std.specs.Prelude.{[]}
 use Rattle.cxx_tree.specs.Tree.{Tree, Trees, listed, with_args}
 use Rattle.cxx_tree.specs.Stored.{trees_from_list}
 use Rattle.cxx_tree.specs.Phrases.{typed_literal}
@@ -6,16 +7,21 @@ use Rattle.cxx_grammar.specs.declared.cases.ArgCase.{ArgCase}
 use Rattle.cxx_grammar.specs.declared.cases.ArgCase.TheVariants as arg
 use Rattle.cxx_grammar.specs.declared.cases.LiteralCase.{LiteralCase}
 use Rattle.cxx_grammar.specs.declared.cases.LiteralCase.TheVariants as literal
-use Rattle.cxx_grammar.specs.Parses.{Parses, ◌>>=◌, ◌>>◌, ◌<$>◌, pure, refused, past, by, if_next, items_to_e, make}
+use Rattle.cxx_grammar.specs.declared.rows.End.TheVariants as end
+use Rattle.cxx_grammar.specs.declared.rows.Item.TheVariants as item
+use Rattle.cxx_grammar.specs.Parses.{Parses, ◌>>=◌, ◌>>◌, pure, refused, past, expect, by, if_next, make}
 use Rattle.cxx_grammar.specs.Cases.{case_of_arg, case_of_literal}
 use Rattle.cxx_grammar.specs.Leaves.{parse_number_end, parse_bool, parse_null, parse_integer}
 use Rattle.cxx_grammar.specs.Productions.{Productions}
+use Rattle.cxx_grammar.specs.Rows.{list_after}
 
 -- <template-arg>* E, after a letter
 unfoldable pub parse_list : Productions → Parses Trees
 parse_list p = do
   past 1
-  trees_from_list <$> items_to_e p.arg
+  args ← list_after p item.Arg end.E []
+  expect "E"
+  pure (trees_from_list args)
 
 -- <template-args> ::= I <template-arg>* E
 abbrev pub parse_args : Productions → Parses Trees

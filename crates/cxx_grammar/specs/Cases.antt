@@ -3,6 +3,8 @@ use Prim.Native.String.{String}
 use Rattle.std.specs.Prelude.{ℕ, List, [], ◌∷◌, codes, Bool, true, false, ◌&&◌, if◌then◌else◌, drop, is_some}
 use Rattle.abi_scalars.specs.Bytes.{begins, begins_between, begins_digit, begins_one_of}
 use Rattle.cxx_grammar.specs.Words.{builtin_of, integer_of}
+use Rattle.cxx_grammar.specs.declared.cases.EncodingCase.{EncodingCase}
+use Rattle.cxx_grammar.specs.declared.cases.EncodingCase.TheVariants as encoding
 use Rattle.cxx_grammar.specs.declared.cases.NameCase.{NameCase}
 use Rattle.cxx_grammar.specs.declared.cases.NameCase.TheVariants as name_case
 use Rattle.cxx_grammar.specs.declared.cases.FirstCase.{FirstCase}
@@ -27,6 +29,14 @@ case_in ((code, case) ∷ table) other bytes = if begins (codes code) bytes then
 abbrev pub is_encoding_end : List ℕ → Bool
 is_encoding_end [] = true
 is_encoding_end (b ∷ bytes) = begins_one_of (codes "E._") (b ∷ bytes)
+
+abbrev pub encodings : List (String × EncodingCase)
+encodings =
+    ("G", encoding.Special) ∷
+    ("T", encoding.Special) ∷ []
+
+abbrev pub case_of_encoding : List ℕ → EncodingCase
+case_of_encoding bytes = case_in encodings encoding.Name bytes
 
 abbrev pub names : List (String × NameCase)
 names =
@@ -67,6 +77,9 @@ types =
     ("K", type_case.Qualified) ∷
     ("Dp", type_case.Expansion) ∷
     ("D", type_case.Builtin) ∷
+    ("Ts", type_case.SavedRow) ∷
+    ("Tu", type_case.SavedRow) ∷
+    ("Te", type_case.SavedRow) ∷
     ("T", type_case.Param) ∷
     ("P", type_case.Pointer) ∷
     ("R", type_case.Reference true) ∷

@@ -10,7 +10,7 @@ use Rattle.cxx_tree.specs.Tree.{Tree, named, std_name, param}
 use Rattle.cxx_tree.specs.Phrases.{word, literal, prefixed}
 use Rattle.cxx_tree.specs.Texts.{number_printed}
 use Rattle.abi_scalars.specs.Scalars.{index_of, source_text}
-use Rattle.abi_scalars.specs.Texts.{identifier, number_text}
+use Rattle.abi_scalars.specs.Texts.{digits, identifier, number_text}
 use Rattle.abi_scalars.specs.declared.numerals.Radix.TheVariants.{Decimal, Base36}
 use Rattle.cxx_grammar.specs.Words.{std_of, builtin_of, d_builtin_of, integer_of, operator_of}
 use Rattle.cxx_grammar.specs.Parses.{Parses, ◌>>=◌, ◌>>◌, pure, given, look, past, expect, optional, of_bytes, parse_code, make}
@@ -56,6 +56,43 @@ parse_prefixed n word = do
 -- <operator-name> that is a code of two letters
 abbrev pub parse_operator : Parses Tree
 parse_operator = parse_word 2 operator_of
+
+-- Parts of special names, which print nothing.
+
+-- <number> _
+abbrev pub parse_offset : Parses (Unit {0})
+parse_offset = do
+  of_bytes number_text
+  expect "_"
+
+abbrev pub parse_two_offsets : Parses (Unit {0})
+parse_two_offsets = do
+  parse_offset
+  parse_offset
+
+abbrev pub parse_plain_offset : Parses (Unit {0})
+parse_plain_offset = do
+  expect "h"
+  parse_offset
+
+-- <call-offset> ::= h <nv-offset> _
+--               ::= v <v-offset> _
+-- <nv-offset> ::= <offset number>
+-- <v-offset> ::= <offset number> _ <virtual offset number>
+unfoldable pub parse_call_offset : Parses (Unit {0})
+parse_call_offset = do
+  is_virtual ← optional "v"
+  if is_virtual then parse_two_offsets else parse_plain_offset
+
+abbrev pub after_seq_id : List ℕ → Parses (Unit {0})
+after_seq_id [] = do optional "_"; pure tt
+after_seq_id (d ∷ ds) = expect "_"
+
+-- what may stand behind the name of a temporary: [[<seq-id>] _]
+unfoldable pub parse_temporary_id : Parses (Unit {0})
+parse_temporary_id = do
+  id ← of_bytes (λ bytes. Some (digits Base36 bytes))
+  after_seq_id id
 
 -- Substitutions and template parameters.
 

@@ -6,6 +6,7 @@ pub mod Bases
 pub mod Leaves
 pub mod Binds
 pub mod Productions
+pub mod Rows
 pub mod Args
 pub mod Names
 pub mod Types

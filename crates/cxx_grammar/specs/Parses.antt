@@ -137,21 +137,8 @@ item_more item so_far = do
 abbrev pub items_after : {A : Type 0} → List A → (List ℕ → Bool) → Parses A → Parses (List A)
 items_after first is_end item = repeat is_end (item_more item) first
 
--- items up to an end, one or more
-abbrev pub some_items : {A : Type 0} → (List ℕ → Bool) → Parses A → Parses (List A)
-some_items is_end item = do
-  a ← item
-  items_after (a ∷ []) is_end item
-
 abbrev pub is_e : List ℕ → Bool
 is_e bytes = begins (codes "E") bytes
-
--- items up to an `E`, which is read
-abbrev pub items_to_e : {A : Type 0} → Parses A → Parses (List A)
-items_to_e item = do
-  all ← items_after [] is_e item
-  expect "E"
-  pure all
 
 -- Trees.
 

@@ -8,6 +8,7 @@ use Rattle.cxx_grammar.specs.Cases.{case_of_type}
 use Rattle.cxx_grammar.specs.Leaves.{parse_substitution, parse_template_param, parse_cv, parse_builtin}
 use Rattle.cxx_grammar.specs.Productions.{Productions, name_tree}
 use Rattle.cxx_grammar.specs.Args.{parse_with_args}
+use Rattle.cxx_grammar.specs.Rows.{type_row_of, parse_row_of}
 
 -- <pointer-to-member-type> ::= M <class type> <member type>
 abbrev pub parse_member_pointer : Productions → Parses Tree
@@ -56,6 +57,7 @@ type_as p type_case.Qualified = saved p.qualified_type
 type_as p type_case.Expansion = saved (parse_around 2 expansion p)
 type_as p type_case.Builtin = parse_builtin
 type_as p type_case.MemberPointer = saved (parse_member_pointer p)
+type_as p type_case.SavedRow = saved (parse_row_of type_row_of p)
 type_as p type_case.Param = parse_param_type p
 type_as p type_case.Pointer = saved (parse_around 1 pointer p)
 type_as p (type_case.Reference is_lvalue) = saved (parse_around 1 (reference_to is_lvalue) p)
@@ -71,6 +73,6 @@ type_as p type_case.Class = saved (name_tree p)
 --        ::= P <type> | R <type> | O <type>
 --        ::= <substitution>
 --        ::= Dp <type>
--- <class-enum-type> ::= <name>
+-- <class-enum-type> ::= <name> | Ts <name> | Tu <name> | Te <name>
 abbrev pub parse_type : Productions → Parses Tree
 parse_type p = by case_of_type (type_as p)

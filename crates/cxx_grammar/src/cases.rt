@@ -1,5 +1,14 @@
 //! The cases of productions, by the bytes that are next.
 
+/// The cases of an `<encoding>`.
+#[derive(Clone, Copy)]
+pub enum EncodingCase {
+    /// `G` or `T`: a `<special-name>`
+    Special,
+    /// A name.
+    Name,
+}
+
 /// The cases of a `<name>`.
 #[derive(Clone, Copy)]
 pub enum NameCase {
@@ -61,7 +70,9 @@ pub enum TypeCase {
     Expansion,
     /// A letter, or `D` and anything else
     Builtin,
-    /// `T`
+    /// `Ts`, `Tu` or `Te`: a row, which is saved
+    SavedRow,
+    /// `T` and anything else
     Param,
     /// `P`
     Pointer,

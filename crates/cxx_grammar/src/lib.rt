@@ -1,8 +1,9 @@
 //! Defines how the bytes of a mangled C++ symbol are read as a tree (Itanium C++ ABI 5.1). What a tree prints is defined
 //! in `cxx_printer`, and what the answer is in `cxx_demangle/specs/Answer`.
 //!
-//! No code of this crate runs: it has the cases of productions, which are enums, and definitions. Begin with
-//! `specs/Grammar`, a relation. What has no production inside, such as a source name, is a function of `specs/Leaves`.
+//! No code of this crate runs: it has definitions, and the enums that these share with the readers. Begin with
+//! `specs/Symbol`, and with `specs/Parses`, whose steps all parsers are made of.
 #![tactic(auto)]
 
 pub mod cases;
+pub mod rows;

@@ -13,6 +13,7 @@ use Rattle.cxx_tree.specs.declared.arena.Stop.TheVariants.{Unreadable, Memory}
 use Rattle.cxx_tree.specs.Stored.{Store, stands}
 use Rattle.cxx_reader.specs.Outcome.{Gives, GivesFrom}
 use Rattle.cxx_reader.proofs.Kept.{map-stands}
+use Rattle.cxx_reader.proofs.Lists.{drop-all}
 
 -- what the arguments give, after some of them
 pub record BoundSoFar (whole : Option (List Tree × State)) (is_inherited : Bool) (bound args : List Tree) (s : State) : Type 0 where
@@ -62,12 +63,6 @@ pub next_arg : (a b : Store) → KeepsNodes a b → (l : handle.List) → IsList
 next_arg a b g l h k i e =
     ap (drop k) (sym (listed-grows a b g l h)) ∙ sym (map-drop (stands b) k (list_at b.held l)) ∙ ap (map (stands b)) e
     ∙ ap (λ (ts : List Tree). stands b i ∷ ts) (map-drop (stands b) (k + 1) (list_at b.held l)) ∙ ap (λ (ts : List Tree). stands b i ∷ drop (k + 1) ts) (listed-grows a b g l h)
-
-pub drop-all : {A : Type 0} (n : ℕ) (xs : List A) → length xs ≤ n → drop n xs ≡ []
-drop-all zero [] h = refl
-drop-all zero (x ∷ xs) h = absurd (omega (arith, h))
-drop-all (suc n) [] h = refl
-drop-all (suc n) (x ∷ xs) h = drop-all n xs (omega (arith, h))
 
 pub length-map : {A B : Type 0} (f : A → B) (xs : List A) → length (map f xs) ≡ length xs
 length-map f [] = refl

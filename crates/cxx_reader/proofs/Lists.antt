@@ -1,6 +1,7 @@
 -- The nodes of a list that is read stand after those of the lists around it.
-use Rattle.std.proofs.Common.{ℕ, ◌≡◌, ◌-◌, ◌<◌, ◌≤◌, List, [], ◌∷◌, ◌++◌, length, map, drop, take, refl, sym, ap, ◌∙◌, arith, subst, zero, suc, Option, Some, true, false, Bool, Result, Ok, Err, length-append}
+use Rattle.std.proofs.Common.{ℕ, ◌≡◌, ◌+◌, ◌-◌, ◌<◌, ◌≤◌, List, [], ◌∷◌, ◌++◌, length, map, drop, take, refl, sym, ap, ◌∙◌, arith, subst, zero, suc, Option, Some, true, false, Bool, Result, Ok, Err, length-append}
 use Rattle.std.specs.List.{AllByRecursion}
+use Rattle.std.proofs.Math.ListN.{get_or}
 use Rattle.std.proofs.lemmas.List.{map-append}
 use Rattle.cxx_tree.specs.Tree.{Tree}
 use Rattle.cxx_tree.specs.Kept.{KeepsNodes, SameNodes, IsNode}
@@ -9,7 +10,7 @@ use Rattle.std.specs.Prelude.{IfOk, OnOk, IsOkUnless, codes}
 use Rattle.cxx_tree.specs.Stored.{Store, size, list_at, IsListBelow, trees_from_list}
 use Rattle.cxx_tree.proofs.Grown.{nodes-same, nodes-trans, saved-same}
 use Rattle.cxx_grammar.specs.State.{State, LearnedName}
-use Rattle.cxx_grammar.specs.Parses.{Parses, skip, items_after, item_more, is_e, repeat, past_word_if}
+use Rattle.cxx_grammar.specs.Parses.{Parses, skip, item_more, is_e, repeat, past_word_if}
 use Rattle.cxx_reader.specs.declared.reader.Reader.{Reader}
 use Rattle.cxx_tree.specs.declared.arena.Stop.{Stop}
 use Rattle.cxx_tree.specs.declared.arena.Stop.TheVariants.{Unreadable, Memory}
@@ -17,10 +18,20 @@ use Rattle.cxx_tree.specs.Stored.{Store, stands}
 use Rattle.cxx_grammar.specs.Productions.{Productions}
 use Rattle.cxx_grammar.specs.Names.{parse_next, parse_components}
 use Rattle.cxx_grammar.specs.Args.{parse_list}
+use Rattle.cxx_grammar.specs.declared.rows.End.TheVariants as end
+use Rattle.cxx_grammar.specs.declared.rows.Item.{Item}
+use Rattle.cxx_grammar.specs.declared.rows.Item.TheVariants as item
+use Rattle.cxx_grammar.specs.Rows.{Row, item_as, make_as, parse_items, parse_row, list_after}
 use Rattle.cxx_reader.specs.Outcome.{state, trees_behind, Keeps, Moves, KeepsFront, Gives, GivesList, GivesNamed, GivesFrom, list_trees}
 use Rattle.cxx_tree.proofs.Forest.{below-more, below-push, same-forest}
 use Rattle.cxx_reader.proofs.Kept.{map-stands, stands-same, IsNode-same}
-use Rattle.cxx_reader.proofs.Turns.{SoFar, steps_fail, steps_more, steps_end}
+use Rattle.cxx_reader.proofs.Turns.{SoFar, steps_fail, steps_end, ItemsSoFar, row_fail}
+
+pub drop-all : {A : Type 0} (n : ℕ) (xs : List A) → length xs ≤ n → drop n xs ≡ []
+drop-all zero [] h = refl
+drop-all zero (x ∷ xs) h = absurd (omega (arith, h))
+drop-all (suc n) [] h = refl
+drop-all (suc n) (x ∷ xs) h = drop-all n xs (omega (arith, h))
 
 drop-length : (xs : List ℕ) → drop (length xs) xs ≡ []
 drop-length [] = refl
@@ -107,19 +118,64 @@ pub KeepsFront-after : {A : Type 0} (from : ℕ) (r : Result A Stop) (a b c : Re
 KeepsFront-after from (Ok x) a b c k l = KeepsFront-trans from a b c k l
 KeepsFront-after from (Err e) a b c k l = tt
 
--- an item is read
-pub items_more : (item : Parses Tree) {whole : Option (List Tree × State)} {is_end : List ℕ → Bool} {so_far : List Tree} {s after : State} {t : Tree}
-    → SoFar whole is_end (item_more item) so_far s → is_end s.rest ≡ false → item s ≡ Some (t, after) → length after.rest < length s.rest → SoFar whole is_end (item_more item) (so_far ++ t ∷ []) after
-items_more item l e f shorter = steps_more l e (rw f refl) shorter
+-- an item is read, and its node is collected
+pub collected : (r : Result (Unit {0}) Stop) (old mid after : Reader) (i from : ℕ) (item : Parses Tree) → IsOkUnless r Memory → Keeps old mid → SameNodes mid.arena after.arena → after.arena.saved ≡ mid.arena.saved
+    → OnOk r (after.arena.pending ≡ mid.arena.pending ++ i ∷ []) → after.rest ≡ mid.rest → after.replaced ≡ mid.replaced → IsNode mid.arena i × (item (state old) ≡ Some (stands mid.arena i, state mid))
+    → from ≤ length old.arena.pending → AllByRecursion (IsNode old.arena) (drop from old.arena.pending) → GivesFrom r from after (item_more item (trees_behind from old.arena) (state old))
+collected (Ok u) old mid after i from item m k st sv p r e g long below =
+    let one : Pushed (item (state old)) old after i = pushed old mid after i k st sv p r e g in (
+      one-more-below old.arena after.arena from i one.grows below long one.pending one.node,
+      rw one.parsed (ap (λ (ts : List Tree). Some (ts, state after)) (sym (one-more old.arena after.arena from i one.grows below long one.pending))),
+    )
+collected (Err Unreadable) old mid after i from item m k st sv p r e g long below = absurd (let f = m in cc)
+collected (Err Memory) old mid after i from item m k st sv p r e g long below = tt
 
 -- an item isn't read
-pub items_stop : (e : Stop) (from : ℕ) (after : Reader) (item : Parses Tree) {whole : Option (List Tree × State)} {is_end : List ℕ → Bool} {so_far : List Tree} {u : State} → SoFar whole is_end (item_more item) so_far u → is_end u.rest ≡ false
-    → Gives (Err e) after (item u) → GivesFrom (Err e) from after whole
-items_stop Unreadable from after item l e f = steps_fail l e (rw f refl)
-items_stop Memory from after item l e f = tt
+pub item_stop : (e : Stop) (from : ℕ) (after : Reader) (item : Parses Tree) (trees : List Tree) (s : State) → Gives (Err e) after (item s) → GivesFrom (Err e) from after (item_more item trees s)
+item_stop Unreadable from after item trees s f = rw f refl
+item_stop Memory from after item trees s f = tt
+
+-- a list isn't read
+pub items_stop : (e : Stop) (from : ℕ) (after : Reader) {whole : Option (List Tree × State)} {is_end : List ℕ → Bool} {step : List Tree → Parses (List Tree)} {so_far : List Tree} {u : State} → SoFar whole is_end step so_far u → is_end u.rest ≡ false
+    → GivesFrom (Err e) from after (step so_far u) → GivesFrom (Err e) from after whole
+items_stop Unreadable from after l e f = steps_fail l e f
+items_stop Memory from after l e f = tt
+
+-- a row isn't read
+pub row_stop : (e : Stop) (from : ℕ) (after : Reader) {whole : Option (List Tree × State)} {p : Productions} {trees : List Tree} {item : Item} {items : List Item} {s : State} → ItemsSoFar whole p trees (item ∷ items) s
+    → GivesFrom (Err e) from after (item_as p trees item s) → GivesFrom (Err e) from after whole
+row_stop Unreadable from after r f = row_fail r f
+row_stop Memory from after r f = tt
+
+drop-index : {A : Type 0} (d : A) (k : ℕ) (xs : List A) → k < length xs → drop k xs ≡ get_or xs k d ∷ drop (k + 1) xs
+drop-index d k [] h = absurd (omega (arith, h))
+drop-index d zero (x ∷ xs) h = refl
+drop-index d (suc k) (x ∷ xs) h =
+    let e : suc k + 1 ≡ suc (k + 1) = omega arith in
+    drop-index d k xs (omega (arith, h)) ∙ ap (λ (j : ℕ). get_or xs k d ∷ drop j (x ∷ xs)) (sym e)
+
+-- the next item of a row
+pub next_item : (items : List Item) {whole : Option (List Tree × State)} {p : Productions} {trees : List Tree} {s : State} (d : Item) (k : ℕ) → k < length items
+    → ItemsSoFar whole p trees (drop k items) s → ItemsSoFar whole p trees (get_or items k d ∷ drop (k + 1) items) s
+next_item items {whole = whole} {p = p} {trees = trees} {s = s} d k h r = subst (λ (l : List Item). ItemsSoFar whole p trees l s) (drop-index d k items h) r
+
+-- no item of a row is left
+pub no_item : (items : List Item) {whole : Option (List Tree × State)} {p : Productions} {trees : List Tree} {s : State} (k : ℕ) → length items ≤ k
+    → ItemsSoFar whole p trees (drop k items) s → ItemsSoFar whole p trees [] s
+no_item items {whole = whole} {p = p} {trees = trees} {s = s} k h r = subst (λ (l : List Item). ItemsSoFar whole p trees l s) (drop-all k items h) r
+
+-- a row, whose items are read or not
+pub row_none : (e : Stop) (from : ℕ) (after : Reader) (p : Productions) (row : Row) (s : State) → GivesFrom (Err e) from after (parse_items p [] row.items (skip row.skip s)) → Gives (Err e) after (parse_row p row s)
+unfolding parse_row
+row_none Unreadable from after p row s f = rw f refl
+row_none Memory from after p row s f = tt
+
+pub row_read : (p : Productions) (row : Row) (s u : State) (trees : List Tree) → parse_items p [] row.items (skip row.skip s) ≡ Some (trees, u) → parse_row p row s ≡ make_as row.maker row.words trees u
+unfolding parse_row
+row_read p row s u trees e = rw e refl
 
 -- an argument isn't read
-pub list_stop : (e : Stop) (from : ℕ) (after : Reader) (p : Productions) (s : State) → GivesFrom (Err e) from after (items_after [] is_e p.arg (skip 1 s)) → GivesList (Err e) after (parse_list p s)
+pub list_stop : (e : Stop) (from : ℕ) (after : Reader) (p : Productions) (s : State) → GivesFrom (Err e) from after (list_after p item.Arg end.E [] (skip 1 s)) → GivesList (Err e) after (parse_list p s)
 unfolding parse_list
 list_stop Unreadable from after p s f = rw f refl
 list_stop Memory from after p s f = tt
@@ -141,7 +197,7 @@ components_end p n s mid is_mark m l e = rw (m, steps_end l e, e) refl
 
 -- all arguments are read
 pub close_gives : (r : Result handle.List Stop) (after : Reader) (a : Store) (from : ℕ) (p : Productions) (s u : State)
-    → items_after [] is_e p.arg (skip 1 s) ≡ Some (trees_behind from a, u) → is_e u.rest ≡ true
+    → list_after p item.Arg end.E [] (skip 1 s) ≡ Some (trees_behind from a, u) → is_e u.rest ≡ true
     → IfOk r (λ l. list_at after.arena.held l ≡ drop from a.pending)
     → IfOk r (λ l. IsListBelow after.arena.held (size after.arena) l)
     → KeepsNodes a after.arena → AllByRecursion (IsNode a) (drop from a.pending)

@@ -1,9 +1,13 @@
 -- The loops over the items of lists and over components.
-use Rattle.std.proofs.Common.{ℕ, ◌≡◌, ◌+◌, ◌-◌, ◌<◌, List, [], length, refl, ◌∙◌, arith, zero, suc, Option, Some, None, true, false, Bool}
+use Rattle.std.proofs.Common.{ℕ, ◌≡◌, ◌+◌, ◌-◌, ◌<◌, List, [], ◌∷◌, length, refl, ◌∙◌, arith, zero, suc, Option, Some, None, true, false, Bool}
 use Rattle.std.specs.Prelude.{if◌then◌else◌}
 use Rattle.cxx_tree.specs.declared.arena.Stop.{Stop}
 use Rattle.cxx_tree.specs.declared.arena.Stop.TheVariants.{Unreadable, Memory}
+use Rattle.cxx_tree.specs.Tree.{Tree}
+use Rattle.cxx_grammar.specs.declared.rows.Item.{Item}
 use Rattle.cxx_grammar.specs.State.{State}
+use Rattle.cxx_grammar.specs.Productions.{Productions}
+use Rattle.cxx_grammar.specs.Rows.{item_as, parse_items}
 use Rattle.cxx_grammar.specs.Parses.{Parses, ◌>>=◌, pure, repeat, repeat_at_most}
 
 -- what steps give, after some of them
@@ -37,3 +41,24 @@ steps_more {is_end = is_end} {step = step} {a = a} {s = s} l e f shorter =
       enough = omega (arith, l.enough);
       is = l.is ∙ repeat_opens is_end step l.turns a s (omega (arith, l.enough)) ∙ rw (e, f) refl;
     }
+
+-- what the items of a row give, after some of them
+pub record ItemsSoFar (whole : Option (List Tree × State)) (p : Productions) (trees : List Tree) (items : List Item) (s : State) : Type 0 where
+  pub is : whole ≡ parse_items p trees items s
+
+pub row_start : (p : Productions) (trees : List Tree) (items : List Item) (s : State) → ItemsSoFar (parse_items p trees items s) p trees items s
+row_start p trees items s = record { is = refl }
+
+pub row_end : {whole : Option (List Tree × State)} {p : Productions} {trees : List Tree} {s : State} → ItemsSoFar whole p trees [] s → whole ≡ Some (trees, s)
+unfolding parse_items
+row_end r = r.is
+
+pub row_more : {whole : Option (List Tree × State)} {p : Productions} {trees more : List Tree} {item : Item} {items : List Item} {s after : State}
+    → ItemsSoFar whole p trees (item ∷ items) s → item_as p trees item s ≡ Some (more, after) → ItemsSoFar whole p more items after
+unfolding parse_items
+row_more r e = record { is = r.is ∙ rw e refl }
+
+pub row_fail : {whole : Option (List Tree × State)} {p : Productions} {trees : List Tree} {item : Item} {items : List Item} {s : State}
+    → ItemsSoFar whole p trees (item ∷ items) s → item_as p trees item s ≡ None → whole ≡ None
+unfolding parse_items
+row_fail r e = r.is ∙ rw e refl

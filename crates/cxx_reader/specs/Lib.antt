@@ -1,4 +1,4 @@
 pub mod Outcome
 pub mod Unbound
 pub mod Sources
-pub mod Items
+pub mod Rows

@@ -82,11 +82,11 @@ GivesNumber (Ok number) after parsed = parsed ≡ Some (number_printed number.no
 GivesNumber (Err Unreadable) after parsed = parsed ≡ None
 GivesNumber (Err Memory) after parsed = Unit {0}
 
--- a count
-abbrev pub GivesCount : Result (Unit {0}) Stop → Reader → Option (Unit {0} × grammar.State) → Type 0
-GivesCount (Ok u) after counted = counted ≡ Some (tt, state after)
-GivesCount (Err Unreadable) after counted = counted ≡ None
-GivesCount (Err Memory) after counted = ⊥
+-- nothing
+abbrev pub GivesUnit : Result (Unit {0}) Stop → Reader → Option (Unit {0} × grammar.State) → Type 0
+GivesUnit (Ok u) after parsed = parsed ≡ Some (tt, state after)
+GivesUnit (Err Unreadable) after parsed = parsed ≡ None
+GivesUnit (Err Memory) after parsed = ⊥
 
 -- Names.
 

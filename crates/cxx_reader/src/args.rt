@@ -1,5 +1,5 @@
 //! Template arguments (Itanium C++ ABI 5.1.5.4, 5.1.6).
-#![tactic(auto, using(crate::proofs::Rules::productions), unfolding(cxx_tree::specs::Grows::Makes, cxx_tree::specs::Stored::tree_of, cxx_tree::specs::Stored::plain_tree, cxx_tree::specs::Stored::IsBelow, cxx_tree::specs::Stored::IsPlainBelow, cxx_tree::specs::Stored::stands, crate::specs::Outcome::list_trees, crate::specs::Items::ends, crate::specs::Items::item_of, cxx_grammar::specs::Args::arg_as, cxx_grammar::specs::Args::literal_as))]
+#![tactic(auto, using(crate::proofs::Rules::productions), unfolding(cxx_tree::specs::Grows::Makes, cxx_tree::specs::Stored::tree_of, cxx_tree::specs::Stored::plain_tree, cxx_tree::specs::Stored::IsBelow, cxx_tree::specs::Stored::IsPlainBelow, cxx_tree::specs::Stored::stands, crate::specs::Outcome::list_trees, cxx_grammar::specs::Args::arg_as, cxx_grammar::specs::Args::literal_as))]
 
 ghost use Rattle.std.specs.Prelude.{◌≡◌, ℕ, ◌<◌, ◌≤◌, length, OnOk, Some};
 ghost use Rattle.cxx_tree.specs.Phrases as phrases;
@@ -13,10 +13,11 @@ ghost use Rattle.cxx_grammar.specs.Symbol.{productions};
 ghost use Rattle.cxx_reader.specs.Outcome.{state, Keeps, Moves, Gives, GivesList};
 
 use crate::cases::{arg_case, begins, literal_case};
-use crate::items::{Items, read_items};
 use crate::reader::Reader;
+use crate::rows::read_items;
 use crate::types::read_type;
 use cxx_grammar::cases::{ArgCase, LiteralCase};
+use cxx_grammar::rows::{End, Item};
 use cxx_tree::{List, Node, Plain, Stop};
 
 /// Reads `<template-args> ::= I <template-arg>* E`.
@@ -41,13 +42,14 @@ pub fn read_list(reader: &mut Reader, depth: usize) -> Result<List, Stop>
 {
     reader.skip(1);
     let from = reader.arena.pending_len();
-    tri!(read_items(reader, depth, Items::Args, from));
+    tri!(read_items(reader, depth, Item::Arg, End::E, from));
     reader.skip(1);
     reader.arena.list_from(from)
 }
 
 /// Reads `<template-arg>`. At most `depth` counted productions may nest, this one included.
 #[cycle(reader)]
+#[inline(always)]
 pub fn read_arg(reader: &mut Reader, depth: usize) -> Result<u32, Stop>
     ensures reads { Gives result reader.new ((productions depth).arg (state reader.old)) }
     ensures moves { OnOk result (Moves reader.old reader.new) }

@@ -8,7 +8,7 @@ ghost use Rattle.cxx_tree.specs.Stored.{forest, size, trees_in, trees_from_list,
 ghost use Rattle.cxx_grammar.specs.Bases as bases;
 ghost use Rattle.cxx_grammar.specs.Binds as spec;
 ghost use Rattle.cxx_reader.specs.Unbound.{IsUnbound};
-ghost use Rattle.cxx_reader.specs.Outcome.{state, Keeps, KeepsFront, Gives, GivesFrom, GivesCount, IsNamed, named_at, trees_behind, list_trees};
+ghost use Rattle.cxx_reader.specs.Outcome.{state, Keeps, KeepsFront, Gives, GivesFrom, GivesUnit, IsNamed, named_at, trees_behind, list_trees};
 
 use crate::bases::args_of;
 use crate::reader::{LearnedName, Reader};
@@ -22,7 +22,7 @@ impl<'a> Reader<'a> {
     // Counts the nodes of a tree that are or contain a template parameter.
     fn count_replaced(&mut self, i: u32) -> Result<(), Stop>
         requires node { IsNode self.old.arena i }
-        ensures reads { GivesCount result self.new (spec.count_replaced (stands self.old.arena i) (state self.old)) }
+        ensures reads { GivesUnit result self.new (spec.count_replaced (stands self.old.arena i) (state self.old)) }
         ensures arena { self.new.arena ≡ self.old.arena }
         ensures rest { self.new.rest.now ≡ self.old.rest.now }
     {
@@ -121,8 +121,8 @@ impl<'a> Reader<'a> {
         }
     }
 
-    // Refuses a node whose tree holds a template parameter.
-    fn closed(&self, i: u32) -> Result<u32, Stop>
+    /// Refuses a node whose tree holds a template parameter.
+    pub fn closed(&self, i: u32) -> Result<u32, Stop>
         requires node { IsNode self.now.arena i }
         ensures reads { Gives result self.now (spec.parse_closed (stands self.now.arena i) (state self.now)) }
     {

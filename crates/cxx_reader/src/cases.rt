@@ -7,7 +7,7 @@ ghost use Rattle.cxx_grammar.specs.Cases as spec;
 
 use crate::words::{builtin_of, integer_of};
 use cxx_grammar::cases::{
-    ArgCase, BaseCase, ComponentCase, FirstCase, LiteralCase, NameCase, TypeCase,
+    ArgCase, BaseCase, ComponentCase, EncodingCase, FirstCase, LiteralCase, NameCase, TypeCase,
 };
 
 /// Returns whether a letter is next.
@@ -28,6 +28,16 @@ pub fn is_encoding_end(bytes: &[u8]) -> bool
     match bytes {
         [] | [b'E' | b'.' | b'_', ..] => true,
         _ => false,
+    }
+}
+
+/// Returns the case of an `<encoding>`.
+pub fn encoding_case(bytes: &[u8]) -> EncodingCase
+    ensures value { result ≡ spec.case_of_encoding bytes.now }
+{
+    match bytes {
+        [b'G' | b'T', ..] => EncodingCase::Special,
+        _ => EncodingCase::Name,
     }
 }
 
@@ -87,6 +97,7 @@ pub fn type_case(bytes: &[u8]) -> TypeCase
         [b'r' | b'V' | b'K', ..] => TypeCase::Qualified,
         [b'D', b'p', ..] => TypeCase::Expansion,
         [b'D', ..] => TypeCase::Builtin,
+        [b'T', b's' | b'u' | b'e', ..] => TypeCase::SavedRow,
         [b'T', ..] => TypeCase::Param,
         [b'P', ..] => TypeCase::Pointer,
         [b'R', ..] => TypeCase::Reference(true),

@@ -1,21 +1,25 @@
 //! Encodings (Itanium C++ ABI 5.1.2).
-#![tactic(auto, using(crate::proofs::Rules::productions), unfolding(cxx_tree::specs::Stored::tree_of, cxx_tree::specs::Stored::plain_tree, cxx_tree::specs::Stored::IsBelow, cxx_tree::specs::Stored::IsPlainBelow, cxx_tree::specs::Stored::stands, crate::specs::Outcome::named_at, crate::specs::Items::ends, crate::specs::Items::item_of, cxx_grammar::specs::Encodings::parse_signature))]
+#![tactic(auto, using(crate::proofs::Rules::productions), unfolding(cxx_tree::specs::Stored::tree_of, cxx_tree::specs::Stored::plain_tree, cxx_tree::specs::Stored::IsBelow, cxx_tree::specs::Stored::IsPlainBelow, cxx_tree::specs::Stored::stands, crate::specs::Outcome::named_at, cxx_grammar::specs::Encodings::parse_signature, cxx_grammar::specs::Encodings::encoding_as))]
 
 ghost use Rattle.std.specs.Prelude.{◌≡◌, ℕ, ◌<◌, ◌≤◌, ◌&&◌, not, length, drop, take, OnOk, IfSome, option_map};
 ghost use Rattle.cxx_tree.specs.Kept.{KeepsNodes, IsNode};
 ghost use Rattle.cxx_tree.specs.Stored.{forest, size, stands};
 ghost use Rattle.cxx_grammar.specs.Encodings as spec;
 ghost use Rattle.cxx_grammar.specs.Symbol.{productions};
-ghost use Rattle.cxx_reader.specs.Outcome.{state, trees_behind, Keeps, KeepsFront, Gives, GivesOption, GivesFrom, IsNamed, named_at};
+ghost use Rattle.cxx_reader.specs.Outcome.{state, trees_behind, Keeps, KeepsFront, Moves, Gives, GivesOption, GivesFrom, IsNamed, named_at};
 
-use crate::cases::is_encoding_end;
-use crate::items::{Items, read_items};
+use crate::cases::{encoding_case, is_encoding_end};
 use crate::names::read_name;
 use crate::reader::{Info, LearnedName, Reader};
+use crate::rows::{read_items, read_row};
+use crate::specials::special_row;
 use crate::types::read_type;
+use cxx_grammar::cases::EncodingCase;
+use cxx_grammar::rows::{End, Item};
 use cxx_tree::{Clauses, Node, Plain, Stop};
 
 /// Reads what follows the name of an encoding: nothing, or `<bare-function-type>`.
+#[cycle(reader)]
 pub fn read_signature(reader: &mut Reader, depth: usize, name: LearnedName) -> Result<u32, Stop>
     requires named { IsNamed reader.old.arena name }
     ensures reads { Gives result reader.new (spec.parse_signature (productions depth)
@@ -29,6 +33,7 @@ pub fn read_signature(reader: &mut Reader, depth: usize, name: LearnedName) -> R
 }
 
 // Reads `<bare-function-type> ::= [<return type>] <parameters>`.
+#[cycle(reader)]
 fn read_function(reader: &mut Reader, depth: usize, name: LearnedName) -> Result<u32, Stop>
     requires named { IsNamed reader.old.arena name }
     ensures reads { Gives result reader.new (spec.parse_function (productions depth)
@@ -49,6 +54,7 @@ fn has_return(info: Info) -> bool
 }
 
 // Reads a return type, if there is one.
+#[cycle(reader)]
 fn read_return_type(reader: &mut Reader, depth: usize, is_there: bool) -> Result<Option<u32>, Stop>
     ensures reads { GivesOption result reader.new (spec.parse_return (productions depth) is_there
         (state reader.old)) }
@@ -62,6 +68,8 @@ fn read_return_type(reader: &mut Reader, depth: usize, is_there: bool) -> Result
 }
 
 // Reads `<parameters> ::= v | <type>+`, and appends their nodes to the list that is read.
+#[cycle(reader)]
+#[inline(always)]
 fn read_params(reader: &mut Reader, depth: usize) -> Result<(), Stop>
     ensures reads { GivesFrom result (length reader.old.arena.pending) reader.new
         (spec.parse_params (productions depth) (state reader.old)) }
@@ -74,6 +82,8 @@ fn read_params(reader: &mut Reader, depth: usize) -> Result<(), Stop>
 }
 
 // Reads `<type>+`, up to the end of the encoding.
+#[cycle(reader)]
+#[inline(always)]
 fn read_some_params(reader: &mut Reader, depth: usize) -> Result<(), Stop>
     ensures reads { GivesFrom result (length reader.old.arena.pending) reader.new
         (spec.parse_some_params (productions depth) (state reader.old)) }
@@ -82,7 +92,7 @@ fn read_some_params(reader: &mut Reader, depth: usize) -> Result<(), Stop>
     let from = reader.arena.pending_len();
     let first = tri!(read_type(reader, depth));
     tri!(reader.arena.add(first));
-    read_items(reader, depth, Items::Params, from)
+    read_items(reader, depth, Item::Type, End::Encoding, from)
 }
 
 impl<'a> Reader<'a> {
@@ -109,14 +119,42 @@ impl<'a> Reader<'a> {
 }
 
 /// Reads `<encoding>`. At most `depth` counted productions may nest, this one included.
+#[cycle(reader)]
 pub fn read_encoding(reader: &mut Reader, depth: usize) -> Result<u32, Stop>
     ensures reads { Gives result reader.new ((productions depth).encoding (state reader.old)) }
-    ensures keeps { OnOk result (Keeps reader.old reader.new) }
+    ensures moves { OnOk result (Moves reader.old reader.new) }
 {
     if depth == 0 {
         return Err(Stop::Unreadable);
     }
     let depth = depth - 1;
+    match encoding_case(reader.rest) {
+        EncodingCase::Special => read_special(reader, depth),
+        EncodingCase::Name => read_named(reader, depth),
+    }
+}
+
+// Reads `<special-name>`, in which no template parameter is left.
+#[cycle(reader)]
+#[inline(never)]
+fn read_special(reader: &mut Reader, depth: usize) -> Result<u32, Stop>
+    ensures reads { Gives result reader.new (spec.parse_special_encoding (productions depth) (state reader.old)) }
+    ensures moves { OnOk result (Moves reader.old reader.new) }
+{
+    let Some(row) = special_row(reader.rest) else {
+        return Err(Stop::Unreadable);
+    };
+    let t = tri!(read_row(reader, depth, row));
+    reader.closed(t)
+}
+
+// Reads a name and what follows it, and binds its template parameters.
+#[cycle(reader)]
+#[inline(always)]
+fn read_named(reader: &mut Reader, depth: usize) -> Result<u32, Stop>
+    ensures reads { Gives result reader.new (spec.parse_named_encoding (productions depth) (state reader.old)) }
+    ensures moves { OnOk result (Moves reader.old reader.new) }
+{
     let name = tri!(read_name(reader, depth));
     let t = tri!(read_signature(reader, depth, name));
     reader.bind(name, t)

@@ -1,5 +1,5 @@
 //! Reads the bytes of a mangled symbol as the nodes of a tree (Itanium C++ ABI 5.1). Begin with `encodings.rt`, whose
-//! `read_encoding` reads all of a symbol, and with `reader.rt`. `specs/Grammar` of `cxx_grammar` has what each reader is
+//! `read_encoding` reads all of a symbol, and with `reader.rt`. The definitions of `cxx_grammar` say what each reader is
 //! proved to do.
 #![tactic(auto)]
 
@@ -18,10 +18,13 @@ mod bases;
 mod binds;
 mod cases;
 mod encodings;
-mod items;
 mod literals;
 mod names;
 mod reader;
+mod row_nodes;
+mod rows;
+mod skips;
+mod specials;
 mod types;
 mod words;
 

@@ -9,14 +9,16 @@ ghost use Rattle.cxx_tree.specs.Stored.{forest, size, stands};
 ghost use Rattle.cxx_tree.specs.Kept.{IsNode};
 ghost use Rattle.cxx_grammar.specs.Parses.{saved};
 ghost use Rattle.cxx_grammar.specs.Productions.{name_tree};
+ghost use Rattle.cxx_grammar.specs.Rows.{type_row_of, parse_row_of};
 ghost use Rattle.cxx_grammar.specs.Types as spec;
 ghost use Rattle.cxx_grammar.specs.Symbol.{productions};
 ghost use Rattle.cxx_reader.specs.Outcome.{state, Keeps, Moves, Gives};
 
 use crate::args::read_list;
 use crate::cases::{begins, type_case};
-use crate::names::read_name;
 use crate::reader::Reader;
+use crate::rows::{read_name_tree, read_row};
+use crate::specials::type_row;
 use cxx_grammar::cases::TypeCase;
 use cxx_tree::{Node, Plain, Stop};
 
@@ -34,6 +36,7 @@ pub fn read_type(reader: &mut Reader, depth: usize) -> Result<u32, Stop>
         TypeCase::Qualified => read_saved_type(reader, depth),
         TypeCase::Expansion => read_expansion(reader, depth),
         TypeCase::Builtin => reader.read_builtin(),
+        TypeCase::SavedRow => read_saved_row(reader, depth),
         TypeCase::Param => read_param_type(reader, depth),
         TypeCase::Pointer => read_pointer(reader, depth),
         TypeCase::Reference(is_lvalue) => read_reference(reader, depth, is_lvalue),
@@ -131,6 +134,21 @@ fn read_member_pointer(reader: &mut Reader, depth: usize) -> Result<u32, Stop>
     reader.make_saved(Node::MemberPointer(class, member))
 }
 
+// Reads a row, and saves its tree.
+#[cycle(reader)]
+#[inline(never)]
+fn read_saved_row(reader: &mut Reader, depth: usize) -> Result<u32, Stop>
+    ensures reads { Gives result reader.new (saved (parse_row_of type_row_of (productions depth)) (state reader.old)) }
+    ensures moves { OnOk result (Moves reader.old reader.new) }
+{
+    let Some(row) = type_row(reader.rest) else {
+        return Err(Stop::Unreadable);
+    };
+    let t = tri!(read_row(reader, depth, row));
+    tri!(reader.arena.save(t));
+    Ok(t)
+}
+
 // Reads `<template-param> [<template-args>]`.
 #[cycle(reader)]
 #[inline(never)]
@@ -176,7 +194,7 @@ fn read_class(reader: &mut Reader, depth: usize) -> Result<u32, Stop>
     ensures reads { Gives result reader.new (saved (name_tree (productions depth)) (state reader.old)) }
     ensures moves { OnOk result (Moves reader.old reader.new) }
 {
-    let name = tri!(read_name(reader, depth));
-    tri!(reader.arena.save(name.node));
-    Ok(name.node)
+    let name = tri!(read_name_tree(reader, depth));
+    tri!(reader.arena.save(name));
+    Ok(name)
 }

@@ -1,70 +1,110 @@
-use Rattle.std.proofs.Common.{ℕ, ◌≡◌, List, [], drop, take, ◌∙◌, length, sym, ap, subst, arith, rules, refl, Some, Err}
+use Rattle.std.proofs.Common.{ℕ, ◌≡◌, List, [], ◌∷◌, ◌++◌, drop, take, ◌∙◌, length, sym, ap, subst, arith, rules, refl, Some, Err}
 use Rattle.std.specs.List.{AllByRecursion}
 use Rattle.cxx_tree.specs.Tree.{Tree}
 use Rattle.cxx_tree.specs.Kept.{KeepsNodes, IsNode}
-use Rattle.cxx_tree.specs.Stored.{Store}
+use Rattle.cxx_tree.specs.Stored.{Store, stands}
 use Rattle.cxx_tree.proofs.Grown.{nodes-taken, saved-taken}
-use Rattle.cxx_grammar.specs.State.{State}
-use Rattle.cxx_grammar.specs.Parses.{skip, items_after, item_more, is_e, repeat}
+use Rattle.cxx_grammar.specs.State.{State, LearnedName}
+use Rattle.cxx_grammar.specs.Binds.{bind_encoding}
+use Rattle.cxx_grammar.specs.Encodings.{parse_some_params, parse_named_encoding}
+use Rattle.cxx_grammar.specs.declared.rows.End.TheVariants as end
+use Rattle.cxx_grammar.specs.declared.rows.Item.TheVariants as item
+use Rattle.cxx_grammar.specs.Parses.{skip, item_more, is_e, repeat}
+use Rattle.cxx_grammar.specs.Rows.{ends, tree_as, item_as, parse_items, list_after}
 use Rattle.cxx_grammar.specs.Names.{parse_next, parse_components}
 use Rattle.cxx_grammar.specs.Symbol.{productions}
 use Rattle.cxx_reader.specs.declared.reader.Reader.{Reader}
-use Rattle.cxx_reader.specs.Items.{ends, item_of}
-use Rattle.cxx_reader.specs.Outcome.{state, trees_behind, IsNamed, named_at, place_at, GivesNamed, GivesFrom}
-use Rattle.cxx_reader.proofs.Kept.{Keeps-trans, Keeps-arena, Moves-skip, Moves-front, Moves-trans, Moves-after}
-use Rattle.cxx_reader.proofs.Turns.{SoFar, steps_start, steps_more, steps_end}
-use Rattle.cxx_reader.proofs.Lists.{none-yet, one-more, one-more-below, close_gives, close_moves, pushed, KeepsFront-same, KeepsFront-push, items_more, items_stop, list_stop, components_stop, components_end}
+use Rattle.cxx_reader.specs.Rows.{row_at}
+use Rattle.cxx_reader.specs.Outcome.{state, trees_behind, IsNamed, named_at, place_at, Gives, GivesNamed, GivesFrom}
+use Rattle.cxx_reader.proofs.Kept.{named_stays, Keeps-trans, Keeps-arena, Moves-skip, Moves-front, Moves-trans, Moves-after}
+use Rattle.cxx_reader.proofs.Turns.{SoFar, steps_start, steps_more, steps_end, ItemsSoFar, row_start, row_more, row_end}
+use Rattle.cxx_reader.proofs.Lists.{Pushed, none-yet, none-below, one-more, close_gives, close_moves, pushed, KeepsFront-trans, collected, item_stop, items_stop, next_item, no_item, row_none, row_read, row_stop, list_stop, components_stop, components_end}
 use Rattle.cxx_reader.proofs.Sources.{source_named}
 use Rattle.cxx_reader.proofs.+reader.Goals as goal
 
-pub items::read_items-loop-items-init : goal.items::read_items-loop-items-init
-items::read_items-loop-items-init t c =
-    let r = c.args.reader.now in
-    record {
-      reads = steps_start (ends c.args.items) (item_more (item_of c.args.items (productions c.args.depth))) (trees_behind c.args.from r.arena) (state r);
-      below = c.requires.nodes;
-      keeps = KeepsFront-same c.args.from r c.requires.within;
-    }
+pub rows::collect-returns-in-Err-clause-reads : goal.rows::collect-returns-in-Err-clause-reads
+rows::collect-returns-in-Err-clause-reads t c =
+    item_stop c.in-Err.error c.args.from c.read_tree.new.reader (tree_as (productions c.args.depth) c.args.item) (trees_behind c.args.from c.args.reader.now.arena) (state c.args.reader.now) (c.in-Err.ensures {u = tt}).reads
 
-pub items::read_items-returns-in-Err-clause-reads : goal.items::read_items-returns-in-Err-clause-reads
-items::read_items-returns-in-Err-clause-reads t c =
-    items_stop c.in-Err.error c.args.from c.read_item.new.reader (item_of c.args.items (productions c.args.depth)) c.loop-items.invariant.reads (search rules) (c.in-Err.ensures {u = tt}).reads
-
-pub items::read_items-loop-items-preserved : goal.items::read_items-loop-items-preserved
-items::read_items-loop-items-preserved t c =
-    let so_far = c.loop-items.invariant in
+pub rows::collect-returns-clause-reads : goal.rows::collect-returns-clause-reads
+rows::collect-returns-clause-reads t c =
+    let mid = c.read_tree.new.reader in
     let read = c.in-Ok.ensures {u = tt} in
-    let old = c.loop-items.reader in
-    let mid = c.read_item.new.reader in
-    let i = c.in-Ok.value in
-    let item = item_of c.args.items (productions c.args.depth) in
-    let kept = c.add.ensures in
     let after : Reader = record { rest = mid.rest; arena = c.add.new.self; replaced = mid.replaced; alloc = mid.alloc } in
-    let added = pushed old mid after i read.moves.keeps kept.same kept.saved (c.in-Ok-add.ensures {u = tt}).pending refl refl read.reads in
+    collected c.add.result c.args.reader.now mid after c.in-Ok.value c.args.from (tree_as (productions c.args.depth) c.args.item) c.add.ensures.memory read.moves.keeps c.add.ensures.same c.add.ensures.saved c.add.ensures.pending refl refl read.reads
+    c.requires.within c.requires.nodes
+
+pub rows::read_items-returns-in-Err-clause-reads : goal.rows::read_items-returns-in-Err-clause-reads
+rows::read_items-returns-in-Err-clause-reads t c =
+    items_stop c.in-Err.error c.args.from c.collect.new.reader c.loop-item.invariant.reads (search rules) (c.in-Err.ensures {u = tt}).reads
+
+pub rows::read_items-loop-item-preserved : goal.rows::read_items-loop-item-preserved
+rows::read_items-loop-item-preserved t c =
+    let so_far = c.loop-item.invariant in
+    let read = c.in-Ok.ensures {u = tt} in
     record {
-      reads = subst (λ (ts : List Tree). SoFar (items_after (trees_behind c.args.from c.args.reader.now.arena) (ends c.args.items) item (state c.args.reader.now)) (ends c.args.items) (item_more item) ts (state after))
-          (sym (one-more old.arena after.arena c.args.from i added.grows so_far.below so_far.keeps.long added.pending)) (items_more item so_far.reads (search rules) added.parsed read.moves.takes);
-      below = one-more-below old.arena after.arena c.args.from i added.grows so_far.below so_far.keeps.long added.pending added.node;
-      keeps = KeepsFront-push c.args.from c.args.reader.now old after i so_far.keeps added.grows added.pending (omega (arith, read.moves.takes));
+      reads = steps_more so_far.reads (search rules) read.reads.1 read.takes;
+      below = read.reads.0;
+      keeps = KeepsFront-trans c.args.from c.args.reader.now c.loop-item.reader c.collect.new.reader so_far.keeps read.keeps;
     }
 
-pub items::read_items-returns-clause-reads : goal.items::read_items-returns-clause-reads
-items::read_items-returns-clause-reads t c =
-    let inv = c.loop-items.invariant in (inv.below, steps_end inv.reads (search rules))
+pub rows::read_items-returns-clause-reads : goal.rows::read_items-returns-clause-reads
+rows::read_items-returns-clause-reads t c =
+    let so_far = c.loop-item.invariant in (so_far.below, steps_end so_far.reads (search rules))
+
+pub rows::read_row_items-returns-in-Err-clause-reads : goal.rows::read_row_items-returns-in-Err-clause-reads
+rows::read_row_items-returns-in-Err-clause-reads t c =
+    row_stop c.in-Err.error c.args.from c.read_item.new.reader (next_item c.args.items.now _ c.loop-item.item-index c.loop-item-test.true c.loop-item.invariant.reads) (c.in-Err.ensures {u = tt}).reads
+
+pub rows::read_row_items-loop-item-preserved : goal.rows::read_row_items-loop-item-preserved
+rows::read_row_items-loop-item-preserved t c =
+    let so_far = c.loop-item.invariant in
+    let read = c.in-Ok.ensures {u = tt} in
+    record {
+      reads = row_more (next_item c.args.items.now _ c.loop-item.item-index c.loop-item-test.true so_far.reads) read.reads.1;
+      below = read.reads.0;
+      keeps = KeepsFront-trans c.args.from c.args.reader.now c.loop-item.reader c.read_item.new.reader so_far.keeps read.keeps;
+    }
+
+pub rows::read_row_items-returns-clause-reads : goal.rows::read_row_items-returns-clause-reads
+rows::read_row_items-returns-clause-reads t c =
+    let so_far = c.loop-item.invariant in (so_far.below, row_end (no_item c.args.items.now c.loop-item.item-index (omega (arith, c.loop-item-test.false)) so_far.reads))
+
+pub rows::read_row-returns-in-Err-clause-reads : goal.rows::read_row-returns-in-Err-clause-reads
+rows::read_row-returns-in-Err-clause-reads t c =
+    let p = productions c.args.depth in
+    let row = row_at c.args.row in
+    let after = c.read_row_items.new.reader in
+    let from = c.pending_len-from.result in
+    row_none c.in-Err.error from after p row (state c.args.reader.now)
+    (subst (λ (u : State). GivesFrom (Err c.in-Err.error) from after (parse_items p [] row.items u)) c.skip.ensures.state
+    (subst (λ (ts : List Tree). GivesFrom (Err c.in-Err.error) from after (parse_items p ts row.items (state c.skip.new.self)))
+    (none-yet c.skip.new.self.arena from c.pending_len-from.ensures.value) (c.in-Err.ensures {u = tt}).reads))
+
+pub rows::read_row-returns-clause-reads : goal.rows::read_row-returns-clause-reads
+rows::read_row-returns-clause-reads t c =
+    let p = productions c.args.depth in
+    let row = row_at c.args.row in
+    let mid = c.read_row_items.new.reader in
+    let from = c.pending_len-from.result in
+    let parsed : parse_items p [] row.items (skip row.skip (state c.args.reader.now)) ≡ Some (trees_behind from mid.arena, state mid) =
+    subst (λ (u : State). parse_items p [] row.items u ≡ Some (trees_behind from mid.arena, state mid)) c.skip.ensures.state
+    (subst (λ (ts : List Tree). parse_items p ts row.items (state c.skip.new.self) ≡ Some (trees_behind from mid.arena, state mid))
+    (none-yet c.skip.new.self.arena from c.pending_len-from.ensures.value) (c.in-Ok.ensures {u = tt}).reads.1) in
+    subst (Gives c.make_row.result c.make_row.new.self) (sym (row_read p row (state c.args.reader.now) (state mid) (trees_behind from mid.arena) parsed)) c.make_row.ensures.reads
 
 pub args::read_list-returns-in-Err-clause-reads : goal.args::read_list-returns-in-Err-clause-reads
-unfolding ends item_of
 args::read_list-returns-in-Err-clause-reads t c =
     let p = productions c.args.depth in
     let after = c.read_items.new.reader in
     let from = c.pending_len-from.result in
     list_stop c.in-Err.error from after p (state c.args.reader.now)
-    (subst (λ (u : State). GivesFrom (Err c.in-Err.error) from after (items_after [] is_e p.arg u)) c.skip.ensures.state
-    (subst (λ (ts : List Tree). GivesFrom (Err c.in-Err.error) from after (items_after ts is_e p.arg (state c.skip.new.self)))
+    (subst (λ (u : State). GivesFrom (Err c.in-Err.error) from after (list_after p item.Arg end.E [] u)) c.skip.ensures.state
+    (subst (λ (ts : List Tree). GivesFrom (Err c.in-Err.error) from after (list_after p item.Arg end.E ts (state c.skip.new.self)))
     (none-yet c.skip.new.self.arena from c.pending_len-from.ensures.value) (c.in-Err.ensures {u = tt}).reads))
 
 pub args::read_list-returns-clause-reads : goal.args::read_list-returns-clause-reads
-unfolding ends item_of
+unfolding ends
 args::read_list-returns-clause-reads t c =
     let p = productions c.args.depth in
     let mid = c.read_items.new.reader in
@@ -73,10 +113,10 @@ args::read_list-returns-clause-reads t c =
     let from = c.pending_len-from.result in
     let back = sym c.skip-2.ensures.arena in
     let after : Reader = record { rest = r.rest; arena = c.list_from.new.self; replaced = r.replaced; alloc = r.alloc } in
-    let parsed : items_after [] is_e p.arg (skip 1 (state c.args.reader.now)) ≡ Some (trees_behind from r.arena, state mid) =
-    subst (λ (u : State). items_after [] is_e p.arg u ≡ Some (trees_behind from r.arena, state mid)) c.skip.ensures.state
-    (subst (λ (ts : List Tree). items_after ts is_e p.arg (state c.skip.new.self) ≡ Some (trees_behind from r.arena, state mid)) (none-yet c.skip.new.self.arena from c.pending_len-from.ensures.value)
-    (subst (λ (x : Store). items_after (trees_behind from c.skip.new.self.arena) is_e p.arg (state c.skip.new.self) ≡ Some (trees_behind from x, state mid)) back read.reads.1)) in
+    let parsed : list_after p item.Arg end.E [] (skip 1 (state c.args.reader.now)) ≡ Some (trees_behind from r.arena, state mid) =
+    subst (λ (u : State). list_after p item.Arg end.E [] u ≡ Some (trees_behind from r.arena, state mid)) c.skip.ensures.state
+    (subst (λ (ts : List Tree). list_after p item.Arg end.E ts (state c.skip.new.self) ≡ Some (trees_behind from r.arena, state mid)) (none-yet c.skip.new.self.arena from c.pending_len-from.ensures.value)
+    (subst (λ (x : Store). list_after p item.Arg end.E (trees_behind from c.skip.new.self.arena) (state c.skip.new.self) ≡ Some (trees_behind from x, state mid)) back read.reads.1)) in
     close_gives c.list_from.result after r.arena from p (state c.args.reader.now) (state mid) parsed read.end c.list_from.ensures.list c.list_from.ensures.below (nodes-taken from r.arena c.list_from.new.self c.list_from.ensures.grows)
     (subst (λ (x : Store). AllByRecursion (IsNode x) (drop from x.pending)) back read.reads.0)
     (ap (λ (l : List Tree). record { rest = r.rest.now; saved = l; replaced = r.replaced }) (c.list_from.ensures.grows.saved ∙ saved-taken from r.arena) ∙ c.skip-2.ensures.state)
@@ -139,3 +179,37 @@ types::read_member_pointer-returns-clause-moves t c =
     let class = Moves-skip old c.skip.new.self c.read_type.new.reader c.skip.ensures.arena (omega (arith, c.skip.ensures.takes)) (c.in-Ok.ensures {u = tt}).moves in
     let member = Moves-trans old c.read_type.new.reader c.read_type-2.new.reader class (c.in-Ok-read_type.ensures {u = tt}).moves.keeps in
     Moves-after c.make_saved.result old c.read_type-2.new.reader c.make_saved.new.self member c.make_saved.ensures.keeps
+
+pub encodings::read_some_params-returns-clause-reads : goal.encodings::read_some_params-returns-clause-reads
+unfolding ends tree_as
+encodings::read_some_params-returns-clause-reads t c =
+    let p = productions c.args.depth in
+    let old = c.args.reader.now in
+    let mid = c.read_type.new.reader in
+    let i = c.in-Ok.value in
+    let read = c.in-Ok.ensures {u = tt} in
+    let from = c.pending_len-from.result in
+    let is = c.pending_len-from.ensures.value in
+    let start : Reader = record { rest = mid.rest; arena = c.add.new.self; replaced = mid.replaced; alloc = mid.alloc } in
+    let one : Pushed (p.type (state old)) old start i =
+    pushed old mid start i read.moves.keeps c.add.ensures.same c.add.ensures.saved (c.in-Ok-add.ensures {u = tt}).pending refl refl read.reads in
+    let trees : trees_behind from start.arena ≡ stands start.arena i ∷ [] =
+    one-more old.arena start.arena from i one.grows (none-below old.arena from is) (omega (arith, is)) one.pending ∙ ap (λ (ts : List Tree). ts ++ stands start.arena i ∷ []) (none-yet old.arena from is) in
+    let parsed : parse_some_params p (state old) ≡ list_after p item.Type end.Encoding (stands start.arena i ∷ []) (state start) = rw one.parsed refl in
+    let gives = GivesFrom c.read_items.result from c.read_items.new.reader in
+    subst (λ (n : ℕ). GivesFrom c.read_items.result n c.read_items.new.reader (parse_some_params p (state old))) is
+    (subst gives (sym parsed) (subst (λ (ts : List Tree). gives (list_after p item.Type end.Encoding ts (state start))) trees c.read_items.ensures.reads))
+
+pub encodings::read_named-returns-clause-reads : goal.encodings::read_named-returns-clause-reads
+encodings::read_named-returns-clause-reads t c =
+    let s = state c.args.reader.now in
+    let mid = c.read_name.new.reader in
+    let end = c.read_signature.new.reader in
+    let read = c.in-Ok.ensures {u = tt} in
+    let signed = c.in-Ok-read_signature.ensures {u = tt} in
+    let name = c.in-Ok.value in
+    let t = stands end.arena c.in-Ok-read_signature.value in
+    let same : named_at end.arena name ≡ named_at mid.arena name = named_stays mid.arena end.arena name signed.keeps.grows read.reads.0 in
+    let is : parse_named_encoding (productions c.args.depth) s ≡ bind_encoding (named_at mid.arena name) t (state end) = rw (read.reads.1, signed.reads.1) refl in
+    subst (Gives c.bind.result c.bind.new.self) (sym is)
+    (subst (λ (n : LearnedName). Gives c.bind.result c.bind.new.self (bind_encoding n t (state end))) same c.bind.ensures.reads)

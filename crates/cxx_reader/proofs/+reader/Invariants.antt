@@ -1,138 +1,188 @@
 use Rattle.std.proofs.Common.{◌+◌, ◌*◌, length, drop}
 use Rattle.std.specs.List.{AllByRecursion}
-use Rattle.cxx_grammar.specs.Parses.{items_after, item_more, is_e, repeat}
+use Rattle.cxx_grammar.specs.Parses.{item_more, is_e, repeat}
+use Rattle.cxx_grammar.specs.Rows.{ends, tree_as, parse_items, list_after}
 use Rattle.cxx_grammar.specs.Names.{parse_next}
 use Rattle.cxx_grammar.specs.Symbol.{productions}
-use Rattle.cxx_reader.specs.Items.{ends, item_of}
 use Rattle.cxx_tree.specs.Kept.{IsNode}
 use Rattle.cxx_reader.specs.Outcome.{state, trees_behind, IsNamed, named_at, Keeps, KeepsFront}
-use Rattle.cxx_reader.proofs.Turns.{SoFar}
+use Rattle.cxx_reader.proofs.Turns.{SoFar, ItemsSoFar}
 use Rattle.cxx_reader.proofs.+reader.Given as goal
 
 abbrev pub decreases-args::read_args : goal.decreases-args::read_args
-decreases-args::read_args l = 16 * l.depth + 4
+decreases-args::read_args l = 32 * l.depth + 6
 
 abbrev pub decreases-args::read_list : goal.decreases-args::read_list
-decreases-args::read_list l = 16 * l.depth + 3
+decreases-args::read_list l = 32 * l.depth + 5
 
 abbrev pub decreases-args::read_arg : goal.decreases-args::read_arg
-decreases-args::read_arg l = 16 * l.depth + 0
+decreases-args::read_arg l = 32 * l.depth + 0
 
 abbrev pub decreases-args::read_pack : goal.decreases-args::read_pack
-decreases-args::read_pack l = 16 * l.depth + 4
+decreases-args::read_pack l = 32 * l.depth + 6
 
 abbrev pub decreases-args::read_literal : goal.decreases-args::read_literal
-decreases-args::read_literal l = 16 * l.depth + 2
+decreases-args::read_literal l = 32 * l.depth + 2
 
 abbrev pub decreases-args::read_typed : goal.decreases-args::read_typed
-decreases-args::read_typed l = 16 * l.depth + 1
+decreases-args::read_typed l = 32 * l.depth + 1
 
 abbrev pub decreases-names::read_name : goal.decreases-names::read_name
-decreases-names::read_name l = 16 * l.depth + 0
+decreases-names::read_name l = 32 * l.depth + 0
 
 abbrev pub decreases-names::read_std_name : goal.decreases-names::read_std_name
-decreases-names::read_std_name l = 16 * l.depth + 10
+decreases-names::read_std_name l = 32 * l.depth + 10
 
 abbrev pub decreases-names::read_unscoped : goal.decreases-names::read_unscoped
-decreases-names::read_unscoped l = 16 * l.depth + 10
+decreases-names::read_unscoped l = 32 * l.depth + 10
 
 abbrev pub decreases-names::read_substituted : goal.decreases-names::read_substituted
-decreases-names::read_substituted l = 16 * l.depth + 6
+decreases-names::read_substituted l = 32 * l.depth + 8
 
 abbrev pub decreases-names::read_in_place : goal.decreases-names::read_in_place
-decreases-names::read_in_place l = 16 * l.depth + 9
+decreases-names::read_in_place l = 32 * l.depth + 9
 
 abbrev pub decreases-names::read_named_args : goal.decreases-names::read_named_args
-decreases-names::read_named_args l = 16 * l.depth + 5
+decreases-names::read_named_args l = 32 * l.depth + 7
 
 abbrev pub decreases-names::read_unqualified_name : goal.decreases-names::read_unqualified_name
-decreases-names::read_unqualified_name l = 16 * l.depth + 4
+decreases-names::read_unqualified_name l = 32 * l.depth + 4
 
 abbrev pub decreases-names::read_other_name : goal.decreases-names::read_other_name
-decreases-names::read_other_name l = 16 * l.depth + 3
+decreases-names::read_other_name l = 32 * l.depth + 3
 
 abbrev pub decreases-names::read_part : goal.decreases-names::read_part
-decreases-names::read_part l = 16 * l.depth + 2
+decreases-names::read_part l = 32 * l.depth + 2
 
 abbrev pub decreases-names::read_inherited_ctor : goal.decreases-names::read_inherited_ctor
-decreases-names::read_inherited_ctor l = 16 * l.depth + 1
+decreases-names::read_inherited_ctor l = 32 * l.depth + 1
 
 abbrev pub decreases-names::read_nested_name : goal.decreases-names::read_nested_name
-decreases-names::read_nested_name l = 16 * l.depth + 13
+decreases-names::read_nested_name l = 32 * l.depth + 13
 
 abbrev pub decreases-names::read_first : goal.decreases-names::read_first
-decreases-names::read_first l = 16 * l.depth + 9
+decreases-names::read_first l = 32 * l.depth + 11
 
 abbrev pub decreases-names::read_first_std : goal.decreases-names::read_first_std
-decreases-names::read_first_std l = 16 * l.depth + 8
+decreases-names::read_first_std l = 32 * l.depth + 10
 
 abbrev pub decreases-names::read_first_substitution : goal.decreases-names::read_first_substitution
-decreases-names::read_first_substitution l = 16 * l.depth + 8
+decreases-names::read_first_substitution l = 32 * l.depth + 10
 
 abbrev pub decreases-names::read_components : goal.decreases-names::read_components
-decreases-names::read_components l = 16 * l.depth + 9
+decreases-names::read_components l = 32 * l.depth + 11
 
 abbrev pub decreases-names::read_next : goal.decreases-names::read_next
-decreases-names::read_next l = 16 * l.depth + 8
+decreases-names::read_next l = 32 * l.depth + 10
 
 abbrev pub decreases-names::read_component : goal.decreases-names::read_component
-decreases-names::read_component l = 16 * l.depth + 7
+decreases-names::read_component l = 32 * l.depth + 9
 
 abbrev pub decreases-names::read_more_args : goal.decreases-names::read_more_args
-decreases-names::read_more_args l = 16 * l.depth + 6
+decreases-names::read_more_args l = 32 * l.depth + 8
 
 abbrev pub decreases-types::read_type : goal.decreases-types::read_type
-decreases-types::read_type l = 16 * l.depth + 0
+decreases-types::read_type l = 32 * l.depth + 0
 
 abbrev pub decreases-types::read_saved_type : goal.decreases-types::read_saved_type
-decreases-types::read_saved_type l = 16 * l.depth + 1
+decreases-types::read_saved_type l = 32 * l.depth + 1
 
 abbrev pub decreases-types::read_qualified_type : goal.decreases-types::read_qualified_type
-decreases-types::read_qualified_type l = 16 * l.depth + 0
+decreases-types::read_qualified_type l = 32 * l.depth + 0
 
 abbrev pub decreases-types::read_qualified : goal.decreases-types::read_qualified
-decreases-types::read_qualified l = 16 * l.depth + 1
+decreases-types::read_qualified l = 32 * l.depth + 1
 
 abbrev pub decreases-types::read_expansion : goal.decreases-types::read_expansion
-decreases-types::read_expansion l = 16 * l.depth + 1
+decreases-types::read_expansion l = 32 * l.depth + 1
 
 abbrev pub decreases-types::read_pointer : goal.decreases-types::read_pointer
-decreases-types::read_pointer l = 16 * l.depth + 1
+decreases-types::read_pointer l = 32 * l.depth + 1
 
 abbrev pub decreases-types::read_reference : goal.decreases-types::read_reference
-decreases-types::read_reference l = 16 * l.depth + 1
+decreases-types::read_reference l = 32 * l.depth + 1
 
 abbrev pub decreases-types::read_member_pointer : goal.decreases-types::read_member_pointer
-decreases-types::read_member_pointer l = 16 * l.depth + 1
+decreases-types::read_member_pointer l = 32 * l.depth + 1
 
 abbrev pub decreases-types::read_param_type : goal.decreases-types::read_param_type
-decreases-types::read_param_type l = 16 * l.depth + 5
+decreases-types::read_param_type l = 32 * l.depth + 7
 
 abbrev pub decreases-types::read_substituted_type : goal.decreases-types::read_substituted_type
-decreases-types::read_substituted_type l = 16 * l.depth + 5
+decreases-types::read_substituted_type l = 32 * l.depth + 7
 
 abbrev pub decreases-types::read_type_args : goal.decreases-types::read_type_args
-decreases-types::read_type_args l = 16 * l.depth + 4
+decreases-types::read_type_args l = 32 * l.depth + 6
 
 abbrev pub decreases-types::read_class : goal.decreases-types::read_class
-decreases-types::read_class l = 16 * l.depth + 1
+decreases-types::read_class l = 32 * l.depth + 2
 
-abbrev pub decreases-items::read_items : goal.decreases-items::read_items
-decreases-items::read_items l = 16 * l.depth + 2
+abbrev pub decreases-rows::read_row : goal.decreases-rows::read_row
+decreases-rows::read_row l = 32 * l.depth + 6
 
-abbrev pub decreases-items::read_item : goal.decreases-items::read_item
-decreases-items::read_item l = 16 * l.depth + 1
+abbrev pub decreases-rows::read_row_items : goal.decreases-rows::read_row_items
+decreases-rows::read_row_items l = 32 * l.depth + 5
 
-abbrev pub invariant-items::read_items-loop-items : goal.invariant-items::read_items-loop-items
-invariant-items::read_items-loop-items l = record {
-  reads : SoFar (items_after (trees_behind l.from l.fn.reader.arena) (ends l.items) (item_of l.items (productions l.depth)) (state l.fn.reader))
-      (ends l.items) (item_more (item_of l.items (productions l.depth))) (trees_behind l.from l.reader.arena) (state l.reader);
+abbrev pub decreases-rows::read_item : goal.decreases-rows::read_item
+decreases-rows::read_item l = 32 * l.depth + 4
+
+abbrev pub decreases-rows::read_items : goal.decreases-rows::read_items
+decreases-rows::read_items l = 32 * l.depth + 4
+
+abbrev pub decreases-rows::collect : goal.decreases-rows::collect
+decreases-rows::collect l = 32 * l.depth + 3
+
+abbrev pub decreases-rows::read_tree : goal.decreases-rows::read_tree
+decreases-rows::read_tree l = 32 * l.depth + 2
+
+abbrev pub decreases-rows::read_name_tree : goal.decreases-rows::read_name_tree
+decreases-rows::read_name_tree l = 32 * l.depth + 1
+
+abbrev pub decreases-encodings::read_encoding : goal.decreases-encodings::read_encoding
+decreases-encodings::read_encoding l = 32 * l.depth + 0
+
+abbrev pub decreases-encodings::read_special : goal.decreases-encodings::read_special
+decreases-encodings::read_special l = 32 * l.depth + 7
+
+abbrev pub decreases-encodings::read_named : goal.decreases-encodings::read_named
+decreases-encodings::read_named l = 32 * l.depth + 10
+
+abbrev pub decreases-encodings::read_signature : goal.decreases-encodings::read_signature
+decreases-encodings::read_signature l = 32 * l.depth + 9
+
+abbrev pub decreases-encodings::read_function : goal.decreases-encodings::read_function
+decreases-encodings::read_function l = 32 * l.depth + 8
+
+abbrev pub decreases-encodings::read_return_type : goal.decreases-encodings::read_return_type
+decreases-encodings::read_return_type l = 32 * l.depth + 5
+
+abbrev pub decreases-encodings::read_params : goal.decreases-encodings::read_params
+decreases-encodings::read_params l = 32 * l.depth + 7
+
+abbrev pub decreases-encodings::read_some_params : goal.decreases-encodings::read_some_params
+decreases-encodings::read_some_params l = 32 * l.depth + 6
+
+abbrev pub decreases-types::read_saved_row : goal.decreases-types::read_saved_row
+decreases-types::read_saved_row l = 32 * l.depth + 7
+
+abbrev pub invariant-rows::read_row_items-loop-item : goal.invariant-rows::read_row_items-loop-item
+invariant-rows::read_row_items-loop-item l = record {
+  reads : ItemsSoFar (parse_items (productions l.depth) (trees_behind l.from l.fn.reader.arena) l.items (state l.fn.reader))
+      (productions l.depth) (trees_behind l.from l.reader.arena) (drop l.item-index l.items) (state l.reader);
   below : AllByRecursion (IsNode l.reader.arena) (drop l.from l.reader.arena.pending);
   keeps : KeepsFront l.from l.fn.reader l.reader;
 }
 
-abbrev pub decreases-items::read_items-loop-items : goal.decreases-items::read_items-loop-items
-decreases-items::read_items-loop-items l = length l.reader.rest.now
+abbrev pub invariant-rows::read_items-loop-item : goal.invariant-rows::read_items-loop-item
+invariant-rows::read_items-loop-item l = record {
+  reads : SoFar (list_after (productions l.depth) l.item l.end (trees_behind l.from l.fn.reader.arena) (state l.fn.reader))
+      (ends l.end) (item_more (tree_as (productions l.depth) l.item)) (trees_behind l.from l.reader.arena) (state l.reader);
+  below : AllByRecursion (IsNode l.reader.arena) (drop l.from l.reader.arena.pending);
+  keeps : KeepsFront l.from l.fn.reader l.reader;
+}
+
+abbrev pub decreases-rows::read_items-loop-item : goal.decreases-rows::read_items-loop-item
+decreases-rows::read_items-loop-item l = length l.reader.rest.now
 
 abbrev pub invariant-names::read_components-loop-reader : goal.invariant-names::read_components-loop-reader
 invariant-names::read_components-loop-reader l = record {

@@ -1,0 +1,152 @@
+//! Lists of items, and productions that are a row of items.
+#![tactic(auto, using(crate::proofs::Rules::productions), unfolding(cxx_tree::specs::Grows::Makes, cxx_tree::specs::Stored::stands, crate::specs::Outcome::named_at, cxx_grammar::specs::Rows::tree_as, cxx_grammar::specs::Rows::item_as, cxx_grammar::specs::Rows::ends))]
+
+ghost use Rattle.std.specs.Prelude.{◌≡◌, ℕ, ◌<◌, ◌≤◌, length, drop, true, OnOk};
+ghost use Rattle.std.specs.List.{AllByRecursion};
+ghost use Rattle.cxx_tree.specs.Kept.{IsNode};
+ghost use Rattle.cxx_grammar.specs.Parses.{item_more};
+ghost use Rattle.cxx_grammar.specs.Productions.{name_tree};
+ghost use Rattle.cxx_grammar.specs.Rows as spec;
+ghost use Rattle.cxx_grammar.specs.Symbol.{productions};
+ghost use Rattle.cxx_reader.specs.Outcome.{state, trees_behind, KeepsFront, Moves, Gives, GivesFrom};
+ghost use Rattle.cxx_reader.specs.Rows.{row_at};
+
+use crate::args::read_arg;
+use crate::cases::{begins, is_encoding_end};
+use crate::encodings::read_encoding;
+use crate::names::read_name;
+use crate::reader::Reader;
+use crate::types::read_type;
+use cxx_grammar::rows::{End, Item, Row};
+use cxx_tree::Stop;
+
+/// Reads a row, and makes the node of its items.
+#[cycle(reader)]
+#[inline(never)]
+pub fn read_row(reader: &mut Reader, depth: usize, row: Row) -> Result<u32, Stop>
+    requires some { 0 < row.skip }
+    requires rest { 0 < length reader.old.rest.now }
+    ensures reads { Gives result reader.new (spec.parse_row (productions depth) (row_at row) (state reader.old)) }
+    ensures moves { OnOk result (Moves reader.old reader.new) }
+{
+    reader.skip(row.skip);
+    let from = reader.arena.pending_len();
+    tri!(read_row_items(reader, depth, row.items, from));
+    reader.make_row(row, from)
+}
+
+// Reads items one after the other, and collects their nodes.
+#[cycle(reader)]
+#[inline(never)]
+fn read_row_items(
+    reader: &mut Reader,
+    depth: usize,
+    items: &[Item],
+    from: usize,
+) -> Result<(), Stop>
+    requires within { from ≤ length reader.old.arena.pending }
+    requires nodes { AllByRecursion (IsNode reader.old.arena) (drop from reader.old.arena.pending) }
+    ensures reads { GivesFrom result from reader.new (spec.parse_items (productions depth)
+        (trees_behind from reader.old.arena) items.now (state reader.old)) }
+    ensures keeps { OnOk result (KeepsFront from reader.old reader.new) }
+{
+    for item in items {
+        tri!(read_item(reader, depth, *item, from));
+    }
+    Ok(())
+}
+
+// Reads an item, and collects its node.
+#[cycle(reader)]
+#[inline(always)]
+fn read_item(reader: &mut Reader, depth: usize, item: Item, from: usize) -> Result<(), Stop>
+    requires within { from ≤ length reader.old.arena.pending }
+    requires nodes { AllByRecursion (IsNode reader.old.arena) (drop from reader.old.arena.pending) }
+    ensures reads { GivesFrom result from reader.new (spec.item_as (productions depth)
+        (trees_behind from reader.old.arena) item (state reader.old)) }
+    ensures keeps { OnOk result (KeepsFront from reader.old reader.new) }
+{
+    match item {
+        Item::Offset => reader.skip_offset(),
+        Item::CallOffset => reader.skip_call_offset(),
+        Item::SeqId => reader.skip_seq_id(),
+        _ => collect(reader, depth, item, from),
+    }
+}
+
+/// Reads the items of a list up to its end, and collects their nodes. Those that were collected from `from` on are
+/// items of the same list.
+#[cycle(reader)]
+#[inline(always)]
+pub fn read_items(
+    reader: &mut Reader,
+    depth: usize,
+    item: Item,
+    end: End,
+    from: usize,
+) -> Result<(), Stop>
+    requires within { from ≤ length reader.old.arena.pending }
+    requires nodes { AllByRecursion (IsNode reader.old.arena) (drop from reader.old.arena.pending) }
+    ensures reads { GivesFrom result from reader.new (spec.list_after (productions depth) item end
+        (trees_behind from reader.old.arena) (state reader.old)) }
+    ensures keeps { OnOk result (KeepsFront from reader.old reader.new) }
+    ensures end { OnOk result (spec.ends end reader.new.rest.now ≡ true) }
+{
+    while !is_end(reader.rest, end) {
+        tri!(collect(reader, depth, item, from));
+    }
+    Ok(())
+}
+
+// Reads an item that has a node, and collects it.
+#[cycle(reader)]
+#[inline(always)]
+fn collect(reader: &mut Reader, depth: usize, item: Item, from: usize) -> Result<(), Stop>
+    requires within { from ≤ length reader.old.arena.pending }
+    requires nodes { AllByRecursion (IsNode reader.old.arena) (drop from reader.old.arena.pending) }
+    ensures reads { GivesFrom result from reader.new (item_more (spec.tree_as (productions depth) item)
+        (trees_behind from reader.old.arena) (state reader.old)) }
+    ensures keeps { OnOk result (KeepsFront from reader.old reader.new) }
+    ensures takes { OnOk result (length reader.new.rest.now < length reader.old.rest.now) }
+{
+    let i = tri!(read_tree(reader, depth, item));
+    reader.arena.add(i)
+}
+
+// Reads an item that has a node.
+#[cycle(reader)]
+#[inline(always)]
+fn read_tree(reader: &mut Reader, depth: usize, item: Item) -> Result<u32, Stop>
+    ensures reads { Gives result reader.new (spec.tree_as (productions depth) item (state reader.old)) }
+    ensures moves { OnOk result (Moves reader.old reader.new) }
+{
+    match item {
+        Item::Type => read_type(reader, depth),
+        Item::Name => read_name_tree(reader, depth),
+        Item::Arg => read_arg(reader, depth),
+        Item::Encoding => read_encoding(reader, depth),
+        _ => Err(Stop::Unreadable),
+    }
+}
+
+/// Reads `<name>`, of which nothing else matters.
+#[cycle(reader)]
+#[inline(always)]
+pub fn read_name_tree(reader: &mut Reader, depth: usize) -> Result<u32, Stop>
+    ensures reads { Gives result reader.new (name_tree (productions depth) (state reader.old)) }
+    ensures moves { OnOk result (Moves reader.old reader.new) }
+{
+    let name = tri!(read_name(reader, depth));
+    Ok(name.node)
+}
+
+// Returns whether a list ends here.
+#[inline(always)]
+fn is_end(bytes: &[u8], end: End) -> bool
+    ensures value { result ≡ spec.ends end bytes.now }
+{
+    match end {
+        End::E => begins(bytes, b'E'),
+        End::Encoding => is_encoding_end(bytes),
+    }
+}
