@@ -24,8 +24,9 @@ use Rattle.cxx_tree.specs.Stored.{Held, Store, text_at, forest, size, tree_at, t
 use Rattle.cxx_tree.specs.Grows.{Grows, Makes}
 use Rattle.cxx_tree.specs.declared.arena.Stop.{Stop}
 use Rattle.cxx_tree.specs.declared.arena.Stop.TheVariants.{Memory, Unreadable}
-use Rattle.cxx_tree.proofs.Grown.{Grows-trans, Makes-after, Makes-refused, Makes-limit, Grows-same, Extends-same, trees_at-grows, below-grows}
-use Rattle.cxx_tree.proofs.Forest.{trees_at-same, option_at-same, parts_of-same, parts_of-more, trees_in-more, parts_in-more, IsListBelow-more, IsPartsBelow-more, IsPartBelow-more, all_parts-more}
+use Rattle.cxx_tree.proofs.Grown.{Makes-after, Makes-refused, Makes-limit, Grows-same, Grows-trans, trees_at-grows}
+use Rattle.cxx_tree.proofs.Making.{Makes-memory, trees_in-grows, parts_of-grows, parts_in-grows}
+use Rattle.cxx_tree.proofs.Forest.{Extends-same, map-same, below-more, IsListBelow-more, IsPartsBelow-more, IsPartBelow-more, all_parts-more}
 use Rattle.cxx_tree.specs.Bind.{Binding, bind, bind_each, bind_parts, binding_at, names_at, AreNamed, bound_at, bound_list, bound_parts, part_at, bound, has_name, other, as_pack}
 
 -- what isn't within the limits makes the whole so
@@ -170,52 +171,20 @@ mutual
       cc
 
 -- what a call makes
-pub Makes-memory : (r : Result ℕ Stop) (a b : Store) (t : Tree) → r ≡ Err Memory → Grows a b
-    → Makes r a b t
-Makes-memory r a b t e g = subst (λ (q : Result ℕ Stop). Makes q a b t) (sym e) (Makes-refused a b t g)
-
 pub Makes-then : (r : Result ℕ Stop) (a b c : Store) (t u : Tree) → Makes r b c t → t ≡ u → Grows a b
     → Makes r a c u
 Makes-then r a b c t u m e g = Makes-after r a b c u g (subst (Makes r b c) e m)
 
--- trees of an arena that grows
-pub option_at-grows : (a b : Store) → Grows a b → (o : Option ℕ) → IsOptionBelow (size a) o
-    → option_at (forest b) o ≡ option_at (forest a) o
-option_at-grows a b g o h = option_at-same (size a) (forest b) (forest a) (λ i l. g.same i l) o h
-
-pub trees_in-grows : (a b : Store) → Grows a b → (l : handle.List) → IsListBelow a.held (size a) l
-    → trees_in b.held (forest b) l ≡ trees_in a.held (forest a) l
-trees_in-grows a b g l h =
-    trees_in-more a.held b.held g.extends (size a) (forest b) l h
-    ∙ trees_at-same (size a) (forest b) (forest a) (λ i u. g.same i u) (list_at a.held l) h.1
-
-pub parts_of-grows : (a b : Store) → Grows a b → (ps : List Part)
-    → AllByRecursion (IsPartBelow a.held (size a)) ps → parts_of b.held (forest b) ps
-    ≡ parts_of a.held (forest a) ps
-parts_of-grows a b g ps h =
-    parts_of-more a.held b.held g.extends (size a) (forest b) ps h
-    ∙ parts_of-same a.held (size a) (forest b) (forest a) (λ i u. g.same i u) ps h
-
-pub parts_in-grows : (a b : Store) → Grows a b → (ps : handles.Parts) → IsPartsBelow a.held (size a) ps
-    → parts_in b.held (forest b) ps ≡ parts_in a.held (forest a) ps
-parts_in-grows a b g ps h =
-    parts_in-more a.held b.held g.extends (size a) (forest b) ps h
-    ∙ parts_of-same a.held (size a) (forest b) (forest a) (λ i u. g.same i u) (parts_at a.held ps) h.1
-
-map-grows : (a b : Store) → Grows a b → (is : List ℕ) → AllByRecursion (λ t. t < size a) is
-    → map (tree_at (forest b)) is ≡ map (tree_at (forest a)) is
-map-grows a b g [] h = refl
-map-grows a b g (i ∷ is) h = let one = g.same i h.0 in let rest = map-grows a b g is h.1 in cc
-
+-- the names of a binding, as an arena grows
 pub binding_at-grows : (a b : Store) (x : given.Binding) → Grows a b → AreNamed a x → binding_at b x
     ≡ binding_at a x
 binding_at-grows a b x g h =
     ap (λ (ts : List Tree). record { level = x.level; names = ts; others = x.others })
-    (ap (λ (is : List ℕ). map (tree_at (forest b)) (drop x.from is)) g.pending ∙ map-grows a b g (names_at a x) h.1)
+    (ap (λ (is : List ℕ). map (tree_at (forest b)) (drop x.from is)) g.pending ∙ map-same (size a) (forest b) (forest a) g.same (names_at a x) h.1)
 
 pub AreNamed-grows : (a b : Store) (x : given.Binding) → Grows a b → AreNamed a x → AreNamed b x
 AreNamed-grows a b x g h =
-    (omega (arith, ap length g.pending, h.0), subst (λ (is : List ℕ). AllByRecursion (λ n. n < size b) (drop x.from is)) (sym g.pending) (below-grows a b g (names_at a x) h.1))
+    (omega (arith, ap length g.pending, h.0), subst (λ (is : List ℕ). AllByRecursion (λ n. n < size b) (drop x.from is)) (sym g.pending) (below-more (size a) (size b) (names_at a x) g.longer h.1))
 
 -- a tree, a list and parts, after an arena grew
 pub tree-after : (a b : Store) (x : given.Binding) (i : ℕ) → Grows a b → AreNamed a x → i < size a
@@ -242,10 +211,6 @@ IsPartsBelow-grows a b n ps g h = IsPartsBelow-more a.held b.held g.extends n n 
 pub IsPartBelow-grows : (a b : Store) (n : ℕ) (p : Part) → Grows a b → IsPartBelow a.held n p
     → IsPartBelow b.held n p
 IsPartBelow-grows a b n p g h = IsPartBelow-more a.held b.held g.extends n n (omega arith) p h
-
-pub list_below-grows : (a b : Store) (l : handle.List) → Grows a b → IsListBelow a.held (size a) l
-    → IsListBelow b.held (size b) l
-list_below-grows a b l g h = IsListBelow-more a.held b.held g.extends (size a) (size b) g.longer l h
 
 pub list-after : (a b : Store) (x : given.Binding) (n : ℕ) (l : handle.List) → Grows a b → AreNamed a x
     → n ≤ size a → IsListBelow a.held n l → (trees_in b.held (forest b) l ≡ trees_in a.held (forest a) l)

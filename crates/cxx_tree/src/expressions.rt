@@ -46,7 +46,8 @@ impl Arena {
         )
     }
 
-    /// Makes `sizeof...(PACK)`, or with a blank `sizeof... (PACK)`, in GNU's style the number of elements if it is known.
+    /// Makes `sizeof...(PACK)`, or with a blank `sizeof... (PACK)`, in GNU's style the number of elements if it is
+    /// known.
     pub fn make_pack_count(&mut self, has_blank: bool, pack: u32) -> Result<u32, Stop>
         requires pack { pack < size self.old }
         ensures makes { Makes result self.old self.new (phrases.count has_blank (tree_at (forest self.old) pack)) }
@@ -224,8 +225,9 @@ impl Arena {
         requires placement { IsListBelow self.old.held (size self.old) placement }
         requires t { t < size self.old }
         requires inits { IsListBelow self.old.held (size self.old) inits }
-        ensures makes { Makes result self.old self.new (phrases.new_expression (trees_in self.old.held (forest self.old) placement)
-            (tree_at (forest self.old) t) (trees_in self.old.held (forest self.old) inits) is_global is_array) }
+        ensures makes { Makes result self.old self.new (phrases.new_expression
+            (trees_in self.old.held (forest self.old) placement) (tree_at (forest self.old) t)
+            (trees_in self.old.held (forest self.old) inits) is_global is_array) }
     {
         let front = styled(new_llvm(is_global, is_array), new_gnu(is_global));
         let attributes = expression(0, Prec::Unary);
@@ -374,8 +376,8 @@ impl Arena {
         self.make_phrase(attributes, &[fixed(b"("), folded, blank, held(symbol), end])
     }
 
-    /// Makes `(... SYMBOL PACK)`, `(PACK SYMBOL ...)`, `(INIT SYMBOL ... SYMBOL PACK)` or `(PACK SYMBOL ... SYMBOL INIT)`,
-    /// in GNU's style without blanks.
+    /// Makes `(... SYMBOL PACK)`, `(PACK SYMBOL ...)`, `(INIT SYMBOL ... SYMBOL PACK)` or
+    /// `(PACK SYMBOL ... SYMBOL INIT)`, in GNU's style without blanks.
     pub fn make_fold(
         &mut self,
         is_left: bool,

@@ -1,6 +1,6 @@
 //! Trees of demangled symbols, as nodes of an arena (Itanium C++ ABI 5.1). Begin with `node.rt` and `arena.rt`;
-//! `specs/Tree` defines the trees. `names.rt`, `types.rt`, `expressions.rt` and `lambdas.rt` make the nodes that are more
-//! than a call of `Arena::push`.
+//! `specs/Tree` defines the trees. `names.rt`, `types.rt`, `expressions.rt` and `lambdas.rt` make the nodes that are
+//! more than a call of `Arena::push`.
 #![tactic(auto)]
 
 /// The value of a result. An error is returned as it is.

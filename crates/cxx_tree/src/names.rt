@@ -166,7 +166,8 @@ impl Arena {
     /// Makes the names of a structured binding: `[NAMES]`.
     pub fn make_bindings(&mut self, names: List) -> Result<u32, Stop>
         requires names { IsListBelow self.old.held (size self.old) names }
-        ensures makes { Makes result self.old self.new (phrases.bindings (trees_in self.old.held (forest self.old) names)) }
+        ensures makes { Makes result self.old self.new
+            (phrases.bindings (trees_in self.old.held (forest self.old) names)) }
     {
         let attributes = Phrase {
             is_closed: true,

@@ -6,8 +6,10 @@ use Rattle.cxx_tree.specs.Tree.{Tree, Trees, Parts}
 use Rattle.cxx_tree.specs.Measure.{measure, measure_each, measure_parts}
 use Rattle.cxx_tree.specs.Stored.{forest, size, tree_at, trees_at, parts_of, tree_of, plain_tree, IsPartBelow}
 use Rattle.cxx_tree.specs.Bind.{bind, bind_each, bind_parts, bound, binding_at, bound_at, node_at}
-use Rattle.cxx_tree.proofs.Grown.{Makes-node, Grows-same, Grows-trans, below-grows}
-use Rattle.cxx_tree.proofs.Replaced.{stays, Makes-err, Makes-grows, Makes-below, Makes-tree, Makes-unfit, few-pushed, some-params, limit_second, limit_of, tree-after, list-after, parts-after, option_at-grows, trees_in-grows, AreNamed-grows, all-push, each-unfit, Listed, listed_below, list-few, list-bound, list-end, list-below, parts-unfit, Parted, parted_below, part-after, parts-few, parts-bound, parts-end, parts-below, all_parts-grows, IsPartBelow-grows, limit_third, IsListBelow-grows, IsPartsBelow-grows, list_below-grows, three_same, joined_trees, joined_parts}
+use Rattle.cxx_tree.proofs.Grown.{Makes-node, Grows-same, Grows-trans}
+use Rattle.cxx_tree.proofs.Forest.{below-more}
+use Rattle.cxx_tree.proofs.Making.{option_at-grows, trees_in-grows, list_below-grows}
+use Rattle.cxx_tree.proofs.Replaced.{stays, Makes-err, Makes-grows, Makes-below, Makes-tree, Makes-unfit, few-pushed, some-params, limit_second, limit_of, tree-after, list-after, parts-after, AreNamed-grows, all-push, each-unfit, Listed, listed_below, list-few, list-bound, list-end, list-below, parts-unfit, Parted, parted_below, part-after, parts-few, parts-bound, parts-end, parts-below, all_parts-grows, IsPartBelow-grows, limit_third, IsListBelow-grows, IsPartsBelow-grows, three_same, joined_trees, joined_parts}
 use Rattle.cxx_tree.proofs.Measured.{row-fit}
 use Rattle.cxx_tree.proofs.+binding.Goals as goal
 
@@ -335,7 +337,7 @@ children::bind_list-loop-t-preserved t c =
           c.loop-t.t-index 0 is c.loop-t-test.true c.loop-t.invariant.grows c.loop-t.invariant.few made.few;
       below =
           all-push _ _ _ _ _
-          (below-grows c.loop-t.arena c.bind.new.arena made.grows c.loop-t.items.items c.loop-t.invariant.below)
+          (below-more (size c.loop-t.arena) (size c.bind.new.arena) c.loop-t.items.items made.grows.longer c.loop-t.invariant.below)
           made.below ns;
       bound =
           list-bound c.args.arena.now c.loop-t.arena c.bind.new.arena c.args.binding.now c.args.i c.args.list
