@@ -20,8 +20,8 @@ use Rattle.cxx_tree.specs.declared.node.Declaration.TheVariants as declaration
 use Rattle.cxx_tree.specs.declared.node.Node.{Node}
 use Rattle.cxx_tree.specs.declared.node.Node.TheVariants as node
 use Rattle.cxx_tree.specs.Tree.{Tree, named, phrase, data_name, listed, expansion, pack_param, qualified, pointer, reference, pack, no_trees, more_trees}
-use Rattle.cxx_tree.specs.Stored.{Held, Store, text_at, list_at, parts_at, tree_at, trees_at, trees_in, option_at, trees_from_list, parts_of, parts_in, plain_tree, declaration_tree, tree_of, IsRange, IsText, IsListBelow, IsPartBelow, IsPartsBelow, IsOptionBelow, IsPlainBelow, IsDeclarationBelow, IsBelow, trees_from, forest, size, Begins, Extends, IsWithin}
-use Rattle.cxx_tree.specs.View.{AreStored, IsStore, IsKept, HasNodes, nodes_of}
+use Rattle.cxx_tree.specs.Stored.{Held, Store, text_at, list_at, parts_at, tree_at, trees_at, trees_in, option_at, trees_from_list, parts_of, parts_in, plain_tree, declaration_tree, tree_of, IsRange, IsText, IsListBelow, IsPartBelow, IsPartsBelow, IsOptionBelow, IsPlainBelow, IsDeclarationBelow, IsBelow, trees_from, forest, size, Begins, Extends}
+use Rattle.cxx_tree.specs.View.{AreStored, IsStore, IsKept}
 use Rattle.cxx_tree.specs.Counts.{AreCounted}
 
 -- a node at the end
@@ -313,26 +313,6 @@ pub pushed-forest : (a b : Store) (n : Node) → b.nodes ≡ a.nodes ++ n ∷ []
 unfolding forest
 pushed-forest a b n e h =
     ap (trees_from b.held []) e ∙ ap (λ (g : Held). trees_from g [] (a.nodes ++ n ∷ [])) h ∙ trees_from-push a.held [] a.nodes n
-
--- nothing is kept of what is empty
-pub kept-empty : (es : List entry.Entry) (h : Held) (k p : List ℕ) (m : ℕ) → es ≡ [] → h.lists ≡ [] → h.parts ≡ [] → h.texts ≡ [] → k ≡ [] → p ≡ [] → m ≤ 4294967295
-    → IsKept es (record { nodes = nodes_of es; held = h; saved = k; pending = p; limit = m })
-unfolding AreCounted forest
-kept-empty es h k p m e l q x f g small =
-    let s : Store = record { nodes = nodes_of es; held = h; saved = k; pending = p; limit = m } in
-    let within : IsWithin m s =
-    record {
-      nodes = omega (arith, ap length (ap nodes_of e));
-      items = omega (arith, ap length l);
-      parts = omega (arith, ap length q);
-      texts = omega (arith, ap length x);
-      saved = omega (arith, ap length f);
-      pending = omega (arith, ap length g);
-    } in
-    let none : AreStored h 0 (nodes_of es) × AreCounted es (forest s) = rw e (tt, tt) in
-    let has : HasNodes s =
-    record { saved = subst (AllByRecursion (λ i. i < size s)) (sym f) tt; pending = subst (AllByRecursion (λ i. i < size s)) (sym g) tt } in
-    (none.0, none.1, record { within = within; small = small }, has)
 
 -- indices of a store that grew
 pub below-push : (n : ℕ) (is : List ℕ) (i : ℕ) → AllByRecursion (λ k. k < n) is → i < n → AllByRecursion (λ k. k < n) (is ++ i ∷ [])

@@ -53,12 +53,6 @@ between h ts none front one two back all piece e f g k =
     ∙ g (put h ts back no_parts)
     ∙ ap (λ (l : List Part). put h ts l (piece (put h ts back no_parts))) first
 
-pub between-below : (h : Held) (n : ℕ) (none front one two back all : List Part) → none ≡ [] → one ≡ none ++ front → (AllByRecursion (IsPartBelow h n) one → AllByRecursion (IsPartBelow h n) two) → all ≡ two ++ back → AllByRecursion (IsPartBelow h n) front → AllByRecursion (IsPartBelow h n) back → AllByRecursion (IsPartBelow h n) all
-between-below h n none front one two back all e f g k p q =
-    let first : one ≡ front = f ∙ ap (λ (l : List Part). l ++ front) e in
-    subst (AllByRecursion (IsPartBelow h n)) (sym k)
-    (all-append h n two back (g (subst (AllByRecursion (IsPartBelow h n)) (sym first) p)) q)
-
 -- the declarations of a signature
 declared-as : (ts : List Tree) (is : List ℕ) (any : Bool) (behind : Parts) → any ≡ not (length is == 0) → declared_if any (trees_at ts is) behind ≡ declared (trees_at ts is) behind
 declared-as ts [] true behind e = absurd (grind (arith, nat_tests))

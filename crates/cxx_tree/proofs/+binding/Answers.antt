@@ -1,15 +1,14 @@
-use Rattle.std.proofs.Common.{ℕ, ◌≡◌, ◌+◌, ◌<◌, false, List, ◌∙◌, sym, subst, length, ap, arith, rules, refl}
+use Rattle.std.proofs.Common.{ℕ, ◌≡◌, ◌+◌, false, List, ◌∙◌, sym, subst, ap, arith, rules, refl}
 use Rattle.std.proofs.Math.ListN.{get_or}
-use Rattle.std.specs.List.{AllByRecursion}
 use Rattle.cxx_tree.specs.declared.node.Part.{Part}
 use Rattle.cxx_tree.specs.Tree.{Tree, Trees, Parts}
 use Rattle.cxx_tree.specs.Measure.{measure, measure_each, measure_parts}
-use Rattle.cxx_tree.specs.Stored.{forest, size, tree_at, trees_at, parts_of, tree_of, plain_tree, IsPartBelow}
+use Rattle.cxx_tree.specs.Stored.{forest, size, tree_at, trees_at, parts_of, tree_of, plain_tree}
 use Rattle.cxx_tree.specs.Bind.{bind, bind_each, bind_parts, bound, binding_at, bound_at, node_at}
 use Rattle.cxx_tree.proofs.Grown.{Makes-node, Grows-same, Grows-trans}
 use Rattle.cxx_tree.proofs.Forest.{below-more}
 use Rattle.cxx_tree.proofs.Making.{option_at-grows, trees_in-grows, list_below-grows}
-use Rattle.cxx_tree.proofs.Replaced.{stays, Makes-err, Makes-grows, Makes-below, Makes-tree, Makes-unfit, few-pushed, some-params, limit_second, limit_of, tree-after, list-after, parts-after, all-push, each-unfit, is_listed, listed_below, list-few, list-bound, list-end, list-below, parts-unfit, is_parted, parted_below, part-after, parts-few, parts-bound, parts-end, parts-below, all_parts-grows, list-all, parts-all, list-ready, parts-ready, part-ready, limit_third, three_same, joined_trees, joined_parts}
+use Rattle.cxx_tree.proofs.Replaced.{stays, Makes-err, Makes-grows, Makes-below, Makes-tree, Makes-unfit, few-pushed, some-params, limit_second, limit_of, tree-after, list-after, parts-after, all-push, each-unfit, is_listed, listed_below, list-few, list-bound, list-end, list-below, parts-unfit, is_parted, parted_below, part-after, parts-few, parts-bound, parts-end, parts-below, all_parts-grows, list-all, parts-all, list-ready, parts-ready, part-ready, limit_third, three_same}
 use Rattle.cxx_tree.proofs.Measured.{row-fit}
 use Rattle.cxx_tree.proofs.+binding.Goals as goal
 
@@ -259,18 +258,6 @@ children::bind_four-returns-clause-bound t c =
       (c.in-Ok-bind_three.ensures {u = tt}).bound.2 ∙ three.1,
     )
 
-pub children::bind_list-loop-t-init : goal.children::bind_list-loop-t-init
-children::bind_list-loop-t-init t c =
-    record {
-      grows = Grows-same c.args.arena.now c.args.arena.now refl;
-      few = omega arith;
-      below = subst (AllByRecursion (λ (i : ℕ). i < size c.args.arena.now)) (sym c.new-items.ensures.items) tt;
-      bound =
-          ap (λ (ns : List ℕ). joined_trees (trees_at (forest c.args.arena.now) ns)
-          (bind_each (binding_at c.args.arena.now c.args.binding.now)
-          (trees_at (forest c.args.arena.now) c.deref-t-items.result.now))) c.new-items.ensures.items;
-    }
-
 pub children::bind_list-loop-t-preserved : goal.children::bind_list-loop-t-preserved
 children::bind_list-loop-t-preserved t c =
     let is = is_listed c.args.arena.now c.args.i c.args.list _ _ _ c.requires.within c.requires.below c.deref-t-items.ensures.value (c.in_ok-old.ensures {u = tt}).items c.items.ensures.value in
@@ -291,12 +278,6 @@ children::bind_list-loop-t-preserved t c =
           c.loop-t-test.true c.loop-t.invariant.grows made.grows c.requires.named c.loop-t.invariant.below
           c.loop-t.invariant.bound made.bound ns;
     }
-
-pub children::bind_list-returns-in-Err-clause-few : goal.children::bind_list-returns-in-Err-clause-few
-children::bind_list-returns-in-Err-clause-few t c =
-    let is = is_listed c.args.arena.now c.args.i c.args.list _ _ _ c.requires.within c.requires.below c.deref-t-items.ensures.value (c.in_ok-old.ensures {u = tt}).items c.items.ensures.value in
-    list-all _ _ _ _ (size c.bind.new.arena) (c.loop-t.t-index + 1) is
-    (list-few _ _ c.bind.new.arena _ _ _ c.loop-t.t-index 0 is c.loop-t-test.true c.loop-t.invariant.grows c.loop-t.invariant.few c.bind.ensures.few)
 
 pub children::bind_list-returns-in-Err-push-clause-few : goal.children::bind_list-returns-in-Err-push-clause-few
 children::bind_list-returns-in-Err-push-clause-few t c =
@@ -323,16 +304,6 @@ children::bind_list-returns-in-Err-clause-limit t c =
     (each-unfit (binding_at c.args.arena.now c.args.binding.now) (forest c.args.arena.now) c.deref-t-items.result.now
     c.loop-t.t-index 0 c.loop-t-test.true (ap (λ (u : Tree). (measure u).fits) (sym same.1) ∙ f)))
 
-pub children::bind_list-returns-in_err-list-clause-few : goal.children::bind_list-returns-in_err-list-clause-few
-children::bind_list-returns-in_err-list-clause-few t c =
-    let is = is_listed c.args.arena.now c.args.i c.args.list _ _ _ c.requires.within c.requires.below c.deref-t-items.ensures.value (c.in_ok-old.ensures {u = tt}).items c.items.ensures.value in
-    omega (arith, list-all _ _ _ _ (size c.loop-t.arena) c.loop-t.t-index is c.loop-t.invariant.few, ap length c.list.ensures.nodes)
-
-pub children::bind_list-returns-clause-few : goal.children::bind_list-returns-clause-few
-children::bind_list-returns-clause-few t c =
-    let is = is_listed c.args.arena.now c.args.i c.args.list _ _ _ c.requires.within c.requires.below c.deref-t-items.ensures.value (c.in_ok-old.ensures {u = tt}).items c.items.ensures.value in
-    omega (arith, list-all _ _ _ _ (size c.loop-t.arena) c.loop-t.t-index is c.loop-t.invariant.few, ap length c.list.ensures.nodes)
-
 pub children::bind_list-returns-clause-below : goal.children::bind_list-returns-clause-below
 children::bind_list-returns-clause-below t c =
     list-below c.loop-t.arena c.list.new.self c.in_ok-list.field-0 c.loop-t.items.items c.loop-t.invariant.below
@@ -346,21 +317,6 @@ children::bind_list-returns-clause-bound t c =
     c.in_ok-list.field-0 c.deref-t-items.result.now c.loop-t.items.items c.loop-t.t-index is c.loop-t-test.false
     c.loop-t.invariant.bound c.list.ensures.forest
     ((c.in_ok-list.ensures {u = tt}).list ∙ c.deref.ensures.value)
-
-pub children::bind_parts-loop-part-init : goal.children::bind_parts-loop-part-init
-children::bind_parts-loop-part-init t c =
-    record {
-      grows = Grows-same c.args.arena.now c.args.arena.now refl;
-      few = λ reversed. omega arith;
-      below =
-          subst (AllByRecursion (IsPartBelow c.args.arena.now.held (size c.args.arena.now)))
-          (sym c.new-items.ensures.items) tt;
-      bound =
-          ap (λ (ns : List Part). joined_parts (parts_of c.args.arena.now.held (forest c.args.arena.now) ns)
-          (bind_parts (binding_at c.args.arena.now c.args.binding.now)
-          (parts_of c.args.arena.now.held (forest c.args.arena.now) c.deref-part-items.result.now)))
-          c.new-items.ensures.items;
-    }
 
 pub children::bind_parts-loop-part-preserved : goal.children::bind_parts-loop-part-preserved
 children::bind_parts-loop-part-preserved t c =
@@ -417,16 +373,6 @@ children::bind_parts-returns-in-Err-clause-limit t c =
     reversed c.deref-part-items.result.now c.loop-part.part-index _ c.loop-part-test.true
     (ap (λ (u : Parts). (measure_parts reversed u).fits) (sym same.1) ∙ f))) q
 
-pub children::bind_parts-returns-in_err-parts-clause-few : goal.children::bind_parts-returns-in_err-parts-clause-few
-children::bind_parts-returns-in_err-parts-clause-few t c =
-    let is = is_parted c.args.arena.now c.args.i c.args.parts _ _ _ c.requires.within c.requires.below c.deref-part-items.ensures.value (c.in_ok-old.ensures {u = tt}).items c.parts_of.ensures.value in
-    λ reversed. omega (arith, parts-all _ _ _ _ (size c.loop-part.arena) c.loop-part.part-index reversed is (c.loop-part.invariant.few reversed), ap length c.parts.ensures.nodes)
-
-pub children::bind_parts-returns-clause-few : goal.children::bind_parts-returns-clause-few
-children::bind_parts-returns-clause-few t c =
-    let is = is_parted c.args.arena.now c.args.i c.args.parts _ _ _ c.requires.within c.requires.below c.deref-part-items.ensures.value (c.in_ok-old.ensures {u = tt}).items c.parts_of.ensures.value in
-    λ reversed. omega (arith, parts-all _ _ _ _ (size c.loop-part.arena) c.loop-part.part-index reversed is (c.loop-part.invariant.few reversed), ap length c.parts.ensures.nodes)
-
 pub children::bind_parts-returns-clause-below : goal.children::bind_parts-returns-clause-below
 children::bind_parts-returns-clause-below t c =
     parts-below c.loop-part.arena c.parts.new.self c.in_ok-parts.field-0 c.loop-part.items.items
@@ -472,4 +418,3 @@ children::bind_parts-bind_part-requires t c =
     let is = is_parted c.args.arena.now c.args.i c.args.parts _ _ _ c.requires.within c.requires.below c.deref-part-items.ensures.value (c.in_ok-old.ensures {u = tt}).items c.parts_of.ensures.value in
     let below = parted_below _ _ _ _ c.loop-part.part-index _ is c.loop-part-test.true in
     (search rules, part-ready _ _ c.args.binding.now c.args.i _ c.loop-part.invariant.grows c.requires.within c.requires.named below)
-

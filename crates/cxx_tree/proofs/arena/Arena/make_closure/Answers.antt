@@ -5,19 +5,9 @@ use Rattle.cxx_tree.specs.declared.node.Part.TheVariants as part
 use Rattle.cxx_tree.specs.declared.node.NodeText.TheVariants as text
 use Rattle.cxx_tree.specs.Tree.{Parts, phrase}
 use Rattle.cxx_tree.specs.Grows.{Makes}
-use Rattle.cxx_tree.specs.Stored.{forest, size, parts_of}
-use Rattle.cxx_tree.proofs.Putting.{between-below, signed}
+use Rattle.cxx_tree.specs.Stored.{forest, parts_of}
+use Rattle.cxx_tree.proofs.Putting.{signed}
 use Rattle.cxx_tree.proofs.arena.Arena.make_closure.Goals as goal
-
-pub make_phrase-requires : goal.make_phrase-requires
-make_phrase-requires c =
-    let a = c.args.self.now in
-    let front : List Part = c.styled.result ∷ part.Text c.args.count (text.Fixed _) ∷ c.styled-2.result ∷ [] in
-    let back : List Part = c.styled-3.result ∷ part.Text (text.Fixed _) c.args.ordinal ∷ c.styled-4.result ∷ [] in
-    let signed = c.in_ok-push_signature.ensures.below a.held (size a) (c.requires.declarations, c.requires.before, c.requires.params, c.requires.behind) in
-    let all = between-below a.held (size a) c.new-parts.result.items front _ _ back _ c.new-parts.ensures.items c.in_ok-extend_from_slice.ensures.items signed c.in_ok-extend_from_slice-2.ensures.items
-    (simp (c.styled.ensures.value, c.styled-2.ensures.value, c.styled-3.ensures.value, c.styled-4.ensures.value) ((tt, tt), ((c.requires.count, tt), ((tt, tt), tt)))) (simp (c.styled.ensures.value, c.styled-2.ensures.value, c.styled-3.ensures.value, c.styled-4.ensures.value) ((tt, tt), ((tt, c.requires.ordinal), ((tt, tt), tt)))) in
-    record { below = simp c.deref.ensures.value all }
 
 pub returns : goal.returns
 returns c =

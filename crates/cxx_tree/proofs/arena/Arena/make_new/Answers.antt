@@ -3,14 +3,6 @@ use Rattle.cxx_tree.specs.Stored.{forest, list_at}
 use Rattle.cxx_tree.proofs.Choices.{placed-none, placed-some, parens-none, parens-some, new-made, emptiness}
 use Rattle.cxx_tree.proofs.arena.Arena.make_new.Goals as goal
 
-pub returns-then-is_empty-2 : goal.returns-then-is_empty-2
-returns-then-is_empty-2 c =
-    let a = c.args.self.now in
-    let made = simp (c.styled-front.ensures.value, c.new_llvm.ensures.value, c.new_gnu.ensures.value, c.expression-attributes.ensures.value, c.styled-blank.ensures.value, c.whole.ensures.value) at c.make_phrase.ensures.makes in
-    let values = parens-none (forest a) (list_at a.held c.args.inits) no_parts (emptiness c.items-then-is_empty.ensures.value c.is_empty-then-is_empty.ensures c.if-is_empty-2.true) in
-    let all = placed-none (forest a) (list_at a.held c.args.placement) _ (emptiness c.items.ensures.value c.is_empty.ensures c.if-is_empty.true) in
-    record { makes = new-made _ a _ c.args.placement c.args.t c.args.inits c.args.is_global c.args.is_array _ _ values all made }
-
 pub returns-then-is_empty : goal.returns-then-is_empty
 returns-then-is_empty c =
     let a = c.args.self.now in

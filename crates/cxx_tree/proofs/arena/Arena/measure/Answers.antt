@@ -5,13 +5,8 @@ use Rattle.cxx_tree.specs.Counts.{Row, AreExact}
 use Rattle.cxx_tree.specs.Stored.{Store, forest, size, tree_at}
 use Rattle.cxx_tree.specs.View.{store_of}
 use Rattle.cxx_tree.proofs.Forest.{length-forest}
-use Rattle.cxx_tree.proofs.Measured.{counted-at, counted-length}
+use Rattle.cxx_tree.proofs.Measured.{counted-at}
 use Rattle.cxx_tree.proofs.arena.Arena.measure.Goals as goal
-
-pub index-requires : goal.index-requires
-index-requires c =
-    let all = counted-length c.self.inside.entries.items (forest (store_of c.self.inside)) c.self.invariant.1 in
-    omega (arith, c.requires.within, ap size c.self.view_is, all, length-forest (store_of c.self.inside), c.self.inside.entries.ok)
 
 pub returns-clause-counts : goal.returns-clause-counts
 returns-clause-counts c =
