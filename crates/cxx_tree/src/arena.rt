@@ -12,7 +12,7 @@ ghost use Rattle.cxx_tree.specs.Stored.{Store, IsWithin, forest, size, stands, s
 
 use crate::counts::Measure;
 use crate::measuring::of_node;
-use crate::node::{List, Node, Part, Parts, Plain, Range, NodeText};
+use crate::node::{List, Node, NodeText, Part, Parts, Plain, Range};
 use std::alloc::{AllocError, Global};
 use std::marker::Model;
 

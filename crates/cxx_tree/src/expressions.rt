@@ -11,7 +11,7 @@ ghost use Rattle.cxx_tree.specs.Tree as tree;
 use crate::arena::{Arena, Stop};
 use crate::kinds::{Context, Guard, Listing, Manner, Phrase, Prec, Role};
 use crate::measuring::text_len;
-use crate::node::{List, Node, Part, Plain, NodeText};
+use crate::node::{List, Node, NodeText, Part, Plain};
 use crate::phrases::{
     enclosed, expression, fixed, gnu_operand, held, is_text, loose, open, primary, styled, tight,
     whole,
@@ -19,7 +19,13 @@ use crate::phrases::{
 
 impl Arena {
     /// Makes `LLVM` or in GNU's style `GNU`, and `TREE` after it, which is an operand in the latter if it is unary.
-    pub fn make_prefixed(&mut self, llvm: NodeText, gnu: NodeText, t: u32, prec: Prec) -> Result<u32, Stop>
+    pub fn make_prefixed(
+        &mut self,
+        llvm: NodeText,
+        gnu: NodeText,
+        t: u32,
+        prec: Prec,
+    ) -> Result<u32, Stop>
         requires llvm { IsText self.old.held llvm }
         requires gnu { IsText self.old.held gnu }
         requires t { t < size self.old }
@@ -32,7 +38,13 @@ impl Arena {
     }
 
     /// Makes `LLVM(TREE)`, in GNU's style `GNU(TREE)`.
-    pub fn make_enclosing(&mut self, llvm: NodeText, gnu: NodeText, t: u32, prec: Prec) -> Result<u32, Stop>
+    pub fn make_enclosing(
+        &mut self,
+        llvm: NodeText,
+        gnu: NodeText,
+        t: u32,
+        prec: Prec,
+    ) -> Result<u32, Stop>
         requires llvm { IsText self.old.held llvm }
         requires gnu { IsText self.old.held gnu }
         requires t { t < size self.old }

@@ -34,6 +34,6 @@ pub use crate::digits::{MOST_DIGITS, number_bytes};
 pub use crate::kinds::{Context, Cv, Guard, Listing, Manner, Phrase, Prec, RefQual, Role, Std};
 pub use crate::lambdas::Signature;
 pub use crate::node::{
-    Declaration, Encoding, Function, List, Node, Part, Parts, Plain, Range, NodeText,
+    Declaration, Encoding, Function, List, Node, NodeText, Part, Parts, Plain, Range,
 };
 pub use crate::types::Clauses;

@@ -11,7 +11,7 @@ ghost use Rattle.cxx_tree.specs.Phrases as phrases;
 use crate::arena::{Arena, Stop};
 use crate::kinds::{Cv, Listing, Phrase, Prec, RefQual};
 use crate::measuring::text_len;
-use crate::node::{Declaration, Encoding, Function, List, Node, Part, Parts, NodeText};
+use crate::node::{Declaration, Encoding, Function, List, Node, NodeText, Part, Parts};
 use crate::phrases::{fixed, held, open, primary, styled, whole};
 use std::alloc::AllocError;
 
