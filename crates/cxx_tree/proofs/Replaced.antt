@@ -559,33 +559,23 @@ parts-bound a b c x n l ps ns ms k d q all s h g g2 known low so_far here e =
     (sym (bind_parts-step (binding_at a x) a.held (forest a) ps k d h))
     ∙ so_far
 
--- what is held more, and no node is new, changes no parts
+-- parts that are made, where no node is new
 pub parts-end : (a b c : Store) (x : given.Binding) (n : ℕ) (l m : handles.Parts) (ps ns : List Part) (k : ℕ)
     → Parted a n l ps → length ps ≤ k
-    → AllByRecursion (IsPartBelow b.held (size b)) ns
     → joined_parts (parts_of b.held (forest b) ns)
     (bind_parts (binding_at a x) (parts_of a.held (forest a) (drop k ps)))
     ≡ bind_parts (binding_at a x) (parts_of a.held (forest a) ps)
-    → Grows b c → parts_at c.held m ≡ ns → parts_in c.held (forest c) m ≡ bound_parts a x l
+    → forest c ≡ forest b → parts_in c.held (forest b) m ≡ parts_of b.held (forest b) ns
+    → parts_in c.held (forest c) m ≡ bound_parts a x l
 unfolding bind
-parts-end a b c x n l m ps ns k s h low so_far g e =
+parts-end a b c x n l m ps ns k s h so_far f e =
     let none : drop k ps ≡ [] = drop_all k ps h in
-    ap (parts_of c.held (forest c)) e ∙ parts_of-grows b c g ns low
+    ap (λ (ts : List Tree). parts_in c.held ts m) f ∙ e
     ∙ sym (joined_parts-none (parts_of b.held (forest b) ns))
     ∙ ap (λ (js : List Part). joined_parts (parts_of b.held (forest b) ns)
     (bind_parts (binding_at a x) (parts_of a.held (forest a) js))) (sym none)
     ∙ so_far
     ∙ ap (λ (js : List Part). bind_parts (binding_at a x) (parts_of a.held (forest a) js)) s.same
-
-pub parts-below : (a b : Store) (m : handles.Parts) (ns : List Part)
-    → AllByRecursion (IsPartBelow a.held (size a)) ns → IsRange (length b.held.parts) m.range → Grows a b
-    → parts_at b.held m ≡ ns
-    → IsPartsBelow b.held (size b) m
-parts-below a b m ns low r g e = (
-  r,
-  subst (AllByRecursion (IsPartBelow b.held (size b))) (sym e)
-      (all_parts-more a.held b.held g.extends (size a) (size b) g.longer ns low),
-)
 
 pub all_parts-grows : (a b : Store) (ns : List Part) → Grows a b → AllByRecursion (IsPartBelow a.held (size a)) ns
     → AllByRecursion (IsPartBelow b.held (size b)) ns

@@ -8,7 +8,7 @@ use Rattle.cxx_tree.specs.Bind.{bind, bind_each, bind_parts, bound, binding_at, 
 use Rattle.cxx_tree.proofs.Grown.{Makes-node, Grows-same, Grows-trans}
 use Rattle.cxx_tree.proofs.Forest.{below-more}
 use Rattle.cxx_tree.proofs.Making.{option_at-grows, trees_in-grows, list_below-grows}
-use Rattle.cxx_tree.proofs.Replaced.{stays, Makes-err, Makes-grows, Makes-below, Makes-tree, Makes-unfit, few-pushed, some-params, limit_second, limit_of, tree-after, list-after, parts-after, all-push, each-unfit, is_listed, listed_below, list-few, list-bound, list-end, list-below, parts-unfit, is_parted, parted_below, part-after, parts-few, parts-bound, parts-end, parts-below, all_parts-grows, list-all, parts-all, list-ready, parts-ready, part-ready, limit_third, three_same}
+use Rattle.cxx_tree.proofs.Replaced.{stays, Makes-err, Makes-grows, Makes-below, Makes-tree, Makes-unfit, few-pushed, some-params, limit_second, limit_of, tree-after, list-after, parts-after, all-push, each-unfit, is_listed, listed_below, list-few, list-bound, list-end, list-below, parts-unfit, is_parted, parted_below, part-after, parts-few, parts-bound, parts-end, all_parts-grows, list-all, parts-all, list-ready, parts-ready, part-ready, limit_third, three_same}
 use Rattle.cxx_tree.proofs.Measured.{row-fit}
 use Rattle.cxx_tree.proofs.+binding.Goals as goal
 
@@ -373,19 +373,14 @@ children::bind_parts-returns-in-Err-clause-limit t c =
     reversed c.deref-part-items.result.now c.loop-part.part-index _ c.loop-part-test.true
     (ap (λ (u : Parts). (measure_parts reversed u).fits) (sym same.1) ∙ f))) q
 
-pub children::bind_parts-returns-clause-below : goal.children::bind_parts-returns-clause-below
-children::bind_parts-returns-clause-below t c =
-    parts-below c.loop-part.arena c.parts.new.self c.in_ok-parts.field-0 c.loop-part.items.items
-    c.loop-part.invariant.below (c.in_ok-parts.ensures {u = tt}).within c.parts.ensures.grows
-    ((c.in_ok-parts.ensures {u = tt}).list ∙ c.deref.ensures.value)
-
 pub children::bind_parts-returns-clause-bound : goal.children::bind_parts-returns-clause-bound
 children::bind_parts-returns-clause-bound t c =
     let is = is_parted c.args.arena.now c.args.i c.args.parts _ _ _ c.requires.within c.requires.below c.deref-part-items.ensures.value (c.in_ok-old.ensures {u = tt}).items c.parts_of.ensures.value in
-    parts-end c.args.arena.now c.loop-part.arena c.parts.new.self c.args.binding.now c.args.i c.args.parts
-    c.in_ok-parts.field-0 c.deref-part-items.result.now c.loop-part.items.items c.loop-part.part-index is
-    c.loop-part-test.false c.loop-part.invariant.below c.loop-part.invariant.bound c.parts.ensures.grows
-    ((c.in_ok-parts.ensures {u = tt}).list ∙ c.deref.ensures.value)
+    parts-end c.args.arena.now c.loop-part.arena c.make_parts.new.self c.args.binding.now c.args.i c.args.parts
+    c.in_ok-make_parts.field-0 c.deref-part-items.result.now c.loop-part.items.items c.loop-part.part-index is
+    c.loop-part-test.false c.loop-part.invariant.bound c.make_parts.ensures.forest
+    ((c.in_ok-make_parts.ensures {u = tt}).parts
+    ∙ ap (parts_of c.loop-part.arena.held (forest c.loop-part.arena)) c.deref.ensures.value)
 
 pub children::bind_with_list-bind_list-requires : goal.children::bind_with_list-bind_list-requires
 children::bind_with_list-bind_list-requires t c =
