@@ -1,7 +1,6 @@
-use Rattle.std.proofs.Common.{ap, arith, length, length-append, length-take, ◌≤◌, ◌<◌, drop, subst}
+use Rattle.std.proofs.Common.{ap, arith, length, length-append, length-take, ◌≤◌}
 use Rattle.std.proofs.lemmas.List.{length-drop}
-use Rattle.std.specs.List.{AllByRecursion}
-use Rattle.cxx_tree.specs.Stored.{Store, size}
+use Rattle.cxx_tree.specs.Stored.{size}
 use Rattle.cxx_tree.specs.View.{store_of}
 use Rattle.cxx_tree.proofs.Forest.{kept-held, below-drop}
 use Rattle.cxx_tree.proofs.Grown.{held-more, lists-longer}
@@ -28,5 +27,4 @@ returns-clause-grows c =
 pub returns-clause-below : goal.returns-clause-below
 returns-clause-below c =
     let s = store_of c.self.inside in
-    subst (λ (r : Store). AllByRecursion (λ i. i < size r) (drop c.args.from r.pending)) c.self.view_is
-    (below-drop c.args.from (size s) s.pending c.self.invariant.3.pending)
+    rw (← c.self.view_is) (below-drop c.args.from (size s) s.pending c.self.invariant.3.pending)
