@@ -12,15 +12,21 @@ use Rattle.cxx_tree.specs.declared.node.Part.{Part}
 use Rattle.cxx_tree.specs.Tree.{Tree}
 use Rattle.cxx_tree.specs.Measure.{Measure, measure, measure_each, join, count}
 use Rattle.cxx_tree.specs.Counts.{Row, Tallied, AreExact, AreCounted}
-use Rattle.cxx_tree.specs.Stored.{Held, tree_at, trees_at, trees_in, list_at, IsRange, IsListBelow, IsPartBelow}
+use Rattle.cxx_tree.specs.Stored.{Held, Store, forest, size, tree_at, trees_at, trees_in, list_at, IsRange, IsListBelow, IsPartBelow}
+use Rattle.cxx_tree.proofs.Forest.{length-forest}
 
-pub counted-at : (es : List entry.Entry) (ts : List Tree) → AreCounted es ts → (i : ℕ) (d : entry.Entry) → i < length ts → Row (get_or es i d).counts (measure (tree_at ts i)) × AreExact (measure (tree_at ts i))
+counted-at : (es : List entry.Entry) (ts : List Tree) → AreCounted es ts → (i : ℕ) (d : entry.Entry) → i < length ts → Row (get_or es i d).counts (measure (tree_at ts i)) × AreExact (measure (tree_at ts i))
 unfolding AreCounted
 counted-at [] [] h i d b = absurd (omega arith)
 counted-at [] (t ∷ ts) h i d b = absurd h
 counted-at (e ∷ es) [] h i d b = absurd h
 counted-at (e ∷ es) (t ∷ ts) h zero d b = (h.0, h.1)
 counted-at (e ∷ es) (t ∷ ts) h (suc i) d b = counted-at es ts h.2 i d (omega arith)
+
+-- the counts of a node of an arena
+pub counted-in : (es : List entry.Entry) (s a : Store) → AreCounted es (forest s) → s ≡ a → (i : ℕ) (d : entry.Entry) → i < size a → Row (get_or es i d).counts (measure (tree_at (forest a) i)) × AreExact (measure (tree_at (forest a) i))
+counted-in es s a h e i d b =
+    rw (← e) (counted-at es (forest s) h i d (omega (arith, b, ap size e, length-forest s)))
 
 pub counted-length : (es : List entry.Entry) (ts : List Tree) → AreCounted es ts → length es ≡ length ts
 unfolding AreCounted
