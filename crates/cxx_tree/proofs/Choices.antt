@@ -1,11 +1,14 @@
 -- Rows that depend on how many trees there are.
-use Rattle.std.proofs.Common.{ℕ, ◌≡◌, ◌==◌, true, false, Bool, List, [], ◌∷◌, length, refl, ap, ◌∙◌, arith}
+use Rattle.std.proofs.Common.{ℕ, ◌≡◌, ◌==◌, true, false, Bool, List, [], ◌∷◌, length, refl, ap, ◌∙◌, arith, sym, subst, Result}
 use Rattle.std.proofs.lemmas.Bool.Decides.{nat_tests}
 use Rattle.cxx_tree.specs.declared.kinds.Prec.{Prec}
 use Rattle.cxx_tree.specs.declared.kinds.Prec.TheVariants.{Unary}
 use Rattle.cxx_tree.specs.declared.kinds.Listing.TheVariants as listing
 use Rattle.cxx_tree.specs.Tree.{Tree, Trees, Parts, phrase, no_parts, text, trees}
-use Rattle.cxx_tree.specs.Stored.{trees_at}
+use Rattle.cxx_tree.specs.declared.node.List as handle
+use Rattle.cxx_tree.specs.declared.arena.Stop.{Stop}
+use Rattle.cxx_tree.specs.Grows.{Makes}
+use Rattle.cxx_tree.specs.Stored.{Store, forest, tree_at, trees_at, trees_in}
 use Rattle.cxx_tree.specs.Phrases as phrases
 use Rattle.cxx_tree.specs.Phrases.{◌·◌, fixed, styled, whole, enclosed, parens, placed, parens_if_any, expression, primary}
 
@@ -40,7 +43,12 @@ requires-some ts [] us h = cc
 requires-some ts (i ∷ is) us h = refl
 
 -- a `new` expression, by what its lists are
-pub new_expression-as : (ts : List Tree) (ps : List ℕ) (t : Tree) (is : List ℕ) (g y : Bool) (values all : Parts) → parens_if_any (trees_at ts is) no_parts ≡ values → placed (trees_at ts ps) (whole t · values) ≡ all → phrases.new_expression (trees_at ts ps) t (trees_at ts is) g y ≡ phrase (expression 0 Unary) (text (phrases.new_llvm g y) (phrases.new_gnu g) all)
-new_expression-as ts ps t is g y values all e p =
-    ap (λ (x : Parts). phrase (expression 0 Unary) (text (phrases.new_llvm g y) (phrases.new_gnu g) (placed (trees_at ts ps) (whole t · x)))) e
-    ∙ ap (λ (x : Parts). phrase (expression 0 Unary) (text (phrases.new_llvm g y) (phrases.new_gnu g) x)) p
+pub new-made : (r : Result ℕ Stop) (a b : Store) (pl : handle.List) (t : ℕ) (il : handle.List) (g y : Bool) (values all : Parts) → parens_if_any (trees_in a.held (forest a) il) no_parts ≡ values → placed (trees_in a.held (forest a) pl) (whole (tree_at (forest a) t) · values) ≡ all → Makes r a b (phrase (expression 0 Unary) (text (phrases.new_llvm g y) (phrases.new_gnu g) all)) → Makes r a b (phrases.new_expression (trees_in a.held (forest a) pl) (tree_at (forest a) t) (trees_in a.held (forest a) il) g y)
+new-made r a b pl t il g y values all e p =
+    let row : Parts → Tree = λ x. phrase (expression 0 Unary) (text (phrases.new_llvm g y) (phrases.new_gnu g) x) in
+    let same = ap (λ (x : Parts). placed (trees_in a.held (forest a) pl) (whole (tree_at (forest a) t) · x)) e ∙ p in
+    subst (λ (x : Parts). Makes r a b (row x)) (sym same)
+
+-- whether a list is empty
+pub emptiness : {is js : List ℕ} {b x : Bool} → is ≡ js → b ≡ (length is == 0) → b ≡ x → (length js == 0) ≡ x
+emptiness e f g = ap (λ (l : List ℕ). length l == 0) (sym e) ∙ sym f ∙ g

@@ -1,5 +1,5 @@
 -- The trees of nodes, as nodes and what they refer to grow.
-use Rattle.std.proofs.Common.{ℕ, ◌≡◌, ◌+◌, ◌<◌, ◌≤◌, List, [], ◌∷◌, ◌++◌, length, refl, sym, ap, ◌∙◌, arith, subst, zero, suc, length-append, Option, Some, None, slice_range, false, take, drop}
+use Rattle.std.proofs.Common.{ℕ, ◌≡◌, ◌+◌, ◌<◌, ◌≤◌, List, [], ◌∷◌, ◌++◌, length, refl, sym, ap, ◌∙◌, arith, subst, zero, suc, length-append, Option, Some, None, slice_range, map, drop}
 use Rattle.std.proofs.Math.ListN.{get_or, get_or-append}
 use Rattle.std.proofs.Math.Seq.{get_or-append_seam}
 use Rattle.std.proofs.lemmas.Grind.{common_steps}
@@ -19,9 +19,9 @@ use Rattle.cxx_tree.specs.declared.node.Declaration.{Declaration}
 use Rattle.cxx_tree.specs.declared.node.Declaration.TheVariants as declaration
 use Rattle.cxx_tree.specs.declared.node.Node.{Node}
 use Rattle.cxx_tree.specs.declared.node.Node.TheVariants as node
-use Rattle.cxx_tree.specs.Tree.{Tree, named, scoped, phrase, with_args, abi_tag, data_name, objc_protocol, listed, expansion, pack_param, qualified, pointer, reference, array, pack, no_trees, more_trees, text, tree}
-use Rattle.cxx_tree.specs.Stored.{Held, Store, text_at, list_at, parts_at, tree_at, trees_at, trees_in, option_at, parts_of, parts_in, plain_tree, declaration_tree, tree_of, IsRange, IsText, IsListBelow, IsPartBelow, IsPartsBelow, IsOptionBelow, IsPlainBelow, IsDeclarationBelow, IsBelow, trees_from, forest, size, Begins, Extends, IsWithin}
-use Rattle.cxx_tree.specs.View.{AreStored, IsStore, IsKept, HasNodes, nodes_of}
+use Rattle.cxx_tree.specs.Tree.{Tree, named, phrase, data_name, listed, expansion, pack_param, qualified, pointer, reference, pack, no_trees, more_trees}
+use Rattle.cxx_tree.specs.Stored.{Held, Store, text_at, list_at, parts_at, tree_at, trees_at, trees_in, option_at, trees_from_list, parts_of, parts_in, plain_tree, declaration_tree, tree_of, IsRange, IsText, IsListBelow, IsPartBelow, IsPartsBelow, IsOptionBelow, IsPlainBelow, IsDeclarationBelow, IsBelow, trees_from, forest, size, Begins, Extends}
+use Rattle.cxx_tree.specs.View.{AreStored, IsStore, IsKept}
 use Rattle.cxx_tree.specs.Counts.{AreCounted}
 
 -- a node at the end
@@ -43,78 +43,117 @@ trees_from-old h ts (n ∷ ns) i b =
 abbrev pub Agree : ℕ → List Tree → List Tree → Type 0
 Agree n ts us = (i : ℕ) → i < n → tree_at ts i ≡ tree_at us i
 
+pub map-same : (n : ℕ) (ts us : List Tree) → Agree n ts us → (is : List ℕ) → AllByRecursion (λ t. t < n) is → map (tree_at ts) is ≡ map (tree_at us) is
+map-same n ts us agree [] b = refl
+map-same n ts us agree (i ∷ is) b = let one = agree i b.0 in let rest = map-same n ts us agree is b.1 in cc
+
 pub trees_at-same : (n : ℕ) (ts us : List Tree) → Agree n ts us → (is : List ℕ) → AllByRecursion (λ t. t < n) is → trees_at ts is ≡ trees_at us is
-trees_at-same n ts us agree [] b = refl
-trees_at-same n ts us agree (i ∷ is) b =
-    let one = agree i b.0 in let rest = trees_at-same n ts us agree is b.1 in cc
+trees_at-same n ts us agree is b = ap trees_from_list (map-same n ts us agree is b)
 
 pub option_at-same : (n : ℕ) (ts us : List Tree) → Agree n ts us → (o : Option ℕ) → IsOptionBelow n o → option_at ts o ≡ option_at us o
 option_at-same n ts us agree None b = refl
 option_at-same n ts us agree (Some i) b = ap (λ (t : Tree). more_trees t no_trees) (agree i b)
 
-pub parts_of-same : (h : Held) (n : ℕ) (ts us : List Tree) → Agree n ts us → (ps : List Part) → AllByRecursion (IsPartBelow h n) ps → parts_of h ts ps ≡ parts_of h us ps
-parts_of-same h n ts us agree [] b = refl
-parts_of-same h n ts us agree (part.Text x y ∷ ps) b = ap (text (text_at h x) (text_at h y)) (parts_of-same h n ts us agree ps b.1)
-parts_of-same h n ts us agree (part.Tree manner t ∷ ps) b =
-    let one = agree t b.0 in let rest = parts_of-same h n ts us agree ps b.1 in cc
-parts_of-same h n ts us agree (part.Trees listing l ∷ ps) b =
-    let one = trees_at-same n ts us agree (list_at h l) b.0.1 in let rest = parts_of-same h n ts us agree ps b.1 in cc
+-- what is held grows at its ends
+pub Begins-same : (A : Type 0) (xs ys : List A) → ys ≡ xs → Begins A xs ys
+Begins-same A xs ys e = ([], e ∙ sym (append-nil xs))
 
-plain_tree-same : (h : Held) (n : ℕ) (ts us : List Tree) → Agree n ts us → (p : Plain) → IsPlainBelow h n p → plain_tree h ts p ≡ plain_tree h us p
+pub Extends-same : (h g : Held) → g ≡ h → Extends h g
+Extends-same h g e =
+    (Begins-same _ h.lists g.lists (ap (λ (x : Held). x.lists) e), Begins-same _ h.parts g.parts (ap (λ (x : Held). x.parts) e), Begins-same _ h.texts g.texts (ap (λ (x : Held). x.texts) e))
+
+pub text_at-more : (h g : Held) → Extends h g → (t : NodeText) → IsText h t → text_at g t ≡ text_at h t
+text_at-more h g e (Fixed bytes) b = refl
+text_at-more h g e (Stored r) b = ap (λ (l : List ℕ). slice_range l r.from r.to) e.2.1 ∙ grind (arith, common_steps)
+
+pub list_at-more : (h g : Held) → Extends h g → (l : handle.List) → IsRange (length h.lists) l.range → list_at g l ≡ list_at h l
+list_at-more h g e l b = ap (λ (is : List ℕ). slice_range is l.range.from l.range.to) e.0.1 ∙ grind (arith, common_steps)
+
+pub parts_at-more : (h g : Held) → Extends h g → (ps : handles.Parts) → IsRange (length h.parts) ps.range → parts_at g ps ≡ parts_at h ps
+parts_at-more h g e ps b = ap (λ (l : List Part). slice_range l ps.range.from ps.range.to) e.1.1 ∙ grind (arith, common_steps)
+
+-- what nodes stand for, over trees that agree, and as what is held grows
+pub trees_in-more : (h g : Held) → Extends h g → (n : ℕ) (ts us : List Tree) → Agree n us ts → (l : handle.List) → IsListBelow h n l → trees_in g us l ≡ trees_in h ts l
+trees_in-more h g e n ts us agree l b =
+    ap (trees_at us) (list_at-more h g e l b.0) ∙ trees_at-same n us ts agree (list_at h l) b.1
+
+pub parts_of-more : (h g : Held) → Extends h g → (n : ℕ) (ts us : List Tree) → Agree n us ts → (ps : List Part) → AllByRecursion (IsPartBelow h n) ps → parts_of g us ps ≡ parts_of h ts ps
+parts_of-more h g e n ts us agree [] b = refl
+parts_of-more h g e n ts us agree (part.Text x y ∷ ps) b =
+    let one = text_at-more h g e x b.0.0 in
+    let two = text_at-more h g e y b.0.1 in
+    let rest = parts_of-more h g e n ts us agree ps b.1 in
+    cc
+parts_of-more h g e n ts us agree (part.Tree manner t ∷ ps) b =
+    let one = agree t b.0 in let rest = parts_of-more h g e n ts us agree ps b.1 in cc
+parts_of-more h g e n ts us agree (part.Trees listing l ∷ ps) b =
+    let one = trees_in-more h g e n ts us agree l b.0 in let rest = parts_of-more h g e n ts us agree ps b.1 in cc
+
+pub parts_in-more : (h g : Held) → Extends h g → (n : ℕ) (ts us : List Tree) → Agree n us ts → (ps : handles.Parts) → IsPartsBelow h n ps → parts_in g us ps ≡ parts_in h ts ps
+parts_in-more h g e n ts us agree ps b =
+    ap (parts_of g us) (parts_at-more h g e ps b.0) ∙ parts_of-more h g e n ts us agree (parts_at h ps) b.1
+
+plain_tree-more : (h g : Held) → Extends h g → (n : ℕ) (ts us : List Tree) → Agree n us ts → (p : Plain) → IsPlainBelow h n p → plain_tree g us p ≡ plain_tree h ts p
 unfolding plain_tree IsPlainBelow
-plain_tree-same h n ts us agree (plain.Name bytes) b = refl
-plain_tree-same h n ts us agree (plain.Leaf simple x y) b = refl
-plain_tree-same h n ts us agree (plain.StdName std expanded) b = refl
-plain_tree-same h n ts us agree (plain.Phrase attributes ps) b =
-    ap (phrase attributes) (parts_of-same h n ts us agree (parts_at h ps) b.1)
-plain_tree-same h n ts us agree (plain.Scoped friend scope name) b = let one = agree scope b.0 in let two = agree name b.1 in cc
-plain_tree-same h n ts us agree (plain.ScopedName scope name) b = ap (λ (t : Tree). scoped false t (named (text_at h name))) (agree scope b.0)
-plain_tree-same h n ts us agree (plain.WithArgs name args) b =
-    let one = agree name b.0 in let rest = trees_at-same n ts us agree (list_at h args) b.1.1 in cc
-plain_tree-same h n ts us agree (plain.AbiTag name tag) b = ap (λ (t : Tree). abi_tag t (text_at h tag)) (agree name b.0)
-plain_tree-same h n ts us agree (plain.InModule name owner) b = let one = agree name b.0 in let two = agree owner b.1 in cc
-plain_tree-same h n ts us agree (plain.Data name) b = ap data_name (agree name b)
-plain_tree-same h n ts us agree (plain.ObjcProtocol t protocol) b = ap (λ (u : Tree). objc_protocol u (text_at h protocol)) (agree t b.0)
-plain_tree-same h n ts us agree (plain.Several items) b = ap listed (trees_at-same n ts us agree (list_at h items) b.1)
-plain_tree-same h n ts us agree (plain.Expansion t) b = ap expansion (agree t b)
-plain_tree-same h n ts us agree (plain.Param level index) b = refl
+plain_tree-more h g e n ts us agree (plain.Name bytes) b = ap named (text_at-more h g e bytes b)
+plain_tree-more h g e n ts us agree (plain.Leaf simple x y) b =
+    let one = text_at-more h g e x b.0 in let two = text_at-more h g e y b.1 in cc
+plain_tree-more h g e n ts us agree (plain.StdName std expanded) b = refl
+plain_tree-more h g e n ts us agree (plain.Phrase attributes ps) b =
+    ap (phrase attributes) (parts_in-more h g e n ts us agree ps b)
+plain_tree-more h g e n ts us agree (plain.Scoped friend scope name) b =
+    let one = agree scope b.0 in let two = agree name b.1 in cc
+plain_tree-more h g e n ts us agree (plain.ScopedName scope name) b =
+    let one = agree scope b.0 in let two = text_at-more h g e name b.1 in cc
+plain_tree-more h g e n ts us agree (plain.WithArgs name args) b =
+    let one = agree name b.0 in let rest = trees_in-more h g e n ts us agree args b.1 in cc
+plain_tree-more h g e n ts us agree (plain.AbiTag name tag) b =
+    let one = agree name b.0 in let two = text_at-more h g e tag b.1 in cc
+plain_tree-more h g e n ts us agree (plain.InModule name owner) b =
+    let one = agree name b.0 in let two = agree owner b.1 in cc
+plain_tree-more h g e n ts us agree (plain.Data name) b = ap data_name (agree name b)
+plain_tree-more h g e n ts us agree (plain.ObjcProtocol t protocol) b =
+    let one = agree t b.0 in let two = text_at-more h g e protocol b.1 in cc
+plain_tree-more h g e n ts us agree (plain.Several items) b = ap listed (trees_in-more h g e n ts us agree items b)
+plain_tree-more h g e n ts us agree (plain.Expansion t) b = ap expansion (agree t b)
+plain_tree-more h g e n ts us agree (plain.Param level index) b = refl
 
-declaration_tree-same : (h : Held) (n : ℕ) (ts us : List Tree) → Agree n ts us → (d : Declaration) → IsDeclarationBelow h n d → declaration_tree h ts d ≡ declaration_tree h us d
+declaration_tree-more : (h g : Held) → Extends h g → (n : ℕ) (ts us : List Tree) → Agree n us ts → (d : Declaration) → IsDeclarationBelow h n d → declaration_tree g us d ≡ declaration_tree h ts d
 unfolding declaration_tree IsDeclarationBelow
-declaration_tree-same h n ts us agree (declaration.TypeParam constraint name) b =
+declaration_tree-more h g e n ts us agree (declaration.TypeParam constraint name) b =
     let one = agree constraint b.0 in let two = agree name b.1 in cc
-declaration_tree-same h n ts us agree (declaration.NonTypeParam name t) b =
+declaration_tree-more h g e n ts us agree (declaration.NonTypeParam name t) b =
     let one = agree name b.0 in let two = agree t b.1 in cc
-declaration_tree-same h n ts us agree (declaration.TemplateParam name declarations rest) b =
+declaration_tree-more h g e n ts us agree (declaration.TemplateParam name declarations rest) b =
     let one = agree name b.0 in
-    let two = trees_at-same n ts us agree (list_at h declarations) b.1.1 in
-    let three = parts_of-same h n ts us agree (parts_at h rest) b.2.1 in
+    let two = trees_in-more h g e n ts us agree declarations b.1 in
+    let three = parts_in-more h g e n ts us agree rest b.2 in
     cc
-declaration_tree-same h n ts us agree (declaration.PackParam d) b = ap pack_param (agree d b)
+declaration_tree-more h g e n ts us agree (declaration.PackParam d) b = ap pack_param (agree d b)
 
-tree_of-same : (h : Held) (n : ℕ) (ts us : List Tree) → Agree n ts us → (x : Node) → IsBelow h n x → tree_of h ts x ≡ tree_of h us x
+pub tree_of-more : (h g : Held) → Extends h g → (n : ℕ) (ts us : List Tree) → Agree n us ts → (x : Node) → IsBelow h n x → tree_of g us x ≡ tree_of h ts x
 unfolding tree_of IsBelow
-tree_of-same h n ts us agree (node.Plain p) b = plain_tree-same h n ts us agree p b
-tree_of-same h n ts us agree (node.Declaration d) b = declaration_tree-same h n ts us agree d b
-tree_of-same h n ts us agree (node.Qualified t cv) b = ap (λ (u : Tree). qualified u cv) (agree t b)
-tree_of-same h n ts us agree (node.Pointer t) b = ap pointer (agree t b)
-tree_of-same h n ts us agree (node.Reference t lvalue) b = ap (λ (u : Tree). reference u lvalue) (agree t b)
-tree_of-same h n ts us agree (node.MemberPointer class member) b =
+tree_of-more h g e n ts us agree (node.Plain p) b = plain_tree-more h g e n ts us agree p b
+tree_of-more h g e n ts us agree (node.Declaration d) b = declaration_tree-more h g e n ts us agree d b
+tree_of-more h g e n ts us agree (node.Qualified t cv) b = ap (λ (u : Tree). qualified u cv) (agree t b)
+tree_of-more h g e n ts us agree (node.Pointer t) b = ap pointer (agree t b)
+tree_of-more h g e n ts us agree (node.Reference t lvalue) b = ap (λ (u : Tree). reference u lvalue) (agree t b)
+tree_of-more h g e n ts us agree (node.MemberPointer class member) b =
     let one = agree class b.0 in let two = agree member b.1 in cc
-tree_of-same h n ts us agree (node.Array element dimension) b =
-    let one = agree element b.0 in let two = parts_of-same h n ts us agree (parts_at h dimension) b.1.1 in cc
-tree_of-same h n ts us agree (node.Function f) b =
+tree_of-more h g e n ts us agree (node.Array element dimension) b =
+    let one = agree element b.0 in let two = parts_in-more h g e n ts us agree dimension b.1 in cc
+tree_of-more h g e n ts us agree (node.Function f) b =
     let one = agree f.ret b.0 in
-    let two = trees_at-same n ts us agree (list_at h f.params) b.1.1 in
-    let three = parts_of-same h n ts us agree (parts_at h f.exception) b.2.1 in
+    let two = trees_in-more h g e n ts us agree f.params b.1 in
+    let three = parts_in-more h g e n ts us agree f.exception b.2 in
     cc
-tree_of-same h n ts us agree (node.Encoding f) b =
-    let zero = option_at-same n ts us agree f.ret b.0 in
+tree_of-more h g e n ts us agree (node.Encoding f) b =
+    let zero = option_at-same n us ts agree f.ret b.0 in
     let one = agree f.name b.1 in
-    let two = trees_at-same n ts us agree (list_at h f.params) b.2.1 in
-    let three = parts_of-same h n ts us agree (parts_at h f.clauses) b.3.1 in
+    let two = trees_in-more h g e n ts us agree f.params b.2 in
+    let three = parts_in-more h g e n ts us agree f.clauses b.3 in
     cc
-tree_of-same h n ts us agree (node.Pack items) b = ap pack (trees_at-same n ts us agree (list_at h items) b.1)
+tree_of-more h g e n ts us agree (node.Pack items) b = ap pack (trees_in-more h g e n ts us agree items b)
 
 -- the tree at an index is what the node there stands for
 pub trees_from-at : (h : Held) (ts : List Tree) (ns : List Node) → AreStored h (length ts) ns → (i : ℕ) (d : Node) → i < length ns → tree_at (trees_from h ts ns) (length ts + i) ≡ tree_of h (trees_from h ts ns) (get_or ns i d)
@@ -127,7 +166,7 @@ trees_from-at h ts (n ∷ ns) s zero d below =
     get_or-append_seam ts (tree_of h ts n) [] (named []) in
     let e : length ts + 0 ≡ length ts = omega arith in
     ap (tree_at all) e ∙ here ∙ at
-    ∙ tree_of-same h (length ts) ts all (λ i hi. sym (trees_from-old h ts (n ∷ ns) i hi)) n s.0
+    ∙ tree_of-more h h (Extends-same h h refl) (length ts) all ts (λ i hi. sym (trees_from-old h ts (n ∷ ns) i hi)) n s.0
 trees_from-at h ts (n ∷ ns) s (suc i) d below =
     let more = ts ++ tree_of h ts n ∷ [] in
     let all = trees_from h more ns in
@@ -152,76 +191,6 @@ stored-at h ns i d s b =
     let e : 0 + i ≡ i = omega arith in
     subst (λ (j : ℕ). IsBelow h j (get_or ns i d)) e (AreStored-at h 0 ns i d s b)
 
--- what is held grows at its ends
-pub text_at-more : (h g : Held) → Extends h g → (t : NodeText) → IsText h t → text_at g t ≡ text_at h t
-text_at-more h g e (Fixed bytes) b = refl
-text_at-more h g e (Stored r) b = ap (λ (l : List ℕ). slice_range l r.from r.to) e.2.1 ∙ grind (arith, common_steps)
-
-pub list_at-more : (h g : Held) → Extends h g → (l : handle.List) → IsRange (length h.lists) l.range → list_at g l ≡ list_at h l
-list_at-more h g e l b = ap (λ (is : List ℕ). slice_range is l.range.from l.range.to) e.0.1 ∙ grind (arith, common_steps)
-
-pub parts_at-more : (h g : Held) → Extends h g → (ps : handles.Parts) → IsRange (length h.parts) ps.range → parts_at g ps ≡ parts_at h ps
-parts_at-more h g e ps b = ap (λ (l : List Part). slice_range l ps.range.from ps.range.to) e.1.1 ∙ grind (arith, common_steps)
-
-pub parts_of-more : (h g : Held) → Extends h g → (n : ℕ) (ts : List Tree) (ps : List Part) → AllByRecursion (IsPartBelow h n) ps → parts_of g ts ps ≡ parts_of h ts ps
-parts_of-more h g e n ts [] b = refl
-parts_of-more h g e n ts (part.Text x y ∷ ps) b =
-    let one = text_at-more h g e x b.0.0 in
-    let two = text_at-more h g e y b.0.1 in
-    let rest = parts_of-more h g e n ts ps b.1 in
-    cc
-parts_of-more h g e n ts (part.Tree manner t ∷ ps) b = ap (tree manner (tree_at ts t)) (parts_of-more h g e n ts ps b.1)
-parts_of-more h g e n ts (part.Trees listing l ∷ ps) b =
-    let one = ap (trees_at ts) (list_at-more h g e l b.0.0) in
-    let rest = parts_of-more h g e n ts ps b.1 in
-    cc
-
-pub trees_in-more : (h g : Held) → Extends h g → (n : ℕ) (ts : List Tree) (l : handle.List) → IsListBelow h n l → trees_in g ts l ≡ trees_in h ts l
-trees_in-more h g e n ts l b = ap (trees_at ts) (list_at-more h g e l b.0)
-
-pub parts_in-more : (h g : Held) → Extends h g → (n : ℕ) (ts : List Tree) (ps : handles.Parts) → IsPartsBelow h n ps → parts_in g ts ps ≡ parts_in h ts ps
-parts_in-more h g e n ts ps b = ap (parts_of g ts) (parts_at-more h g e ps b.0) ∙ parts_of-more h g e n ts (parts_at h ps) b.1
-
-plain_tree-more : (h g : Held) → Extends h g → (n : ℕ) (ts : List Tree) (p : Plain) → IsPlainBelow h n p → plain_tree g ts p ≡ plain_tree h ts p
-unfolding plain_tree IsPlainBelow
-plain_tree-more h g e n ts (plain.Name bytes) b = ap named (text_at-more h g e bytes b)
-plain_tree-more h g e n ts (plain.Leaf simple x y) b = let one = text_at-more h g e x b.0 in let two = text_at-more h g e y b.1 in cc
-plain_tree-more h g e n ts (plain.StdName std expanded) b = refl
-plain_tree-more h g e n ts (plain.Phrase attributes ps) b = ap (phrase attributes) (parts_in-more h g e n ts ps b)
-plain_tree-more h g e n ts (plain.Scoped friend scope name) b = refl
-plain_tree-more h g e n ts (plain.ScopedName scope name) b = ap (λ (bytes : List ℕ). scoped false (tree_at ts scope) (named bytes)) (text_at-more h g e name b.1)
-plain_tree-more h g e n ts (plain.WithArgs name args) b = ap (with_args (tree_at ts name)) (trees_in-more h g e n ts args b.1)
-plain_tree-more h g e n ts (plain.AbiTag name tag) b = ap (abi_tag (tree_at ts name)) (text_at-more h g e tag b.1)
-plain_tree-more h g e n ts (plain.InModule name owner) b = refl
-plain_tree-more h g e n ts (plain.Data name) b = refl
-plain_tree-more h g e n ts (plain.ObjcProtocol t protocol) b = ap (objc_protocol (tree_at ts t)) (text_at-more h g e protocol b.1)
-plain_tree-more h g e n ts (plain.Several items) b = ap listed (trees_in-more h g e n ts items b)
-plain_tree-more h g e n ts (plain.Expansion t) b = refl
-plain_tree-more h g e n ts (plain.Param level index) b = refl
-
-declaration_tree-more : (h g : Held) → Extends h g → (n : ℕ) (ts : List Tree) (d : Declaration) → IsDeclarationBelow h n d → declaration_tree g ts d ≡ declaration_tree h ts d
-unfolding declaration_tree IsDeclarationBelow
-declaration_tree-more h g e n ts (declaration.TypeParam constraint name) b = refl
-declaration_tree-more h g e n ts (declaration.NonTypeParam name t) b = refl
-declaration_tree-more h g e n ts (declaration.TemplateParam name declarations rest) b =
-    let one = trees_in-more h g e n ts declarations b.1 in let two = parts_in-more h g e n ts rest b.2 in cc
-declaration_tree-more h g e n ts (declaration.PackParam d) b = refl
-
-pub tree_of-more : (h g : Held) → Extends h g → (n : ℕ) (ts : List Tree) (x : Node) → IsBelow h n x → tree_of g ts x ≡ tree_of h ts x
-unfolding tree_of IsBelow
-tree_of-more h g e n ts (node.Plain p) b = plain_tree-more h g e n ts p b
-tree_of-more h g e n ts (node.Declaration d) b = declaration_tree-more h g e n ts d b
-tree_of-more h g e n ts (node.Qualified t cv) b = refl
-tree_of-more h g e n ts (node.Pointer t) b = refl
-tree_of-more h g e n ts (node.Reference t lvalue) b = refl
-tree_of-more h g e n ts (node.MemberPointer class member) b = refl
-tree_of-more h g e n ts (node.Array element dimension) b = ap (array (tree_at ts element)) (parts_in-more h g e n ts dimension b.1)
-tree_of-more h g e n ts (node.Function f) b =
-    let one = trees_in-more h g e n ts f.params b.1 in let two = parts_in-more h g e n ts f.exception b.2 in cc
-tree_of-more h g e n ts (node.Encoding f) b =
-    let one = trees_in-more h g e n ts f.params b.2 in let two = parts_in-more h g e n ts f.clauses b.3 in cc
-tree_of-more h g e n ts (node.Pack items) b = ap pack (trees_in-more h g e n ts items b)
-
 pub IsRange-more : (n m : ℕ) (r : Range) → n ≤ m → IsRange n r → IsRange m r
 IsRange-more n m r h b = (b.0, omega (arith, h, b.1))
 
@@ -232,14 +201,14 @@ pub IsText-more : (h g : Held) → Extends h g → (t : NodeText) → IsText h t
 IsText-more h g e (Fixed bytes) b = b
 IsText-more h g e (Stored r) b = IsRange-more (length h.texts) (length g.texts) r (length-more ℕ h.texts g.texts e.2) b
 
-all_below-more : (n m : ℕ) → n ≤ m → (is : List ℕ) → AllByRecursion (λ t. t < n) is → AllByRecursion (λ t. t < m) is
-all_below-more n m le [] b = b
-all_below-more n m le (i ∷ is) b = (omega (arith, le, b.0), all_below-more n m le is b.1)
+pub below-more : (m n : ℕ) (is : List ℕ) → m ≤ n → AllByRecursion (λ k. k < m) is → AllByRecursion (λ k. k < n) is
+below-more m n [] l h = tt
+below-more m n (i ∷ is) l h = (omega (arith, h.0, l), below-more m n is l h.1)
 
 pub IsListBelow-more : (h g : Held) → Extends h g → (n m : ℕ) → n ≤ m → (l : handle.List) → IsListBelow h n l → IsListBelow g m l
 IsListBelow-more h g e n m le l b = (
   IsRange-more (length h.lists) (length g.lists) l.range (length-more ℕ h.lists g.lists e.0) b.0,
-  subst (AllByRecursion (λ (t : ℕ). t < m)) (sym (list_at-more h g e l b.0)) (all_below-more n m le (list_at h l) b.1),
+  subst (AllByRecursion (λ (t : ℕ). t < m)) (sym (list_at-more h g e l b.0)) (below-more n m (list_at h l) le b.1),
 )
 
 pub IsPartBelow-more : (h g : Held) → Extends h g → (n m : ℕ) → n ≤ m → (p : Part) → IsPartBelow h n p → IsPartBelow g m p
@@ -309,7 +278,7 @@ AreStored-more h g e k (n ∷ ns) s = (IsBelow-more h g e k k (omega arith) n s.
 pub trees_from-more : (h g : Held) → Extends h g → (k : ℕ) (ts : List Tree) (ns : List Node) → AreStored h k ns → trees_from g ts ns ≡ trees_from h ts ns
 trees_from-more h g e k ts [] s = refl
 trees_from-more h g e k ts (n ∷ ns) s =
-    ap (λ (t : Tree). trees_from g (ts ++ t ∷ []) ns) (tree_of-more h g e k ts n s.0)
+    ap (λ (t : Tree). trees_from g (ts ++ t ∷ []) ns) (tree_of-more h g e k ts ts (λ i b. refl) n s.0)
     ∙ trees_from-more h g e (k + 1) (ts ++ tree_of h ts n ∷ []) ns s.1
 
 AreStored-push : (h : Held) (k : ℕ) (ns : List Node) (n : Node) → AreStored h k ns → IsBelow h (k + length ns) n → AreStored h k (ns ++ n ∷ [])
@@ -345,99 +314,31 @@ unfolding forest
 pushed-forest a b n e h =
     ap (trees_from b.held []) e ∙ ap (λ (g : Held). trees_from g [] (a.nodes ++ n ∷ [])) h ∙ trees_from-push a.held [] a.nodes n
 
-pub Begins-end : (A : Type 0) (xs zs ys : List A) → ys ≡ xs ++ zs → Begins A xs ys
-Begins-end A xs zs ys e = (zs, e)
-
-pub Begins-same : (A : Type 0) (xs ys : List A) → ys ≡ xs → Begins A xs ys
-Begins-same A xs ys e = ([], e ∙ sym (append-nil xs))
-
--- nothing is kept of what is empty
-pub kept-empty : (es : List entry.Entry) (h : Held) (k p : List ℕ) (m : ℕ) → es ≡ [] → h.lists ≡ [] → h.parts ≡ [] → h.texts ≡ [] → k ≡ [] → p ≡ [] → m ≤ 4294967295
-    → IsKept es (record { nodes = nodes_of es; held = h; saved = k; pending = p; limit = m })
-unfolding AreCounted forest
-kept-empty es h k p m e l q x f g small =
-    let s : Store = record { nodes = nodes_of es; held = h; saved = k; pending = p; limit = m } in
-    let within : IsWithin m s =
-    record {
-      nodes = omega (arith, ap length (ap nodes_of e));
-      items = omega (arith, ap length l);
-      parts = omega (arith, ap length q);
-      texts = omega (arith, ap length x);
-      saved = omega (arith, ap length f);
-      pending = omega (arith, ap length g);
-    } in
-    let none : AreStored h 0 (nodes_of es) × AreCounted es (forest s) = rw e (tt, tt) in
-    let has : HasNodes s =
-    record { saved = subst (AllByRecursion (λ i. i < size s)) (sym f) tt; pending = subst (AllByRecursion (λ i. i < size s)) (sym g) tt } in
-    (none.0, none.1, record { within = within; small = small }, has)
-
 -- indices of a store that grew
-pub below-more : (m n : ℕ) (is : List ℕ) → m ≤ n → AllByRecursion (λ k. k < m) is → AllByRecursion (λ k. k < n) is
-below-more m n [] l h = tt
-below-more m n (i ∷ is) l h = (omega (arith, h.0, l), below-more m n is l h.1)
-
 pub below-push : (n : ℕ) (is : List ℕ) (i : ℕ) → AllByRecursion (λ k. k < n) is → i < n → AllByRecursion (λ k. k < n) (is ++ i ∷ [])
 below-push n [] i h b = (b, tt)
 below-push n (k ∷ is) i h b = (h.0, below-push n is i h.1 b)
-
-pub below-take : (m n : ℕ) (is : List ℕ) → AllByRecursion (λ k. k < n) is → AllByRecursion (λ k. k < n) (take m is)
-below-take zero n is h = tt
-below-take (suc m) n [] h = tt
-below-take (suc m) n (i ∷ is) h = (h.0, below-take m n is h.1)
 
 pub below-drop : (m n : ℕ) (is : List ℕ) → AllByRecursion (λ k. k < n) is → AllByRecursion (λ k. k < n) (drop m is)
 below-drop zero n is h = h
 below-drop (suc m) n [] h = tt
 below-drop (suc m) n (i ∷ is) h = below-drop m n is h.1
 
--- what is held grows, and all else stays
-pub kept-held : (es : List entry.Entry) (a b : Store) → IsKept es a → b.nodes ≡ a.nodes → Extends a.held b.held → b.saved ≡ a.saved → b.pending ≡ a.pending → b.limit ≡ a.limit
-    → length b.held.lists ≤ a.limit → length b.held.parts ≤ a.limit → length b.held.texts ≤ a.limit → IsKept es b
-kept-held es a b k e x f g m items parts texts =
-    let w = k.2.within in
-    let n : size b ≡ size a = ap length e in (
-      grown a b e x k.0,
-      subst (AreCounted es) (sym (grown-forest a b e x k.0)) k.1,
-      record {
-        within =
-            record {
-              nodes = omega (arith, n, m, w.nodes);
-              items = omega (arith, m, items);
-              parts = omega (arith, m, parts);
-              texts = omega (arith, m, texts);
-              saved = omega (arith, ap length f, m, w.saved);
-              pending = omega (arith, ap length g, m, w.pending);
-            };
-        small = omega (arith, m, k.2.small);
-      },
-      record {
-        saved = subst (AllByRecursion (λ i. i < size b)) (sym f) (below-more (size a) (size b) a.saved (omega (arith, n)) k.3.saved);
-        pending = subst (AllByRecursion (λ i. i < size b)) (sym g) (below-more (size a) (size b) a.pending (omega (arith, n)) k.3.pending);
-      },
-    )
+-- what is held changes, and all else stays
+abbrev pub holding : Store → Held → Store
+holding s h = record { nodes = s.nodes; held = h; saved = s.saved; pending = s.pending; limit = s.limit }
 
--- the lists of nodes change, and all else stays
-pub kept-lists : (es : List entry.Entry) (a b : Store) → IsKept es a → b.nodes ≡ a.nodes → b.held ≡ a.held → b.limit ≡ a.limit → HasNodes b → length b.saved ≤ a.limit
-    → length b.pending ≤ a.limit → IsKept es b
-kept-lists es a b k e h m has saved pending =
-    let w = k.2.within in
-    let n : size b ≡ size a = ap length e in
-    let x : Extends a.held b.held = (Begins-same _ a.held.lists b.held.lists (ap (λ (g : Held). g.lists) h), Begins-same _ a.held.parts b.held.parts (ap (λ (g : Held). g.parts) h), Begins-same _ a.held.texts b.held.texts (ap (λ (g : Held). g.texts) h)) in (
-      grown a b e x k.0,
-      subst (AreCounted es) (sym (grown-forest a b e x k.0)) k.1,
+pub kept-held : (es : List entry.Entry) (s : Store) (h : Held) → IsKept es s → Extends s.held h → length h.lists ≤ s.limit → length h.parts ≤ s.limit → length h.texts ≤ s.limit → IsKept es (holding s h)
+kept-held es s h k x items parts texts =
+    let w = k.2.within in (
+      grown s (holding s h) refl x k.0,
+      subst (AreCounted es) (sym (grown-forest s (holding s h) refl x k.0)) k.1,
       record {
         within =
-            record {
-              nodes = omega (arith, n, m, w.nodes);
-              items = omega (arith, m, w.items, ap (λ (g : Held). length g.lists) h);
-              parts = omega (arith, m, w.parts, ap (λ (g : Held). length g.parts) h);
-              texts = omega (arith, m, w.texts, ap (λ (g : Held). length g.texts) h);
-              saved = omega (arith, m, saved);
-              pending = omega (arith, m, pending);
-            };
-        small = omega (arith, m, k.2.small);
+            record { nodes = w.nodes; items = items; parts = parts; texts = texts; saved = w.saved; pending = w.pending };
+        small = k.2.small;
       },
-      has,
+      record { saved = k.3.saved; pending = k.3.pending },
     )
 
 pub ruleset laws = (AreStored-more, stored-push)

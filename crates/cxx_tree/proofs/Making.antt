@@ -1,5 +1,5 @@
 -- Making nodes: texts and parts of an arena stay right as it grows.
-use Rattle.std.proofs.Common.{ℕ, ◌≡◌, ◌≤◌, List, refl, sym, ◌∙◌, arith, subst, Option, Some, None, Result, Err}
+use Rattle.std.proofs.Common.{ℕ, ◌≡◌, List, refl, sym, subst, Option, Some, None, Result, Err}
 use Rattle.std.specs.List.{AllByRecursion}
 use Rattle.cxx_tree.specs.declared.node.NodeText.{NodeText}
 use Rattle.cxx_tree.specs.declared.node.List as handle
@@ -9,16 +9,27 @@ use Rattle.cxx_tree.specs.declared.arena.Stop.{Stop}
 use Rattle.cxx_tree.specs.declared.arena.Stop.TheVariants.{Memory}
 use Rattle.cxx_tree.specs.Tree.{Tree}
 use Rattle.cxx_tree.specs.Grows.{Grows, Makes}
-use Rattle.cxx_tree.specs.Stored.{Store, forest, size, tree_at, option_at, text_at, parts_of, parts_in, IsListBelow, IsText, IsPartBelow, IsPartsBelow}
-use Rattle.cxx_tree.proofs.Forest.{parts_of-more, parts_of-same, text_at-more, IsText-more, IsPartsBelow-more, parts_in-more}
+use Rattle.cxx_tree.specs.Stored.{Store, forest, size, tree_at, option_at, trees_in, text_at, parts_of, parts_in, IsOptionBelow, IsListBelow, IsText, IsPartBelow, IsPartsBelow}
+use Rattle.cxx_tree.proofs.Forest.{option_at-same, trees_in-more, parts_of-more, parts_in-more, text_at-more, IsText-more, IsListBelow-more}
 use Rattle.std.specs.Prelude.{option_map}
 use Rattle.cxx_tree.specs.Phrases.{at_most_one}
 use Rattle.cxx_tree.proofs.Grown.{Makes-after, Makes-refused}
 
--- parts of a grown arena
+-- trees, lists and parts of a grown arena
+pub option_at-grows : (a b : Store) → Grows a b → (o : Option ℕ) → IsOptionBelow (size a) o → option_at (forest b) o ≡ option_at (forest a) o
+option_at-grows a b g o h = option_at-same (size a) (forest b) (forest a) g.same o h
+
+pub trees_in-grows : (a b : Store) → Grows a b → (l : handle.List) → IsListBelow a.held (size a) l → trees_in b.held (forest b) l ≡ trees_in a.held (forest a) l
+trees_in-grows a b g l h = trees_in-more a.held b.held g.extends (size a) (forest a) (forest b) g.same l h
+
 pub parts_of-grows : (a b : Store) → Grows a b → (ps : List Part) → AllByRecursion (IsPartBelow a.held (size a)) ps → parts_of b.held (forest b) ps ≡ parts_of a.held (forest a) ps
-parts_of-grows a b g ps below =
-    parts_of-more a.held b.held g.extends (size a) (forest b) ps below ∙ parts_of-same a.held (size a) (forest b) (forest a) g.same ps below
+parts_of-grows a b g ps h = parts_of-more a.held b.held g.extends (size a) (forest a) (forest b) g.same ps h
+
+pub parts_in-grows : (a b : Store) → Grows a b → (ps : handles.Parts) → IsPartsBelow a.held (size a) ps → parts_in b.held (forest b) ps ≡ parts_in a.held (forest a) ps
+parts_in-grows a b g ps h = parts_in-more a.held b.held g.extends (size a) (forest a) (forest b) g.same ps h
+
+pub list_below-grows : (a b : Store) (l : handle.List) → Grows a b → IsListBelow a.held (size a) l → IsListBelow b.held (size b) l
+list_below-grows a b l g h = IsListBelow-more a.held b.held g.extends (size a) (size b) g.longer l h
 
 -- memory was refused
 pub Makes-memory : (r : Result ℕ Stop) (a b : Store) (t : Tree) → r ≡ Err Memory → Grows a b → Makes r a b t
@@ -31,19 +42,14 @@ text_at-grows a b t g i = text_at-more a.held b.held g.extends t i
 pub IsText-grows : (a b : Store) (t : NodeText) → Grows a b → IsText a.held t → IsText b.held t
 IsText-grows a b t g i = IsText-more a.held b.held g.extends t i
 
--- parts that were copied before
-pub parts_in-grows : (a b : Store) (n : ℕ) (ts : List Tree) (l : handles.Parts) → Grows a b → IsPartsBelow a.held n l → parts_in b.held ts l ≡ parts_in a.held ts l
-parts_in-grows a b n ts l g i = parts_in-more a.held b.held g.extends n ts l i
-
 -- no return type or one
 pub at_most_one-at : (ts : List Tree) (o : Option ℕ) → at_most_one (option_map (tree_at ts) o) ≡ option_at ts o
 at_most_one-at ts None = refl
 at_most_one-at ts (Some i) = refl
 
--- a list that was copied after parts
-pub both-below : (a b c : Store) (l : handle.List) (ps : handles.Parts) → size b ≡ size a → size c ≡ size b → Grows b c → IsPartsBelow b.held (size a) ps → IsListBelow c.held (size b) l → IsListBelow c.held (size c) l × IsPartsBelow c.held (size c) ps
-both-below a b c l ps e f g i j =
-    let h : size a ≤ size c = omega (arith, e, f) in
-    (subst (λ (n : ℕ). IsListBelow c.held n l) (sym f) j, IsPartsBelow-more b.held c.held g.extends (size a) (size c) h ps i)
+-- a list, and parts that were made after it
+pub listing-below : (a b : Store) (l : handle.List) (ps : handles.Parts) → Grows a b → size b ≡ size a → IsListBelow a.held (size a) l → IsPartsBelow b.held (size a) ps → IsListBelow b.held (size b) l × IsPartsBelow b.held (size b) ps
+listing-below a b l ps g e i j =
+    (list_below-grows a b l g i, subst (λ (n : ℕ). IsPartsBelow b.held n ps) (sym e) j)
 
-pub ruleset making = (Makes-memory, Makes-after, parts_of-grows, text_at-grows, IsText-grows)
+pub ruleset making = (Makes-memory, Makes-after, parts_of-grows, text_at-grows, IsText-grows, trees_in-grows, at_most_one-at)

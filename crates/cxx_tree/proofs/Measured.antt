@@ -1,5 +1,5 @@
 -- The counts of nodes.
-use Rattle.std.proofs.Common.{ℕ, ◌≡◌, ◌+◌, ◌<◌, Bool, true, false, List, [], ◌∷◌, ◌++◌, length, drop, slice_range, ◌-◌, refl, sym, ap, subst, ◌∙◌, arith, zero, suc}
+use Rattle.std.proofs.Common.{ℕ, ◌≡◌, ◌+◌, ◌<◌, true, false, List, [], ◌∷◌, ◌++◌, length, drop, slice_range, ◌-◌, refl, sym, ap, subst, ◌∙◌, arith, zero, suc}
 use Rattle.std.proofs.Math.ListN.{get_or}
 use Rattle.std.proofs.lemmas.Grind.{common_steps}
 use Rattle.std.specs.Prelude.{Option, None, Some, MatchOption}
@@ -9,19 +9,24 @@ use Rattle.cxx_tree.specs.declared.arena.Entry as entry
 use Rattle.cxx_tree.specs.declared.node.Range.{Range}
 use Rattle.cxx_tree.specs.declared.node.List as handle
 use Rattle.cxx_tree.specs.declared.node.Part.{Part}
-use Rattle.cxx_tree.specs.declared.node.Part.TheVariants as part
 use Rattle.cxx_tree.specs.Tree.{Tree}
-use Rattle.cxx_tree.specs.Measure.{Measure, measure, measure_each, measure_parts, nothing, join, count}
-use Rattle.cxx_tree.specs.Counts.{Row, Tallied, AreExact, AreCounted, part_and}
-use Rattle.cxx_tree.specs.Stored.{Held, tree_at, trees_at, trees_in, list_at, parts_of, IsRange, IsListBelow, IsPartBelow}
+use Rattle.cxx_tree.specs.Measure.{Measure, measure, measure_each, join, count}
+use Rattle.cxx_tree.specs.Counts.{Row, Tallied, AreExact, AreCounted}
+use Rattle.cxx_tree.specs.Stored.{Held, Store, forest, size, tree_at, trees_at, trees_in, list_at, IsRange, IsListBelow, IsPartBelow}
+use Rattle.cxx_tree.proofs.Forest.{length-forest}
 
-pub counted-at : (es : List entry.Entry) (ts : List Tree) → AreCounted es ts → (i : ℕ) (d : entry.Entry) → i < length ts → Row (get_or es i d).counts (measure (tree_at ts i)) × AreExact (measure (tree_at ts i))
+counted-at : (es : List entry.Entry) (ts : List Tree) → AreCounted es ts → (i : ℕ) (d : entry.Entry) → i < length ts → Row (get_or es i d).counts (measure (tree_at ts i)) × AreExact (measure (tree_at ts i))
 unfolding AreCounted
 counted-at [] [] h i d b = absurd (omega arith)
 counted-at [] (t ∷ ts) h i d b = absurd h
 counted-at (e ∷ es) [] h i d b = absurd h
 counted-at (e ∷ es) (t ∷ ts) h zero d b = (h.0, h.1)
 counted-at (e ∷ es) (t ∷ ts) h (suc i) d b = counted-at es ts h.2 i d (omega arith)
+
+-- the counts of a node of an arena
+pub counted-in : (es : List entry.Entry) (s a : Store) → AreCounted es (forest s) → s ≡ a → (i : ℕ) (d : entry.Entry) → i < size a → Row (get_or es i d).counts (measure (tree_at (forest a) i)) × AreExact (measure (tree_at (forest a) i))
+counted-in es s a h e i d b =
+    rw (← e) (counted-at es (forest s) h i d (omega (arith, b, ap size e, length-forest s)))
 
 pub counted-length : (es : List entry.Entry) (ts : List Tree) → AreCounted es ts → length es ≡ length ts
 unfolding AreCounted
@@ -40,7 +45,7 @@ counted-push (d ∷ es) (u ∷ ts) e t h r x = (h.0, h.1, counted-push es ts e t
 length-range : (is : List ℕ) (r : Range) → IsRange (length is) r → length (slice_range is r.from r.to) ≡ r.to - r.from
 length-range is r b = grind (arith, common_steps, b.0, b.1)
 
--- lists of nodes, from the end
+-- lists of nodes, and parts, from the end
 pub each-step : (ts : List Tree) (is : List ℕ) (k d : ℕ) → k < length is → measure_each (trees_at ts (drop k is)) ≡ join (measure (tree_at ts (get_or is k d))) (measure_each (trees_at ts (drop (k + 1) is)))
 unfolding measure
 each-step ts [] k d h = absurd (omega arith)
@@ -50,32 +55,10 @@ each-step ts (i ∷ is) (suc k) d h =
     each-step ts is k d (omega arith)
     ∙ ap (λ (j : ℕ). join (measure (tree_at ts (get_or is k d))) (measure_each (trees_at ts (drop j (i ∷ is))))) (sym e)
 
-pub each-end : (ts : List Tree) (is : List ℕ) → measure_each (trees_at ts (drop (length is) is)) ≡ nothing
-unfolding measure
-each-end ts [] = refl
-each-end ts (i ∷ is) = each-end ts is
-
 pub in-list : (n : ℕ) (is : List ℕ) (k d : ℕ) → AllByRecursion (λ t. t < n) is → k < length is → get_or is k d < n
 in-list n [] k d h b = absurd (omega arith)
 in-list n (i ∷ is) zero d h b = h.0
 in-list n (i ∷ is) (suc k) d h b = in-list n is k d h.1 (omega arith)
-
--- parts, from the end
-pub parts-step : (h : Held) (ts : List Tree) (reversed : Bool) (ps : List Part) (k : ℕ) (d : Part) → k < length ps → measure_parts reversed (parts_of h ts (drop k ps)) ≡ part_and h ts reversed (get_or ps k d) (measure_parts reversed (parts_of h ts (drop (k + 1) ps)))
-unfolding measure part_and
-parts-step h ts reversed [] k d b = absurd (omega arith)
-parts-step h ts reversed (part.Text x y ∷ ps) zero d b = refl
-parts-step h ts reversed (part.Tree manner t ∷ ps) zero d b = refl
-parts-step h ts reversed (part.Trees listing l ∷ ps) zero d b = refl
-parts-step h ts reversed (p ∷ ps) (suc k) d b =
-    let e : suc k + 1 ≡ suc (k + 1) = omega arith in
-    parts-step h ts reversed ps k d (omega arith)
-    ∙ ap (λ (j : ℕ). part_and h ts reversed (get_or ps k d) (measure_parts reversed (parts_of h ts (drop j (p ∷ ps))))) (sym e)
-
-pub parts-end : (h : Held) (ts : List Tree) (reversed : Bool) (ps : List Part) → measure_parts reversed (parts_of h ts (drop (length ps) ps)) ≡ nothing
-unfolding measure
-parts-end h ts reversed [] = refl
-parts-end h ts reversed (p ∷ ps) = parts-end h ts reversed ps
 
 pub in-parts : (h : Held) (n : ℕ) (ps : List Part) (k : ℕ) (d : Part) → AllByRecursion (IsPartBelow h n) ps → k < length ps → IsPartBelow h n (get_or ps k d)
 in-parts h n [] k d b l = absurd (omega arith)

@@ -7,8 +7,8 @@ use Rattle.cxx_tree.specs.Phrases.{declared, signature, constrained, constrained
 use Rattle.std.specs.List.{AllByRecursion}
 use Rattle.cxx_tree.specs.declared.node.Part.{Part}
 use Rattle.cxx_tree.specs.declared.node.Part.TheVariants as part
-use Rattle.cxx_tree.specs.Tree.{Tree, Trees, Parts, no_parts, text, tree, trees}
-use Rattle.cxx_tree.specs.Stored.{Held, parts_of, text_at, tree_at, trees_at, trees_in, IsPartBelow}
+use Rattle.cxx_tree.specs.Tree.{Tree, Parts, no_parts, text, tree, trees}
+use Rattle.cxx_tree.specs.Stored.{Held, parts_of, text_at, tree_at, trees_at, trees_in, list_at, IsPartBelow}
 use Rattle.cxx_tree.specs.Pieces.{part_of, put, Adds, AddsBelow, declared_if, signature_at}
 
 pub put-append : (h : Held) (ts : List Tree) (ps qs : List Part) (behind : Parts) → put h ts (ps ++ qs) behind ≡ put h ts ps (put h ts qs behind)
@@ -44,7 +44,7 @@ ok_map (Ok x) P Q h f = f h
 ok_map (Err x) P Q h f = tt
 
 -- a piece between two others
-pub between : (h : Held) (ts : List Tree) (none front one two back all : List Part) (piece : Parts → Parts) → none ≡ [] → one ≡ none ++ front → ((behind : Parts) → put h ts two behind ≡ put h ts one (piece behind)) → all ≡ two ++ back → parts_of h ts all ≡ put h ts front (piece (put h ts back no_parts))
+between : (h : Held) (ts : List Tree) (none front one two back all : List Part) (piece : Parts → Parts) → none ≡ [] → one ≡ none ++ front → ((behind : Parts) → put h ts two behind ≡ put h ts one (piece behind)) → all ≡ two ++ back → parts_of h ts all ≡ put h ts front (piece (put h ts back no_parts))
 between h ts none front one two back all piece e f g k =
     let first : one ≡ front = f ∙ ap (λ (l : List Part). l ++ front) e in
     parts_of-put h ts all
@@ -53,22 +53,17 @@ between h ts none front one two back all piece e f g k =
     ∙ g (put h ts back no_parts)
     ∙ ap (λ (l : List Part). put h ts l (piece (put h ts back no_parts))) first
 
-pub between-below : (h : Held) (n : ℕ) (none front one two back all : List Part) → none ≡ [] → one ≡ none ++ front → (AllByRecursion (IsPartBelow h n) one → AllByRecursion (IsPartBelow h n) two) → all ≡ two ++ back → AllByRecursion (IsPartBelow h n) front → AllByRecursion (IsPartBelow h n) back → AllByRecursion (IsPartBelow h n) all
-between-below h n none front one two back all e f g k p q =
-    let first : one ≡ front = f ∙ ap (λ (l : List Part). l ++ front) e in
-    subst (AllByRecursion (IsPartBelow h n)) (sym k)
-    (all-append h n two back (g (subst (AllByRecursion (IsPartBelow h n)) (sym first) p)) q)
-
--- a signature, of the lists that were copied
-pub declared-as : (ts : List Tree) (is : List ℕ) (any : Bool) (behind : Parts) → any ≡ not (length is == 0) → declared_if any (trees_at ts is) behind ≡ declared (trees_at ts is) behind
+-- the declarations of a signature
+declared-as : (ts : List Tree) (is : List ℕ) (any : Bool) (behind : Parts) → any ≡ not (length is == 0) → declared_if any (trees_at ts is) behind ≡ declared (trees_at ts is) behind
 declared-as ts [] true behind e = absurd (grind (arith, nat_tests))
 declared-as ts [] false behind e = refl
 declared-as ts (i ∷ is) true behind e = refl
 declared-as ts (i ∷ is) false behind e = absurd (grind (arith, nat_tests))
 
-pub signature-as : (h : Held) (ts : List Tree) (any : Bool) (is js : List ℕ) (dl pl : handle.List) (before after : Option ℕ) (behind : Parts) → any ≡ not (length is == 0) → trees_in h ts dl ≡ trees_at ts is → trees_in h ts pl ≡ trees_at ts js → signature_at h ts any dl before pl after behind ≡ signature (trees_at ts is) (option_map (tree_at ts) before) (trees_at ts js) (option_map (tree_at ts) after) behind
-signature-as h ts any is js dl pl before after behind e d p =
-    let rest : Trees → Parts = λ us. constrained_before (option_map (tree_at ts) before) (parens us (constrained (option_map (tree_at ts) after) behind)) in
-    ap (λ (us : Trees). declared_if any us (rest (trees_in h ts pl))) d
-    ∙ ap (λ (us : Trees). declared_if any (trees_at ts is) (rest us)) p
-    ∙ declared-as ts is any (rest (trees_at ts js)) e
+-- a signature between two others
+pub signed : (h : Held) (ts : List Tree) (none front one two back all : List Part) (any : Bool) (dl pl : handle.List) (before after : Option ℕ) → none ≡ [] → one ≡ none ++ front → ((behind : Parts) → put h ts two behind ≡ put h ts one (signature_at h ts any dl before pl after behind)) → all ≡ two ++ back → any ≡ not (length (list_at h dl) == 0) → parts_of h ts all ≡ put h ts front (signature (trees_in h ts dl) (option_map (tree_at ts) before) (trees_in h ts pl) (option_map (tree_at ts) after) (put h ts back no_parts))
+signed h ts none front one two back all any dl pl before after e f g k m =
+    let behind : Parts = put h ts back no_parts in
+    let rest = constrained_before (option_map (tree_at ts) before) (parens (trees_in h ts pl) (constrained (option_map (tree_at ts) after) behind)) in
+    between h ts none front one two back all (signature_at h ts any dl before pl after) e f g k
+    ∙ ap (put h ts front) (declared-as ts (list_at h dl) any rest m)

@@ -1,9 +1,7 @@
 -- How template parameters are replaced.
-use Rattle.std.proofs.Common.{ℕ, ◌≡◌, ◌+◌, ◌-◌, ◌<◌, ◌≤◌, Bool, true, false, ◌&&◌, List, [], ◌∷◌, ◌++◌, length, map, drop, refl, sym, ap, ◌∙◌, arith, subst, zero, suc, Option, Result, Ok, Err}
+use Rattle.std.proofs.Common.{ℕ, ◌≡◌, ◌+◌, ◌-◌, ◌<◌, ◌≤◌, Bool, true, false, ◌&&◌, List, [], ◌∷◌, ◌++◌, length, map, drop, refl, sym, ap, ◌∙◌, arith, subst, zero, suc, Result, Ok, Err}
 use Rattle.std.proofs.Math.ListN.{get_or}
-use Rattle.std.proofs.lemmas.Grind.{common_steps}
 use Rattle.std.specs.List.{AllByRecursion}
-use Rattle.std.specs.Prelude.{if◌then◌else◌}
 use Rattle.std.specs.Result.{IfOk, OnOk, OnErr, IsErrOf}
 use Rattle.std.proofs.lemmas.List.{drop_all}
 use mathlib.Core.Bool.{true≢false}
@@ -20,13 +18,14 @@ use Rattle.cxx_tree.specs.declared.node.Node.{Node}
 use Rattle.cxx_tree.specs.declared.bind.Binding as given
 use Rattle.cxx_tree.specs.Tree.{Tree, Trees, Parts, named, leaf, std_name, phrase, scoped, with_args, abi_tag, in_module, data_name, objc_protocol, listed, expansion, param, type_param, non_type_param, template_param, pack_param, qualified, pointer, reference, member_pointer, array, function, encoding, pack, no_trees, more_trees, no_parts, text, tree, trees}
 use Rattle.cxx_tree.specs.Measure.{Measure, measure, measure_each, measure_parts, part_measure, nothing, join_as, counted}
-use Rattle.cxx_tree.specs.Stored.{Held, Store, text_at, forest, size, tree_at, trees_at, trees_in, list_at, option_at, parts_of, parts_at, parts_in, IsRange, IsListBelow, IsPartBelow, IsPartsBelow, IsOptionBelow}
+use Rattle.cxx_tree.specs.Stored.{Held, Store, text_at, forest, size, tree_at, trees_at, trees_in, list_at, parts_of, parts_at, parts_in, IsRange, IsListBelow, IsPartBelow, IsPartsBelow}
 use Rattle.cxx_tree.specs.Grows.{Grows, Makes}
 use Rattle.cxx_tree.specs.declared.arena.Stop.{Stop}
 use Rattle.cxx_tree.specs.declared.arena.Stop.TheVariants.{Memory, Unreadable}
-use Rattle.cxx_tree.proofs.Grown.{Grows-trans, Makes-after, Makes-refused, Makes-limit, Grows-same, Extends-same, trees_at-grows, below-grows}
-use Rattle.cxx_tree.proofs.Forest.{trees_at-same, option_at-same, parts_of-same, parts_of-more, trees_in-more, parts_in-more, IsListBelow-more, IsPartsBelow-more, IsPartBelow-more, all_parts-more}
-use Rattle.cxx_tree.specs.Bind.{Binding, bind, bind_each, bind_parts, binding_at, names_at, AreNamed, bound_at, bound_list, bound_parts, part_at, bound, has_name, other, as_pack}
+use Rattle.cxx_tree.proofs.Grown.{Makes-after, Makes-refused, Makes-limit, Grows-same, Grows-trans, trees_at-grows}
+use Rattle.cxx_tree.proofs.Making.{Makes-memory, trees_in-grows, parts_of-grows, parts_in-grows}
+use Rattle.cxx_tree.proofs.Forest.{Extends-same, map-same, below-more, IsListBelow-more, IsPartsBelow-more, IsPartBelow-more, all_parts-more}
+use Rattle.cxx_tree.specs.Bind.{Binding, bind, bind_each, bind_parts, binding_at, names_at, AreNamed, bound_at, bound_list, bound_parts, part_at}
 
 -- what isn't within the limits makes the whole so
 pub unfit_left : (a b : Bool) → a ≡ false → a && b ≡ false
@@ -170,52 +169,20 @@ mutual
       cc
 
 -- what a call makes
-pub Makes-memory : (r : Result ℕ Stop) (a b : Store) (t : Tree) → r ≡ Err Memory → Grows a b
-    → Makes r a b t
-Makes-memory r a b t e g = subst (λ (q : Result ℕ Stop). Makes q a b t) (sym e) (Makes-refused a b t g)
-
 pub Makes-then : (r : Result ℕ Stop) (a b c : Store) (t u : Tree) → Makes r b c t → t ≡ u → Grows a b
     → Makes r a c u
 Makes-then r a b c t u m e g = Makes-after r a b c u g (subst (Makes r b c) e m)
 
--- trees of an arena that grows
-pub option_at-grows : (a b : Store) → Grows a b → (o : Option ℕ) → IsOptionBelow (size a) o
-    → option_at (forest b) o ≡ option_at (forest a) o
-option_at-grows a b g o h = option_at-same (size a) (forest b) (forest a) (λ i l. g.same i l) o h
-
-pub trees_in-grows : (a b : Store) → Grows a b → (l : handle.List) → IsListBelow a.held (size a) l
-    → trees_in b.held (forest b) l ≡ trees_in a.held (forest a) l
-trees_in-grows a b g l h =
-    trees_in-more a.held b.held g.extends (size a) (forest b) l h
-    ∙ trees_at-same (size a) (forest b) (forest a) (λ i u. g.same i u) (list_at a.held l) h.1
-
-pub parts_of-grows : (a b : Store) → Grows a b → (ps : List Part)
-    → AllByRecursion (IsPartBelow a.held (size a)) ps → parts_of b.held (forest b) ps
-    ≡ parts_of a.held (forest a) ps
-parts_of-grows a b g ps h =
-    parts_of-more a.held b.held g.extends (size a) (forest b) ps h
-    ∙ parts_of-same a.held (size a) (forest b) (forest a) (λ i u. g.same i u) ps h
-
-pub parts_in-grows : (a b : Store) → Grows a b → (ps : handles.Parts) → IsPartsBelow a.held (size a) ps
-    → parts_in b.held (forest b) ps ≡ parts_in a.held (forest a) ps
-parts_in-grows a b g ps h =
-    parts_in-more a.held b.held g.extends (size a) (forest b) ps h
-    ∙ parts_of-same a.held (size a) (forest b) (forest a) (λ i u. g.same i u) (parts_at a.held ps) h.1
-
-map-grows : (a b : Store) → Grows a b → (is : List ℕ) → AllByRecursion (λ t. t < size a) is
-    → map (tree_at (forest b)) is ≡ map (tree_at (forest a)) is
-map-grows a b g [] h = refl
-map-grows a b g (i ∷ is) h = let one = g.same i h.0 in let rest = map-grows a b g is h.1 in cc
-
+-- the names of a binding, as an arena grows
 pub binding_at-grows : (a b : Store) (x : given.Binding) → Grows a b → AreNamed a x → binding_at b x
     ≡ binding_at a x
 binding_at-grows a b x g h =
     ap (λ (ts : List Tree). record { level = x.level; names = ts; others = x.others })
-    (ap (λ (is : List ℕ). map (tree_at (forest b)) (drop x.from is)) g.pending ∙ map-grows a b g (names_at a x) h.1)
+    (ap (λ (is : List ℕ). map (tree_at (forest b)) (drop x.from is)) g.pending ∙ map-same (size a) (forest b) (forest a) g.same (names_at a x) h.1)
 
-pub AreNamed-grows : (a b : Store) (x : given.Binding) → Grows a b → AreNamed a x → AreNamed b x
+AreNamed-grows : (a b : Store) (x : given.Binding) → Grows a b → AreNamed a x → AreNamed b x
 AreNamed-grows a b x g h =
-    (omega (arith, ap length g.pending, h.0), subst (λ (is : List ℕ). AllByRecursion (λ n. n < size b) (drop x.from is)) (sym g.pending) (below-grows a b g (names_at a x) h.1))
+    (omega (arith, ap length g.pending, h.0), subst (λ (is : List ℕ). AllByRecursion (λ n. n < size b) (drop x.from is)) (sym g.pending) (below-more (size a) (size b) (names_at a x) g.longer h.1))
 
 -- a tree, a list and parts, after an arena grew
 pub tree-after : (a b : Store) (x : given.Binding) (i : ℕ) → Grows a b → AreNamed a x → i < size a
@@ -231,21 +198,21 @@ pub parts_within : (a : Store) (n : ℕ) (ps : handles.Parts) → n ≤ size a �
     → IsPartsBelow a.held (size a) ps
 parts_within a n ps m b = IsPartsBelow-more a.held a.held (Extends-same a.held a.held refl) n (size a) m ps b
 
-pub IsListBelow-grows : (a b : Store) (n : ℕ) (l : handle.List) → Grows a b → IsListBelow a.held n l
-    → IsListBelow b.held n l
-IsListBelow-grows a b n l g h = IsListBelow-more a.held b.held g.extends n n (omega arith) l h
+-- what a call needs of a list, of parts and of a part, after an arena grew
+pub list-ready : (a b : Store) (x : given.Binding) (n : ℕ) (l : handle.List) → Grows a b → n ≤ size a → AreNamed a x
+    → IsListBelow a.held n l → (n ≤ size b) × (AreNamed b x × IsListBelow b.held n l)
+list-ready a b x n l g h m k =
+    (omega (arith, h, g.longer), (AreNamed-grows a b x g m, IsListBelow-more a.held b.held g.extends n n (omega arith) l k))
 
-pub IsPartsBelow-grows : (a b : Store) (n : ℕ) (ps : handles.Parts) → Grows a b → IsPartsBelow a.held n ps
-    → IsPartsBelow b.held n ps
-IsPartsBelow-grows a b n ps g h = IsPartsBelow-more a.held b.held g.extends n n (omega arith) ps h
+pub parts-ready : (a b : Store) (x : given.Binding) (n : ℕ) (ps : handles.Parts) → Grows a b → n ≤ size a
+    → AreNamed a x → IsPartsBelow a.held n ps → (n ≤ size b) × (AreNamed b x × IsPartsBelow b.held n ps)
+parts-ready a b x n ps g h m k =
+    (omega (arith, h, g.longer), (AreNamed-grows a b x g m, IsPartsBelow-more a.held b.held g.extends n n (omega arith) ps k))
 
-pub IsPartBelow-grows : (a b : Store) (n : ℕ) (p : Part) → Grows a b → IsPartBelow a.held n p
-    → IsPartBelow b.held n p
-IsPartBelow-grows a b n p g h = IsPartBelow-more a.held b.held g.extends n n (omega arith) p h
-
-pub list_below-grows : (a b : Store) (l : handle.List) → Grows a b → IsListBelow a.held (size a) l
-    → IsListBelow b.held (size b) l
-list_below-grows a b l g h = IsListBelow-more a.held b.held g.extends (size a) (size b) g.longer l h
+pub part-ready : (a b : Store) (x : given.Binding) (n : ℕ) (p : Part) → Grows a b → n ≤ size a → AreNamed a x
+    → IsPartBelow a.held n p → (n ≤ size b) × (AreNamed b x × IsPartBelow b.held n p)
+part-ready a b x n p g h m k =
+    (omega (arith, h, g.longer), (AreNamed-grows a b x g m, IsPartBelow-more a.held b.held g.extends n n (omega arith) p k))
 
 pub list-after : (a b : Store) (x : given.Binding) (n : ℕ) (l : handle.List) → Grows a b → AreNamed a x
     → n ≤ size a → IsListBelow a.held n l → (trees_in b.held (forest b) l ≡ trees_in a.held (forest a) l)
@@ -303,22 +270,6 @@ some-params c m r n = omega (arith, r.0.4, n)
 
 pub stays : (c : stored.Measure) (b : Binding) (t : Tree) → Row c (measure t) → c.params ≡ 0 → t ≡ bind b t
 stays c b t r e = sym (bind-none b t (no-params c (measure t) r e))
-
--- a parameter that has a name
-get_or-names : (ts : List Tree) (is : List ℕ) (k d : ℕ) → k < length is → tree_at (map (tree_at ts) is) k
-    ≡ tree_at ts (get_or is k d)
-get_or-names ts [] k d h = absurd (omega arith)
-get_or-names ts (i ∷ is) zero d h = refl
-get_or-names ts (i ∷ is) (suc k) d h = get_or-names ts is k d (omega arith)
-
-pub bound-name : (a : Store) (x : given.Binding) (level index d : ℕ) → level ≡ x.level
-    → index < length (names_at a x) → as_pack (tree_at (forest a) (get_or (names_at a x) index d))
-    ≡ bound (binding_at a x) level index
-bound-name a x level index d e h =
-    let yes : has_name (binding_at a x) level index ≡ true = grind (arith, common_steps, e, h) in
-    sym (ap as_pack (get_or-names (forest a) (names_at a x) index d h))
-    ∙ sym
-    (ap (λ (q : Bool). if q then as_pack (tree_at (binding_at a x).names index) else other x.others x.level level index) yes)
 
 -- an error is passed on
 pub limit_second : (A B : Type 0) (e : Stop) (x y z : Bool) → (IsErrOf {T = A} (Err e) Unreadable → z ≡ false)
@@ -397,6 +348,10 @@ pub record Listed (a : Store) (n : ℕ) (l : handle.List) (is : List ℕ) : Type
   pub below : IsListBelow a.held n l
   pub same : is ≡ list_at a.held l
 
+pub is_listed : (a : Store) (n : ℕ) (l : handle.List) (is js ks : List ℕ) → n ≤ size a → IsListBelow a.held n l
+    → is ≡ js → js ≡ ks → ks ≡ list_at a.held l → Listed a n l is
+is_listed a n l is js ks w b e f g = record { within = w; below = b; same = e ∙ f ∙ g }
+
 pub listed_below : (a : Store) (n : ℕ) (l : handle.List) (is : List ℕ) (k d : ℕ) → Listed a n l is
     → k < length is → get_or is k d < n
 listed_below a n l is k d s h = in-list n is k d (subst (AllByRecursion (λ (t : ℕ). t < n)) (sym s.same) s.below.1) h
@@ -413,6 +368,13 @@ list-few a b c n l is k d s h g few more =
     let same = ap (λ (t : Tree). (measure t).params) (g.same (get_or is k d) (omega (arith, low, s.within))) in
     let step = ap (λ (m : Measure). m.params) (each-step (forest a) is k d h) in
     omega (arith, same, step, few, more)
+
+pub list-all : (a : Store) (n : ℕ) (l : handle.List) (is : List ℕ) (m k : ℕ) → Listed a n l is
+    → m + (measure_each (trees_at (forest a) (drop k is))).params ≤ size a
+    + (measure_each (trees_at (forest a) is)).params
+    → m ≤ size a + (measure_each (trees_in a.held (forest a) l)).params
+list-all a n l is m k s few =
+    let all = ap (λ (js : List ℕ). (measure_each (trees_at (forest a) js)).params) s.same in omega (arith, few, all)
 
 pub list-bound :
     (a b c : Store) (x : given.Binding) (n : ℕ) (l : handle.List) (is ns ms : List ℕ) (k d r : ℕ) (all : Trees)
@@ -534,6 +496,10 @@ pub record Parted (a : Store) (n : ℕ) (l : handles.Parts) (ps : List Part) : T
   pub below : IsPartsBelow a.held n l
   pub same : ps ≡ parts_at a.held l
 
+pub is_parted : (a : Store) (n : ℕ) (l : handles.Parts) (ps qs rs : List Part) → n ≤ size a → IsPartsBelow a.held n l
+    → ps ≡ qs → qs ≡ rs → rs ≡ parts_at a.held l → Parted a n l ps
+is_parted a n l ps qs rs w b e f g = record { within = w; below = b; same = e ∙ f ∙ g }
+
 pub parted_below : (a : Store) (n : ℕ) (l : handles.Parts) (ps : List Part) (k : ℕ) (d : Part) → Parted a n l ps
     → k < length ps → IsPartBelow a.held n (get_or ps k d)
 parted_below a n l ps k d s h =
@@ -564,6 +530,14 @@ parts-few a b c x n l ps k d r s h g known few more =
     let step = params-step a.held (forest a) r ps k d h in
     omega (arith, same, step, few, more)
 
+pub parts-all : (a : Store) (n : ℕ) (l : handles.Parts) (ps : List Part) (m k : ℕ) (r : Bool) → Parted a n l ps
+    → m + (measure_parts r (parts_of a.held (forest a) (drop k ps))).params ≤ size a
+    + (measure_parts r (parts_of a.held (forest a) ps)).params
+    → m ≤ size a + (measure_parts r (parts_in a.held (forest a) l)).params
+parts-all a n l ps m k r s few =
+    let all = ap (λ (js : List Part). (measure_parts r (parts_of a.held (forest a) js)).params) s.same in
+    omega (arith, few, all)
+
 pub parts-bound :
     (a b c : Store) (x : given.Binding) (n : ℕ) (l : handles.Parts) (ps ns ms : List Part) (k : ℕ) (d q : Part)
     (all : Parts) → Parted a n l ps → k < length ps
@@ -585,36 +559,26 @@ parts-bound a b c x n l ps ns ms k d q all s h g g2 known low so_far here e =
     (sym (bind_parts-step (binding_at a x) a.held (forest a) ps k d h))
     ∙ so_far
 
--- what is held more, and no node is new, changes no parts
+-- parts that are made, where no node is new
 pub parts-end : (a b c : Store) (x : given.Binding) (n : ℕ) (l m : handles.Parts) (ps ns : List Part) (k : ℕ)
     → Parted a n l ps → length ps ≤ k
-    → AllByRecursion (IsPartBelow b.held (size b)) ns
     → joined_parts (parts_of b.held (forest b) ns)
     (bind_parts (binding_at a x) (parts_of a.held (forest a) (drop k ps)))
     ≡ bind_parts (binding_at a x) (parts_of a.held (forest a) ps)
-    → Grows b c → parts_at c.held m ≡ ns → parts_in c.held (forest c) m ≡ bound_parts a x l
+    → forest c ≡ forest b → parts_in c.held (forest b) m ≡ parts_of b.held (forest b) ns
+    → parts_in c.held (forest c) m ≡ bound_parts a x l
 unfolding bind
-parts-end a b c x n l m ps ns k s h low so_far g e =
+parts-end a b c x n l m ps ns k s h so_far f e =
     let none : drop k ps ≡ [] = drop_all k ps h in
-    ap (parts_of c.held (forest c)) e ∙ parts_of-grows b c g ns low
+    ap (λ (ts : List Tree). parts_in c.held ts m) f ∙ e
     ∙ sym (joined_parts-none (parts_of b.held (forest b) ns))
     ∙ ap (λ (js : List Part). joined_parts (parts_of b.held (forest b) ns)
     (bind_parts (binding_at a x) (parts_of a.held (forest a) js))) (sym none)
     ∙ so_far
     ∙ ap (λ (js : List Part). bind_parts (binding_at a x) (parts_of a.held (forest a) js)) s.same
 
-pub parts-below : (a b : Store) (m : handles.Parts) (ns : List Part)
-    → AllByRecursion (IsPartBelow a.held (size a)) ns → IsRange (length b.held.parts) m.range → Grows a b
-    → parts_at b.held m ≡ ns
-    → IsPartsBelow b.held (size b) m
-parts-below a b m ns low r g e = (
-  r,
-  subst (AllByRecursion (IsPartBelow b.held (size b))) (sym e)
-      (all_parts-more a.held b.held g.extends (size a) (size b) g.longer ns low),
-)
-
 pub all_parts-grows : (a b : Store) (ns : List Part) → Grows a b → AllByRecursion (IsPartBelow a.held (size a)) ns
     → AllByRecursion (IsPartBelow b.held (size b)) ns
 all_parts-grows a b ns g low = all_parts-more a.held b.held g.extends (size a) (size b) g.longer ns low
 
-pub ruleset binding = (unfit_left, inside_counted, Grows-same, Makes-memory, Makes-then)
+pub ruleset binding = (unfit_left, inside_counted, Grows-same, Grows-trans, Makes-memory, Makes-then)

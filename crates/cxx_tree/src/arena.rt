@@ -12,7 +12,7 @@ ghost use Rattle.cxx_tree.specs.Stored.{Store, IsWithin, forest, size, stands, s
 
 use crate::counts::Measure;
 use crate::measuring::of_node;
-use crate::node::{List, Node, Part, Parts, Plain, Range, NodeText};
+use crate::node::{List, Node, NodeText, Part, Parts, Plain, Range};
 use std::alloc::{AllocError, Global};
 use std::marker::Model;
 
@@ -97,8 +97,8 @@ impl Arena {
     }
 
     /// Drops all nodes, and keeps the memory. From now on there may be so many nodes, items of lists, parts of phrases,
-    /// bytes of texts, saved nodes and collected nodes, each, at most 4,294,967,295. Past that, a call returns the error
-    /// of a failed allocation.
+    /// bytes of texts, saved nodes and collected nodes, each, at most 4,294,967,295. Past that, a call returns the
+    /// error of a failed allocation.
     pub fn clear(&mut self, limit: usize)
         ensures empty { forest self.new ≡ [] }
         ensures size { size self.new ≡ 0 }
@@ -450,7 +450,8 @@ impl Arena {
         ensures list { IfOk result (λ l. list_at self.new.held l ≡ drop from self.old.pending) }
         ensures below { IfOk result (λ l. IsListBelow self.new.held (size self.new) l) }
         ensures trees { IfOk result
-            (λ l. trees_in self.new.held (forest self.old) l ≡ trees_at (forest self.old) (drop from self.old.pending)) }
+            (λ l. trees_in self.new.held (forest self.old) l
+            ≡ trees_at (forest self.old) (drop from self.old.pending)) }
         ensures grows { Grows (taken from self.old) self.new }
         ensures forest { forest self.new ≡ forest self.old }
         ensures size { size self.new ≡ size self.old }

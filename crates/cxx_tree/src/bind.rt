@@ -15,7 +15,7 @@ ghost use Rattle.cxx_tree.specs.Stored.{forest, size, tree_of, plain_tree, decla
 use crate::arena::{Arena, Stop};
 use crate::children::bind_node;
 use crate::digits::push_number;
-use crate::node::{List, Node, Plain, NodeText};
+use crate::node::{List, Node, NodeText, Plain};
 use std::alloc::{AllocError, Global};
 
 /// What becomes of a template parameter that has no name.

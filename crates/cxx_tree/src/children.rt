@@ -140,7 +140,7 @@ fn bind_parts(
             Err(_) => return Err(Stop::Memory),
         }
     }
-    Ok(arena.parts(&items)?)
+    Ok(arena.make_parts(&items)?)
 }
 
 // A node and the nodes of a list, bound.

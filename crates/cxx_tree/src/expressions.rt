@@ -11,7 +11,7 @@ ghost use Rattle.cxx_tree.specs.Tree as tree;
 use crate::arena::{Arena, Stop};
 use crate::kinds::{Context, Guard, Listing, Manner, Phrase, Prec, Role};
 use crate::measuring::text_len;
-use crate::node::{List, Node, Part, Plain, NodeText};
+use crate::node::{List, Node, NodeText, Part, Plain};
 use crate::phrases::{
     enclosed, expression, fixed, gnu_operand, held, is_text, loose, open, primary, styled, tight,
     whole,
@@ -19,7 +19,13 @@ use crate::phrases::{
 
 impl Arena {
     /// Makes `LLVM` or in GNU's style `GNU`, and `TREE` after it, which is an operand in the latter if it is unary.
-    pub fn make_prefixed(&mut self, llvm: NodeText, gnu: NodeText, t: u32, prec: Prec) -> Result<u32, Stop>
+    pub fn make_prefixed(
+        &mut self,
+        llvm: NodeText,
+        gnu: NodeText,
+        t: u32,
+        prec: Prec,
+    ) -> Result<u32, Stop>
         requires llvm { IsText self.old.held llvm }
         requires gnu { IsText self.old.held gnu }
         requires t { t < size self.old }
@@ -32,7 +38,13 @@ impl Arena {
     }
 
     /// Makes `LLVM(TREE)`, in GNU's style `GNU(TREE)`.
-    pub fn make_enclosing(&mut self, llvm: NodeText, gnu: NodeText, t: u32, prec: Prec) -> Result<u32, Stop>
+    pub fn make_enclosing(
+        &mut self,
+        llvm: NodeText,
+        gnu: NodeText,
+        t: u32,
+        prec: Prec,
+    ) -> Result<u32, Stop>
         requires llvm { IsText self.old.held llvm }
         requires gnu { IsText self.old.held gnu }
         requires t { t < size self.old }
@@ -46,7 +58,8 @@ impl Arena {
         )
     }
 
-    /// Makes `sizeof...(PACK)`, or with a blank `sizeof... (PACK)`, in GNU's style the number of elements if it is known.
+    /// Makes `sizeof...(PACK)`, or with a blank `sizeof... (PACK)`, in GNU's style the number of elements if it is
+    /// known.
     pub fn make_pack_count(&mut self, has_blank: bool, pack: u32) -> Result<u32, Stop>
         requires pack { pack < size self.old }
         ensures makes { Makes result self.old self.new (phrases.count has_blank (tree_at (forest self.old) pack)) }
@@ -224,8 +237,9 @@ impl Arena {
         requires placement { IsListBelow self.old.held (size self.old) placement }
         requires t { t < size self.old }
         requires inits { IsListBelow self.old.held (size self.old) inits }
-        ensures makes { Makes result self.old self.new (phrases.new_expression (trees_in self.old.held (forest self.old) placement)
-            (tree_at (forest self.old) t) (trees_in self.old.held (forest self.old) inits) is_global is_array) }
+        ensures makes { Makes result self.old self.new (phrases.new_expression
+            (trees_in self.old.held (forest self.old) placement) (tree_at (forest self.old) t)
+            (trees_in self.old.held (forest self.old) inits) is_global is_array) }
     {
         let front = styled(new_llvm(is_global, is_array), new_gnu(is_global));
         let attributes = expression(0, Prec::Unary);
@@ -374,8 +388,8 @@ impl Arena {
         self.make_phrase(attributes, &[fixed(b"("), folded, blank, held(symbol), end])
     }
 
-    /// Makes `(... SYMBOL PACK)`, `(PACK SYMBOL ...)`, `(INIT SYMBOL ... SYMBOL PACK)` or `(PACK SYMBOL ... SYMBOL INIT)`,
-    /// in GNU's style without blanks.
+    /// Makes `(... SYMBOL PACK)`, `(PACK SYMBOL ...)`, `(INIT SYMBOL ... SYMBOL PACK)` or
+    /// `(PACK SYMBOL ... SYMBOL INIT)`, in GNU's style without blanks.
     pub fn make_fold(
         &mut self,
         is_left: bool,

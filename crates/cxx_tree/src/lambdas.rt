@@ -11,7 +11,7 @@ ghost use Rattle.cxx_tree.specs.Pieces.{Adds, AddsBelow, declared_if, signature_
 use crate::arena::{Arena, Stop};
 use crate::kinds::Listing;
 use crate::measuring::text_len;
-use crate::node::{List, Part, NodeText};
+use crate::node::{List, NodeText, Part};
 use crate::phrases::{fixed, primary, styled, whole};
 use std::alloc::{AllocError, Global};
 

@@ -1,6 +1,6 @@
 //! Trees of demangled symbols, as nodes of an arena (Itanium C++ ABI 5.1). Begin with `node.rt` and `arena.rt`;
-//! `specs/Tree` defines the trees. `names.rt`, `types.rt`, `expressions.rt` and `lambdas.rt` make the nodes that are more
-//! than a call of `Arena::push`.
+//! `specs/Tree` defines the trees. `names.rt`, `types.rt`, `expressions.rt` and `lambdas.rt` make the nodes that are
+//! more than a call of `Arena::push`.
 #![tactic(auto)]
 
 /// The value of a result. An error is returned as it is.
@@ -34,6 +34,6 @@ pub use crate::digits::{MOST_DIGITS, number_bytes};
 pub use crate::kinds::{Context, Cv, Guard, Listing, Manner, Phrase, Prec, RefQual, Role, Std};
 pub use crate::lambdas::Signature;
 pub use crate::node::{
-    Declaration, Encoding, Function, List, Node, Part, Parts, Plain, Range, NodeText,
+    Declaration, Encoding, Function, List, Node, NodeText, Part, Parts, Plain, Range,
 };
 pub use crate::types::Clauses;

@@ -11,7 +11,7 @@ ghost use Rattle.cxx_tree.specs.Stored.{forest, size, tree_of, plain_tree, decla
 use crate::arena::Arena;
 use crate::counts::{MAX_WORK, Measure, around, at_most, join, nothing, packed, param, repeated};
 use crate::kinds::Manner;
-use crate::node::{Declaration, List, Node, Part, Parts, Plain, NodeText};
+use crate::node::{Declaration, List, Node, NodeText, Part, Parts, Plain};
 
 // The counts of the nodes of a list.
 fn of_list(arena: &Arena, list: List) -> Measure

@@ -10,7 +10,7 @@ ghost use Rattle.cxx_tree.specs.Tree as tree;
 use crate::arena::{Arena, Stop};
 use crate::kinds::{Listing, Manner, Phrase, Prec, Role};
 use crate::measuring::text_len;
-use crate::node::{List, Node, Part, Plain, NodeText};
+use crate::node::{List, Node, NodeText, Part, Plain};
 use crate::phrases::{fixed, held, open, primary, styled, whole};
 
 impl Arena {
@@ -84,7 +84,12 @@ impl Arena {
     }
 
     /// Makes a default argument: the scope `E`, and in GNU's style `::{default arg#ORDINAL}` after it.
-    pub fn make_default_arg(&mut self, e: u32, count: NodeText, ordinal: NodeText) -> Result<u32, Stop>
+    pub fn make_default_arg(
+        &mut self,
+        e: u32,
+        count: NodeText,
+        ordinal: NodeText,
+    ) -> Result<u32, Stop>
         requires e { e < size self.old }
         requires count { IsText self.old.held count }
         requires ordinal { IsText self.old.held ordinal }
@@ -166,7 +171,8 @@ impl Arena {
     /// Makes the names of a structured binding: `[NAMES]`.
     pub fn make_bindings(&mut self, names: List) -> Result<u32, Stop>
         requires names { IsListBelow self.old.held (size self.old) names }
-        ensures makes { Makes result self.old self.new (phrases.bindings (trees_in self.old.held (forest self.old) names)) }
+        ensures makes { Makes result self.old self.new
+            (phrases.bindings (trees_in self.old.held (forest self.old) names)) }
     {
         let attributes = Phrase {
             is_closed: true,

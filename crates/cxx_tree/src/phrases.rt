@@ -18,7 +18,7 @@ ghost use Rattle.cxx_tree.specs.declared.kinds.Prec.TheVariants as precedence;
 
 use crate::arena::{Arena, Stop};
 use crate::kinds::{Context, Guard, Manner, Phrase, Prec, Role};
-use crate::node::{Node, Part, Parts, Plain, NodeText};
+use crate::node::{Node, NodeText, Part, Parts, Plain};
 use std::alloc::AllocError;
 
 /// Returns the attributes of a primary expression, a name or a type whose last part isn't at its end. It holds texts of

@@ -28,7 +28,12 @@ impl Arena {
     }
 
     /// Makes a text of what is printed of a number, between two texts.
-    pub fn joined(&mut self, front: &[u8], number: &[u8], after: &[u8]) -> Result<NodeText, AllocError>
+    pub fn joined(
+        &mut self,
+        front: &[u8],
+        number: &[u8],
+        after: &[u8],
+    ) -> Result<NodeText, AllocError>
         ensures text { IfOk result
             (λ t. text_at self.new.held t ≡ front.now ++ (number_printed number.now ++ after.now)) }
         ensures within { IfOk result (IsText self.new.held) }

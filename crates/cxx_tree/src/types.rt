@@ -11,7 +11,7 @@ ghost use Rattle.cxx_tree.specs.Phrases as phrases;
 use crate::arena::{Arena, Stop};
 use crate::kinds::{Cv, Listing, Phrase, Prec, RefQual};
 use crate::measuring::text_len;
-use crate::node::{Declaration, Encoding, Function, List, Node, Part, Parts, NodeText};
+use crate::node::{Declaration, Encoding, Function, List, Node, NodeText, Part, Parts};
 use crate::phrases::{fixed, held, open, primary, styled, whole};
 use std::alloc::AllocError;
 
@@ -129,7 +129,8 @@ impl Arena {
         requires params { IsListBelow self.old.held (size self.old) params }
         requires exception { IsOptionBelow (size self.old) exception }
         ensures makes { Makes result self.old self.new (phrases.function_of (tree_at (forest self.old) ret)
-            (trees_in self.old.held (forest self.old) params) cv ref_qual (option_map (tree_at (forest self.old)) exception)) }
+            (trees_in self.old.held (forest self.old) params) cv ref_qual
+            (option_map (tree_at (forest self.old)) exception)) }
     {
         let parts = self.exception_parts(exception)?;
         self.push(Node::Function(Function {
@@ -168,7 +169,8 @@ impl Arena {
         requires declarations { IsListBelow self.old.held (size self.old) declarations }
         requires constraint { IsOptionBelow (size self.old) constraint }
         ensures makes { Makes result self.old self.new (phrases.template_param_of (tree_at (forest self.old) n)
-            (trees_in self.old.held (forest self.old) declarations) (option_map (tree_at (forest self.old)) constraint)) }
+            (trees_in self.old.held (forest self.old) declarations)
+            (option_map (tree_at (forest self.old)) constraint)) }
     {
         let parts = self.constraint_parts(constraint)?;
         self.push(Node::Declaration(Declaration::TemplateParam(n, declarations, parts)))
@@ -233,7 +235,8 @@ impl Arena {
         requires constraint { IsOptionBelow (size self.old) clauses.constraint }
         ensures makes { Makes result self.old self.new (phrases.function_encoding
             (option_map (tree_at (forest self.old)) ret) (tree_at (forest self.old) n)
-            (trees_in self.old.held (forest self.old) params) (option_map (trees_in self.old.held (forest self.old)) clauses.enable_if)
+            (trees_in self.old.held (forest self.old) params)
+            (option_map (trees_in self.old.held (forest self.old)) clauses.enable_if)
             (option_map (tree_at (forest self.old)) clauses.constraint) cv ref_qual) }
     {
         let parts = self.clause_parts(clauses)?;

@@ -1,13 +1,14 @@
-use Rattle.std.proofs.Common.{ℕ, ◌≡◌, ◌<◌, false, List, ◌∙◌, sym, subst, length, ap, arith, rules, refl}
+use Rattle.std.proofs.Common.{ℕ, ◌≡◌, ◌+◌, false, List, ◌∙◌, sym, subst, ap, arith, rules, refl}
 use Rattle.std.proofs.Math.ListN.{get_or}
-use Rattle.std.specs.List.{AllByRecursion}
 use Rattle.cxx_tree.specs.declared.node.Part.{Part}
 use Rattle.cxx_tree.specs.Tree.{Tree, Trees, Parts}
 use Rattle.cxx_tree.specs.Measure.{measure, measure_each, measure_parts}
-use Rattle.cxx_tree.specs.Stored.{forest, size, tree_at, trees_at, parts_of, tree_of, plain_tree, IsPartBelow}
+use Rattle.cxx_tree.specs.Stored.{forest, size, tree_at, trees_at, parts_of, tree_of, plain_tree}
 use Rattle.cxx_tree.specs.Bind.{bind, bind_each, bind_parts, bound, binding_at, bound_at, node_at}
-use Rattle.cxx_tree.proofs.Grown.{Makes-node, Grows-same, Grows-trans, below-grows}
-use Rattle.cxx_tree.proofs.Replaced.{stays, Makes-err, Makes-grows, Makes-below, Makes-tree, Makes-unfit, few-pushed, some-params, limit_second, limit_of, tree-after, list-after, parts-after, option_at-grows, trees_in-grows, AreNamed-grows, all-push, each-unfit, Listed, listed_below, list-few, list-bound, list-end, list-below, parts-unfit, Parted, parted_below, part-after, parts-few, parts-bound, parts-end, parts-below, all_parts-grows, IsPartBelow-grows, limit_third, IsListBelow-grows, IsPartsBelow-grows, list_below-grows, three_same, joined_trees, joined_parts}
+use Rattle.cxx_tree.proofs.Grown.{Makes-node, Grows-same, Grows-trans}
+use Rattle.cxx_tree.proofs.Forest.{below-more}
+use Rattle.cxx_tree.proofs.Making.{option_at-grows, trees_in-grows, list_below-grows}
+use Rattle.cxx_tree.proofs.Replaced.{stays, Makes-err, Makes-grows, Makes-below, Makes-tree, Makes-unfit, few-pushed, some-params, limit_second, limit_of, tree-after, list-after, parts-after, all-push, each-unfit, is_listed, listed_below, list-few, list-bound, list-end, list-below, parts-unfit, is_parted, parted_below, part-after, parts-few, parts-bound, parts-end, all_parts-grows, list-all, parts-all, list-ready, parts-ready, part-ready, limit_third, three_same}
 use Rattle.cxx_tree.proofs.Measured.{row-fit}
 use Rattle.cxx_tree.proofs.+binding.Goals as goal
 
@@ -105,9 +106,7 @@ children::bind_pair-returns-clause-bound t c =
 
 pub children::bind_with_list-returns-in-Err-bind_list-clause-few : goal.children::bind_with_list-returns-in-Err-bind_list-clause-few
 children::bind_with_list-returns-in-Err-bind_list-clause-few t c =
-    let same =
-    list-after c.args.arena.now c.bind.new.arena c.args.binding.now c.args.i c.args.list
-    (c.in-Ok.ensures {u = tt}).grows c.requires.named c.requires.within c.requires.below.1 in
+    let same = list-after _ _ c.args.binding.now c.args.i c.args.list (c.in-Ok.ensures {u = tt}).grows c.requires.named c.requires.within c.requires.below.1 in
     omega (
       arith,
       ap (λ (u : Trees). (measure_each u).params) same.0,
@@ -117,17 +116,13 @@ children::bind_with_list-returns-in-Err-bind_list-clause-few t c =
 
 pub children::bind_with_list-returns-in-Err-bind_list-clause-limit : goal.children::bind_with_list-returns-in-Err-bind_list-clause-limit
 children::bind_with_list-returns-in-Err-bind_list-clause-limit t c =
-    let same =
-    list-after c.args.arena.now c.bind.new.arena c.args.binding.now c.args.i c.args.list
-    (c.in-Ok.ensures {u = tt}).grows c.requires.named c.requires.within c.requires.below.1 in
+    let same = list-after _ _ c.args.binding.now c.args.i c.args.list (c.in-Ok.ensures {u = tt}).grows c.requires.named c.requires.within c.requires.below.1 in
     limit_second _ _ c.in-Err-bind_list.error _ _ _ (c.in-Err-bind_list.ensures {u = tt}).limit
     (ap (λ (u : Trees). (measure_each u).fits) same.1)
 
 pub children::bind_with_list-returns-clause-few : goal.children::bind_with_list-returns-clause-few
 children::bind_with_list-returns-clause-few t c =
-    let same =
-    list-after c.args.arena.now c.bind.new.arena c.args.binding.now c.args.i c.args.list
-    (c.in-Ok.ensures {u = tt}).grows c.requires.named c.requires.within c.requires.below.1 in
+    let same = list-after _ _ c.args.binding.now c.args.i c.args.list (c.in-Ok.ensures {u = tt}).grows c.requires.named c.requires.within c.requires.below.1 in
     omega (
       arith,
       ap (λ (u : Trees). (measure_each u).params) same.0,
@@ -137,9 +132,7 @@ children::bind_with_list-returns-clause-few t c =
 
 pub children::bind_with_list-returns-clause-bound : goal.children::bind_with_list-returns-clause-bound
 children::bind_with_list-returns-clause-bound t c =
-    let same =
-    list-after c.args.arena.now c.bind.new.arena c.args.binding.now c.args.i c.args.list
-    (c.in-Ok.ensures {u = tt}).grows c.requires.named c.requires.within c.requires.below.1 in (
+    let same = list-after _ _ c.args.binding.now c.args.i c.args.list (c.in-Ok.ensures {u = tt}).grows c.requires.named c.requires.within c.requires.below.1 in (
       (c.in-Ok-bind_list.ensures {u = tt}).grows.same c.in-Ok.value (c.in-Ok.ensures {u = tt}).below
           ∙ (c.in-Ok.ensures {u = tt}).bound,
       (c.in-Ok-bind_list.ensures {u = tt}).bound ∙ same.1,
@@ -147,9 +140,7 @@ children::bind_with_list-returns-clause-bound t c =
 
 pub children::bind_with_parts-returns-in-Err-bind_parts-clause-few : goal.children::bind_with_parts-returns-in-Err-bind_parts-clause-few
 children::bind_with_parts-returns-in-Err-bind_parts-clause-few t c =
-    let same =
-    parts-after c.args.arena.now c.bind.new.arena c.args.binding.now c.args.i c.args.parts
-    (c.in-Ok.ensures {u = tt}).grows c.requires.named c.requires.within c.requires.below.1 in
+    let same = parts-after _ _ c.args.binding.now c.args.i c.args.parts (c.in-Ok.ensures {u = tt}).grows c.requires.named c.requires.within c.requires.below.1 in
     omega (
       arith,
       ap (λ (u : Parts). (measure_parts false u).params) same.0,
@@ -159,17 +150,13 @@ children::bind_with_parts-returns-in-Err-bind_parts-clause-few t c =
 
 pub children::bind_with_parts-returns-in-Err-bind_parts-clause-limit : goal.children::bind_with_parts-returns-in-Err-bind_parts-clause-limit
 children::bind_with_parts-returns-in-Err-bind_parts-clause-limit t c =
-    let same =
-    parts-after c.args.arena.now c.bind.new.arena c.args.binding.now c.args.i c.args.parts
-    (c.in-Ok.ensures {u = tt}).grows c.requires.named c.requires.within c.requires.below.1 in
+    let same = parts-after _ _ c.args.binding.now c.args.i c.args.parts (c.in-Ok.ensures {u = tt}).grows c.requires.named c.requires.within c.requires.below.1 in
     limit_second _ _ c.in-Err-bind_parts.error _ _ _ (λ q. (c.in-Err-bind_parts.ensures {u = tt}).limit q false)
     (ap (λ (u : Parts). (measure_parts false u).fits) same.1)
 
 pub children::bind_with_parts-returns-clause-few : goal.children::bind_with_parts-returns-clause-few
 children::bind_with_parts-returns-clause-few t c =
-    let same =
-    parts-after c.args.arena.now c.bind.new.arena c.args.binding.now c.args.i c.args.parts
-    (c.in-Ok.ensures {u = tt}).grows c.requires.named c.requires.within c.requires.below.1 in
+    let same = parts-after _ _ c.args.binding.now c.args.i c.args.parts (c.in-Ok.ensures {u = tt}).grows c.requires.named c.requires.within c.requires.below.1 in
     omega (
       arith,
       ap (λ (u : Parts). (measure_parts false u).params) same.0,
@@ -179,9 +166,7 @@ children::bind_with_parts-returns-clause-few t c =
 
 pub children::bind_with_parts-returns-clause-bound : goal.children::bind_with_parts-returns-clause-bound
 children::bind_with_parts-returns-clause-bound t c =
-    let same =
-    parts-after c.args.arena.now c.bind.new.arena c.args.binding.now c.args.i c.args.parts
-    (c.in-Ok.ensures {u = tt}).grows c.requires.named c.requires.within c.requires.below.1 in (
+    let same = parts-after _ _ c.args.binding.now c.args.i c.args.parts (c.in-Ok.ensures {u = tt}).grows c.requires.named c.requires.within c.requires.below.1 in (
       (c.in-Ok-bind_parts.ensures {u = tt}).grows.same c.in-Ok.value (c.in-Ok.ensures {u = tt}).below
           ∙ (c.in-Ok.ensures {u = tt}).bound,
       (c.in-Ok-bind_parts.ensures {u = tt}).bound ∙ same.1,
@@ -189,9 +174,7 @@ children::bind_with_parts-returns-clause-bound t c =
 
 pub children::bind_three-returns-in-Err-bind_parts-clause-few : goal.children::bind_three-returns-in-Err-bind_parts-clause-few
 children::bind_three-returns-in-Err-bind_parts-clause-few t c =
-    let same =
-    parts-after c.args.arena.now c.bind_with_list.new.arena c.args.binding.now c.args.i c.args.parts
-    (c.in-Ok.ensures {u = tt}).grows c.requires.named c.requires.within c.requires.below.2 in
+    let same = parts-after _ _ c.args.binding.now c.args.i c.args.parts (c.in-Ok.ensures {u = tt}).grows c.requires.named c.requires.within c.requires.below.2 in
     omega (
       arith,
       ap (λ (u : Parts). (measure_parts false u).params) same.0,
@@ -201,17 +184,13 @@ children::bind_three-returns-in-Err-bind_parts-clause-few t c =
 
 pub children::bind_three-returns-in-Err-bind_parts-clause-limit : goal.children::bind_three-returns-in-Err-bind_parts-clause-limit
 children::bind_three-returns-in-Err-bind_parts-clause-limit t c =
-    let same =
-    parts-after c.args.arena.now c.bind_with_list.new.arena c.args.binding.now c.args.i c.args.parts
-    (c.in-Ok.ensures {u = tt}).grows c.requires.named c.requires.within c.requires.below.2 in
+    let same = parts-after _ _ c.args.binding.now c.args.i c.args.parts (c.in-Ok.ensures {u = tt}).grows c.requires.named c.requires.within c.requires.below.2 in
     limit_third _ _ c.in-Err-bind_parts.error _ _ _ _ (λ q. (c.in-Err-bind_parts.ensures {u = tt}).limit q false)
     (ap (λ (u : Parts). (measure_parts false u).fits) same.1)
 
 pub children::bind_three-returns-clause-few : goal.children::bind_three-returns-clause-few
 children::bind_three-returns-clause-few t c =
-    let same =
-    parts-after c.args.arena.now c.bind_with_list.new.arena c.args.binding.now c.args.i c.args.parts
-    (c.in-Ok.ensures {u = tt}).grows c.requires.named c.requires.within c.requires.below.2 in
+    let same = parts-after _ _ c.args.binding.now c.args.i c.args.parts (c.in-Ok.ensures {u = tt}).grows c.requires.named c.requires.within c.requires.below.2 in
     omega (
       arith,
       ap (λ (u : Parts). (measure_parts false u).params) same.0,
@@ -221,9 +200,7 @@ children::bind_three-returns-clause-few t c =
 
 pub children::bind_three-returns-clause-bound : goal.children::bind_three-returns-clause-bound
 children::bind_three-returns-clause-bound t c =
-    let same =
-    parts-after c.args.arena.now c.bind_with_list.new.arena c.args.binding.now c.args.i c.args.parts
-    (c.in-Ok.ensures {u = tt}).grows c.requires.named c.requires.within c.requires.below.2 in (
+    let same = parts-after _ _ c.args.binding.now c.args.i c.args.parts (c.in-Ok.ensures {u = tt}).grows c.requires.named c.requires.within c.requires.below.2 in (
       (c.in-Ok-bind_parts.ensures {u = tt}).grows.same c.in-Ok.value.0 (c.in-Ok.ensures {u = tt}).below.0
           ∙ (c.in-Ok.ensures {u = tt}).bound.0,
       trees_in-grows c.bind_with_list.new.arena c.bind_parts.new.arena (c.in-Ok-bind_parts.ensures {u = tt}).grows
@@ -233,15 +210,9 @@ children::bind_three-returns-clause-bound t c =
 
 pub children::bind_four-returns-in-Err-bind_three-clause-few : goal.children::bind_four-returns-in-Err-bind_three-clause-few
 children::bind_four-returns-in-Err-bind_three-clause-few t c =
-    let one =
-    tree-after c.args.arena.now c.bind_option.new.arena c.args.binding.now c.args.a
-    (c.in-Ok.ensures {u = tt}).grows c.requires.named (omega arith) in
-    let two =
-    list-after c.args.arena.now c.bind_option.new.arena c.args.binding.now c.args.i c.args.list
-    (c.in-Ok.ensures {u = tt}).grows c.requires.named c.requires.within c.requires.below.2 in
-    let three =
-    parts-after c.args.arena.now c.bind_option.new.arena c.args.binding.now c.args.i c.args.parts
-    (c.in-Ok.ensures {u = tt}).grows c.requires.named c.requires.within c.requires.below.3 in
+    let one = tree-after _ _ c.args.binding.now c.args.a (c.in-Ok.ensures {u = tt}).grows c.requires.named (omega arith) in
+    let two = list-after _ _ c.args.binding.now c.args.i c.args.list (c.in-Ok.ensures {u = tt}).grows c.requires.named c.requires.within c.requires.below.2 in
+    let three = parts-after _ _ c.args.binding.now c.args.i c.args.parts (c.in-Ok.ensures {u = tt}).grows c.requires.named c.requires.within c.requires.below.3 in
     omega (
       arith,
       ap (λ (u : Tree). (measure u).params) one.0,
@@ -254,15 +225,9 @@ children::bind_four-returns-in-Err-bind_three-clause-few t c =
 
 pub children::bind_four-returns-clause-few : goal.children::bind_four-returns-clause-few
 children::bind_four-returns-clause-few t c =
-    let one =
-    tree-after c.args.arena.now c.bind_option.new.arena c.args.binding.now c.args.a
-    (c.in-Ok.ensures {u = tt}).grows c.requires.named (omega arith) in
-    let two =
-    list-after c.args.arena.now c.bind_option.new.arena c.args.binding.now c.args.i c.args.list
-    (c.in-Ok.ensures {u = tt}).grows c.requires.named c.requires.within c.requires.below.2 in
-    let three =
-    parts-after c.args.arena.now c.bind_option.new.arena c.args.binding.now c.args.i c.args.parts
-    (c.in-Ok.ensures {u = tt}).grows c.requires.named c.requires.within c.requires.below.3 in
+    let one = tree-after _ _ c.args.binding.now c.args.a (c.in-Ok.ensures {u = tt}).grows c.requires.named (omega arith) in
+    let two = list-after _ _ c.args.binding.now c.args.i c.args.list (c.in-Ok.ensures {u = tt}).grows c.requires.named c.requires.within c.requires.below.2 in
+    let three = parts-after _ _ c.args.binding.now c.args.i c.args.parts (c.in-Ok.ensures {u = tt}).grows c.requires.named c.requires.within c.requires.below.3 in
     omega (
       arith,
       ap (λ (u : Tree). (measure u).params) one.0,
@@ -275,29 +240,17 @@ children::bind_four-returns-clause-few t c =
 
 pub children::bind_four-returns-in-Err-bind_three-clause-limit : goal.children::bind_four-returns-in-Err-bind_three-clause-limit
 children::bind_four-returns-in-Err-bind_three-clause-limit t c =
-    let one =
-    tree-after c.args.arena.now c.bind_option.new.arena c.args.binding.now c.args.a
-    (c.in-Ok.ensures {u = tt}).grows c.requires.named (omega arith) in
-    let two =
-    list-after c.args.arena.now c.bind_option.new.arena c.args.binding.now c.args.i c.args.list
-    (c.in-Ok.ensures {u = tt}).grows c.requires.named c.requires.within c.requires.below.2 in
-    let three =
-    parts-after c.args.arena.now c.bind_option.new.arena c.args.binding.now c.args.i c.args.parts
-    (c.in-Ok.ensures {u = tt}).grows c.requires.named c.requires.within c.requires.below.3 in
+    let one = tree-after _ _ c.args.binding.now c.args.a (c.in-Ok.ensures {u = tt}).grows c.requires.named (omega arith) in
+    let two = list-after _ _ c.args.binding.now c.args.i c.args.list (c.in-Ok.ensures {u = tt}).grows c.requires.named c.requires.within c.requires.below.2 in
+    let three = parts-after _ _ c.args.binding.now c.args.i c.args.parts (c.in-Ok.ensures {u = tt}).grows c.requires.named c.requires.within c.requires.below.3 in
     limit_second _ _ c.in-Err-bind_three.error _ _ _ (c.in-Err-bind_three.ensures {u = tt}).limit
     (three_same one.1 two.1 three.1)
 
 pub children::bind_four-returns-clause-bound : goal.children::bind_four-returns-clause-bound
 children::bind_four-returns-clause-bound t c =
-    let one =
-    tree-after c.args.arena.now c.bind_option.new.arena c.args.binding.now c.args.a
-    (c.in-Ok.ensures {u = tt}).grows c.requires.named (omega arith) in
-    let two =
-    list-after c.args.arena.now c.bind_option.new.arena c.args.binding.now c.args.i c.args.list
-    (c.in-Ok.ensures {u = tt}).grows c.requires.named c.requires.within c.requires.below.2 in
-    let three =
-    parts-after c.args.arena.now c.bind_option.new.arena c.args.binding.now c.args.i c.args.parts
-    (c.in-Ok.ensures {u = tt}).grows c.requires.named c.requires.within c.requires.below.3 in (
+    let one = tree-after _ _ c.args.binding.now c.args.a (c.in-Ok.ensures {u = tt}).grows c.requires.named (omega arith) in
+    let two = list-after _ _ c.args.binding.now c.args.i c.args.list (c.in-Ok.ensures {u = tt}).grows c.requires.named c.requires.within c.requires.below.2 in
+    let three = parts-after _ _ c.args.binding.now c.args.i c.args.parts (c.in-Ok.ensures {u = tt}).grows c.requires.named c.requires.within c.requires.below.3 in (
       option_at-grows c.bind_option.new.arena c.bind_three.new.arena (c.in-Ok-bind_three.ensures {u = tt}).grows
           c.in-Ok.value (c.in-Ok.ensures {u = tt}).below ∙ (c.in-Ok.ensures {u = tt}).bound,
       (c.in-Ok-bind_three.ensures {u = tt}).bound.0 ∙ one.1,
@@ -305,27 +258,9 @@ children::bind_four-returns-clause-bound t c =
       (c.in-Ok-bind_three.ensures {u = tt}).bound.2 ∙ three.1,
     )
 
-pub children::bind_list-loop-t-init : goal.children::bind_list-loop-t-init
-children::bind_list-loop-t-init t c =
-    record {
-      grows = Grows-same c.args.arena.now c.args.arena.now refl;
-      few = omega arith;
-      below = subst (AllByRecursion (λ (i : ℕ). i < size c.args.arena.now)) (sym c.new-items.ensures.items) tt;
-      bound =
-          ap (λ (ns : List ℕ). joined_trees (trees_at (forest c.args.arena.now) ns)
-          (bind_each (binding_at c.args.arena.now c.args.binding.now)
-          (trees_at (forest c.args.arena.now) c.deref-t-items.result.now))) c.new-items.ensures.items;
-    }
-
 pub children::bind_list-loop-t-preserved : goal.children::bind_list-loop-t-preserved
 children::bind_list-loop-t-preserved t c =
-    let is : Listed c.args.arena.now c.args.i c.args.list c.deref-t-items.result.now =
-    record {
-      within = c.requires.within;
-      below = c.requires.below;
-      same = c.deref-t-items.ensures.value
-          ∙ (c.in_ok-old.ensures {u = tt}).items ∙ c.items.ensures.value;
-    } in
+    let is = is_listed c.args.arena.now c.args.i c.args.list _ _ _ c.requires.within c.requires.below c.deref-t-items.ensures.value (c.in_ok-old.ensures {u = tt}).items c.items.ensures.value in
     let made = (c.in-Ok.ensures {u = tt}) in
     let ns = (c.in-Ok-push.ensures {u = tt}).items in
     record {
@@ -335,7 +270,7 @@ children::bind_list-loop-t-preserved t c =
           c.loop-t.t-index 0 is c.loop-t-test.true c.loop-t.invariant.grows c.loop-t.invariant.few made.few;
       below =
           all-push _ _ _ _ _
-          (below-grows c.loop-t.arena c.bind.new.arena made.grows c.loop-t.items.items c.loop-t.invariant.below)
+          (below-more (size c.loop-t.arena) (size c.bind.new.arena) c.loop-t.items.items made.grows.longer c.loop-t.invariant.below)
           made.below ns;
       bound =
           list-bound c.args.arena.now c.loop-t.arena c.bind.new.arena c.args.binding.now c.args.i c.args.list
@@ -344,47 +279,15 @@ children::bind_list-loop-t-preserved t c =
           c.loop-t.invariant.bound made.bound ns;
     }
 
-pub children::bind_list-returns-in-Err-clause-few : goal.children::bind_list-returns-in-Err-clause-few
-children::bind_list-returns-in-Err-clause-few t c =
-    let is : Listed c.args.arena.now c.args.i c.args.list c.deref-t-items.result.now =
-    record {
-      within = c.requires.within;
-      below = c.requires.below;
-      same = c.deref-t-items.ensures.value
-          ∙ (c.in_ok-old.ensures {u = tt}).items ∙ c.items.ensures.value;
-    } in
-    let more =
-    list-few c.args.arena.now c.loop-t.arena c.bind.new.arena c.args.i c.args.list c.deref-t-items.result.now
-    c.loop-t.t-index 0 is c.loop-t-test.true c.loop-t.invariant.grows c.loop-t.invariant.few
-    c.bind.ensures.few in
-    let all = ap (λ (js : List ℕ). (measure_each (trees_at (forest c.args.arena.now) js)).params) is.same in
-    omega (arith, more, all)
-
 pub children::bind_list-returns-in-Err-push-clause-few : goal.children::bind_list-returns-in-Err-push-clause-few
 children::bind_list-returns-in-Err-push-clause-few t c =
-    let is : Listed c.args.arena.now c.args.i c.args.list c.deref-t-items.result.now =
-    record {
-      within = c.requires.within;
-      below = c.requires.below;
-      same = c.deref-t-items.ensures.value
-          ∙ (c.in_ok-old.ensures {u = tt}).items ∙ c.items.ensures.value;
-    } in
-    let more =
-    list-few c.args.arena.now c.loop-t.arena c.bind.new.arena c.args.i c.args.list c.deref-t-items.result.now
-    c.loop-t.t-index 0 is c.loop-t-test.true c.loop-t.invariant.grows c.loop-t.invariant.few
-    c.bind.ensures.few in
-    let all = ap (λ (js : List ℕ). (measure_each (trees_at (forest c.args.arena.now) js)).params) is.same in
-    omega (arith, more, all)
+    let is = is_listed c.args.arena.now c.args.i c.args.list _ _ _ c.requires.within c.requires.below c.deref-t-items.ensures.value (c.in_ok-old.ensures {u = tt}).items c.items.ensures.value in
+    list-all _ _ _ _ (size c.bind.new.arena) (c.loop-t.t-index + 1) is
+    (list-few _ _ c.bind.new.arena _ _ _ c.loop-t.t-index 0 is c.loop-t-test.true c.loop-t.invariant.grows c.loop-t.invariant.few c.bind.ensures.few)
 
 pub children::bind_list-returns-in-Err-clause-limit : goal.children::bind_list-returns-in-Err-clause-limit
 children::bind_list-returns-in-Err-clause-limit t c =
-    let is : Listed c.args.arena.now c.args.i c.args.list c.deref-t-items.result.now =
-    record {
-      within = c.requires.within;
-      below = c.requires.below;
-      same = c.deref-t-items.ensures.value
-          ∙ (c.in_ok-old.ensures {u = tt}).items ∙ c.items.ensures.value;
-    } in
+    let is = is_listed c.args.arena.now c.args.i c.args.list _ _ _ c.requires.within c.requires.below c.deref-t-items.ensures.value (c.in_ok-old.ensures {u = tt}).items c.items.ensures.value in
     let low =
     listed_below c.args.arena.now c.args.i c.args.list c.deref-t-items.result.now c.loop-t.t-index 0 is
     c.loop-t-test.true in
@@ -401,30 +304,6 @@ children::bind_list-returns-in-Err-clause-limit t c =
     (each-unfit (binding_at c.args.arena.now c.args.binding.now) (forest c.args.arena.now) c.deref-t-items.result.now
     c.loop-t.t-index 0 c.loop-t-test.true (ap (λ (u : Tree). (measure u).fits) (sym same.1) ∙ f)))
 
-pub children::bind_list-returns-in_err-list-clause-few : goal.children::bind_list-returns-in_err-list-clause-few
-children::bind_list-returns-in_err-list-clause-few t c =
-    let is : Listed c.args.arena.now c.args.i c.args.list c.deref-t-items.result.now =
-    record {
-      within = c.requires.within;
-      below = c.requires.below;
-      same = c.deref-t-items.ensures.value
-          ∙ (c.in_ok-old.ensures {u = tt}).items ∙ c.items.ensures.value;
-    } in
-    let all = ap (λ (js : List ℕ). (measure_each (trees_at (forest c.args.arena.now) js)).params) is.same in
-    omega (arith, all, c.loop-t.invariant.few, ap length c.list.ensures.nodes)
-
-pub children::bind_list-returns-clause-few : goal.children::bind_list-returns-clause-few
-children::bind_list-returns-clause-few t c =
-    let is : Listed c.args.arena.now c.args.i c.args.list c.deref-t-items.result.now =
-    record {
-      within = c.requires.within;
-      below = c.requires.below;
-      same = c.deref-t-items.ensures.value
-          ∙ (c.in_ok-old.ensures {u = tt}).items ∙ c.items.ensures.value;
-    } in
-    let all = ap (λ (js : List ℕ). (measure_each (trees_at (forest c.args.arena.now) js)).params) is.same in
-    omega (arith, all, c.loop-t.invariant.few, ap length c.list.ensures.nodes)
-
 pub children::bind_list-returns-clause-below : goal.children::bind_list-returns-clause-below
 children::bind_list-returns-clause-below t c =
     list-below c.loop-t.arena c.list.new.self c.in_ok-list.field-0 c.loop-t.items.items c.loop-t.invariant.below
@@ -433,42 +312,15 @@ children::bind_list-returns-clause-below t c =
 
 pub children::bind_list-returns-clause-bound : goal.children::bind_list-returns-clause-bound
 children::bind_list-returns-clause-bound t c =
-    let is : Listed c.args.arena.now c.args.i c.args.list c.deref-t-items.result.now =
-    record {
-      within = c.requires.within;
-      below = c.requires.below;
-      same = c.deref-t-items.ensures.value
-          ∙ (c.in_ok-old.ensures {u = tt}).items ∙ c.items.ensures.value;
-    } in
+    let is = is_listed c.args.arena.now c.args.i c.args.list _ _ _ c.requires.within c.requires.below c.deref-t-items.ensures.value (c.in_ok-old.ensures {u = tt}).items c.items.ensures.value in
     list-end c.args.arena.now c.loop-t.arena c.list.new.self c.args.binding.now c.args.i c.args.list
     c.in_ok-list.field-0 c.deref-t-items.result.now c.loop-t.items.items c.loop-t.t-index is c.loop-t-test.false
     c.loop-t.invariant.bound c.list.ensures.forest
     ((c.in_ok-list.ensures {u = tt}).list ∙ c.deref.ensures.value)
 
-pub children::bind_parts-loop-part-init : goal.children::bind_parts-loop-part-init
-children::bind_parts-loop-part-init t c =
-    record {
-      grows = Grows-same c.args.arena.now c.args.arena.now refl;
-      few = λ reversed. omega arith;
-      below =
-          subst (AllByRecursion (IsPartBelow c.args.arena.now.held (size c.args.arena.now)))
-          (sym c.new-items.ensures.items) tt;
-      bound =
-          ap (λ (ns : List Part). joined_parts (parts_of c.args.arena.now.held (forest c.args.arena.now) ns)
-          (bind_parts (binding_at c.args.arena.now c.args.binding.now)
-          (parts_of c.args.arena.now.held (forest c.args.arena.now) c.deref-part-items.result.now)))
-          c.new-items.ensures.items;
-    }
-
 pub children::bind_parts-loop-part-preserved : goal.children::bind_parts-loop-part-preserved
 children::bind_parts-loop-part-preserved t c =
-    let is : Parted c.args.arena.now c.args.i c.args.parts c.deref-part-items.result.now =
-    record {
-      within = c.requires.within;
-      below = c.requires.below;
-      same = c.deref-part-items.ensures.value
-          ∙ (c.in_ok-old.ensures {u = tt}).items ∙ c.parts_of.ensures.value;
-    } in
+    let is = is_parted c.args.arena.now c.args.i c.args.parts _ _ _ c.requires.within c.requires.below c.deref-part-items.ensures.value (c.in_ok-old.ensures {u = tt}).items c.parts_of.ensures.value in
     let made = (c.in-Ok.ensures {u = tt}) in
     let ns = (c.in-Ok-push.ensures {u = tt}).items in
     record {
@@ -491,53 +343,19 @@ children::bind_parts-loop-part-preserved t c =
 
 pub children::bind_parts-returns-in-Err-clause-few : goal.children::bind_parts-returns-in-Err-clause-few
 children::bind_parts-returns-in-Err-clause-few t c =
-    let is : Parted c.args.arena.now c.args.i c.args.parts c.deref-part-items.result.now =
-    record {
-      within = c.requires.within;
-      below = c.requires.below;
-      same = c.deref-part-items.ensures.value
-          ∙ (c.in_ok-old.ensures {u = tt}).items ∙ c.parts_of.ensures.value;
-    } in
-    λ reversed.
-    let more =
-    parts-few c.args.arena.now c.loop-part.arena c.bind_part.new.arena c.args.binding.now c.args.i c.args.parts
-    c.deref-part-items.result.now c.loop-part.part-index _ reversed is c.loop-part-test.true
-    c.loop-part.invariant.grows c.requires.named (c.loop-part.invariant.few reversed)
-    (c.bind_part.ensures.few reversed) in
-    let all =
-    ap (λ (js : List Part).
-    (measure_parts reversed (parts_of c.args.arena.now.held (forest c.args.arena.now) js)).params) is.same in
-    omega (arith, more, all)
+    let is = is_parted c.args.arena.now c.args.i c.args.parts _ _ _ c.requires.within c.requires.below c.deref-part-items.ensures.value (c.in_ok-old.ensures {u = tt}).items c.parts_of.ensures.value in
+    λ reversed. parts-all _ _ _ _ (size c.bind_part.new.arena) (c.loop-part.part-index + 1) reversed is
+    (parts-few _ _ c.bind_part.new.arena c.args.binding.now _ _ _ c.loop-part.part-index _ reversed is c.loop-part-test.true c.loop-part.invariant.grows c.requires.named (c.loop-part.invariant.few reversed) (c.bind_part.ensures.few reversed))
 
 pub children::bind_parts-returns-in-Err-push-clause-few : goal.children::bind_parts-returns-in-Err-push-clause-few
 children::bind_parts-returns-in-Err-push-clause-few t c =
-    let is : Parted c.args.arena.now c.args.i c.args.parts c.deref-part-items.result.now =
-    record {
-      within = c.requires.within;
-      below = c.requires.below;
-      same = c.deref-part-items.ensures.value
-          ∙ (c.in_ok-old.ensures {u = tt}).items ∙ c.parts_of.ensures.value;
-    } in
-    λ reversed.
-    let more =
-    parts-few c.args.arena.now c.loop-part.arena c.bind_part.new.arena c.args.binding.now c.args.i c.args.parts
-    c.deref-part-items.result.now c.loop-part.part-index _ reversed is c.loop-part-test.true
-    c.loop-part.invariant.grows c.requires.named (c.loop-part.invariant.few reversed)
-    (c.bind_part.ensures.few reversed) in
-    let all =
-    ap (λ (js : List Part).
-    (measure_parts reversed (parts_of c.args.arena.now.held (forest c.args.arena.now) js)).params) is.same in
-    omega (arith, more, all)
+    let is = is_parted c.args.arena.now c.args.i c.args.parts _ _ _ c.requires.within c.requires.below c.deref-part-items.ensures.value (c.in_ok-old.ensures {u = tt}).items c.parts_of.ensures.value in
+    λ reversed. parts-all _ _ _ _ (size c.bind_part.new.arena) (c.loop-part.part-index + 1) reversed is
+    (parts-few _ _ c.bind_part.new.arena c.args.binding.now _ _ _ c.loop-part.part-index _ reversed is c.loop-part-test.true c.loop-part.invariant.grows c.requires.named (c.loop-part.invariant.few reversed) (c.bind_part.ensures.few reversed))
 
 pub children::bind_parts-returns-in-Err-clause-limit : goal.children::bind_parts-returns-in-Err-clause-limit
 children::bind_parts-returns-in-Err-clause-limit t c =
-    let is : Parted c.args.arena.now c.args.i c.args.parts c.deref-part-items.result.now =
-    record {
-      within = c.requires.within;
-      below = c.requires.below;
-      same = c.deref-part-items.ensures.value
-          ∙ (c.in_ok-old.ensures {u = tt}).items ∙ c.parts_of.ensures.value;
-    } in
+    let is = is_parted c.args.arena.now c.args.i c.args.parts _ _ _ c.requires.within c.requires.below c.deref-part-items.ensures.value (c.in_ok-old.ensures {u = tt}).items c.parts_of.ensures.value in
     let same =
     part-after c.args.arena.now c.loop-part.arena c.args.binding.now c.args.i
     (get_or c.deref-part-items.result.now c.loop-part.part-index _) c.loop-part.invariant.grows
@@ -555,116 +373,32 @@ children::bind_parts-returns-in-Err-clause-limit t c =
     reversed c.deref-part-items.result.now c.loop-part.part-index _ c.loop-part-test.true
     (ap (λ (u : Parts). (measure_parts reversed u).fits) (sym same.1) ∙ f))) q
 
-pub children::bind_parts-returns-in_err-parts-clause-few : goal.children::bind_parts-returns-in_err-parts-clause-few
-children::bind_parts-returns-in_err-parts-clause-few t c =
-    let is : Parted c.args.arena.now c.args.i c.args.parts c.deref-part-items.result.now =
-    record {
-      within = c.requires.within;
-      below = c.requires.below;
-      same = c.deref-part-items.ensures.value
-          ∙ (c.in_ok-old.ensures {u = tt}).items ∙ c.parts_of.ensures.value;
-    } in
-    λ reversed.
-    let all =
-    ap (λ (js : List Part).
-    (measure_parts reversed (parts_of c.args.arena.now.held (forest c.args.arena.now) js)).params) is.same in
-    omega (arith, all, c.loop-part.invariant.few reversed, ap length c.parts.ensures.nodes)
-
-pub children::bind_parts-returns-clause-few : goal.children::bind_parts-returns-clause-few
-children::bind_parts-returns-clause-few t c =
-    let is : Parted c.args.arena.now c.args.i c.args.parts c.deref-part-items.result.now =
-    record {
-      within = c.requires.within;
-      below = c.requires.below;
-      same = c.deref-part-items.ensures.value
-          ∙ (c.in_ok-old.ensures {u = tt}).items ∙ c.parts_of.ensures.value;
-    } in
-    λ reversed.
-    let all =
-    ap (λ (js : List Part).
-    (measure_parts reversed (parts_of c.args.arena.now.held (forest c.args.arena.now) js)).params) is.same in
-    omega (arith, all, c.loop-part.invariant.few reversed, ap length c.parts.ensures.nodes)
-
-pub children::bind_parts-returns-clause-below : goal.children::bind_parts-returns-clause-below
-children::bind_parts-returns-clause-below t c =
-    parts-below c.loop-part.arena c.parts.new.self c.in_ok-parts.field-0 c.loop-part.items.items
-    c.loop-part.invariant.below (c.in_ok-parts.ensures {u = tt}).within c.parts.ensures.grows
-    ((c.in_ok-parts.ensures {u = tt}).list ∙ c.deref.ensures.value)
-
 pub children::bind_parts-returns-clause-bound : goal.children::bind_parts-returns-clause-bound
 children::bind_parts-returns-clause-bound t c =
-    let is : Parted c.args.arena.now c.args.i c.args.parts c.deref-part-items.result.now =
-    record {
-      within = c.requires.within;
-      below = c.requires.below;
-      same = c.deref-part-items.ensures.value
-          ∙ (c.in_ok-old.ensures {u = tt}).items ∙ c.parts_of.ensures.value;
-    } in
-    parts-end c.args.arena.now c.loop-part.arena c.parts.new.self c.args.binding.now c.args.i c.args.parts
-    c.in_ok-parts.field-0 c.deref-part-items.result.now c.loop-part.items.items c.loop-part.part-index is
-    c.loop-part-test.false c.loop-part.invariant.below c.loop-part.invariant.bound c.parts.ensures.grows
-    ((c.in_ok-parts.ensures {u = tt}).list ∙ c.deref.ensures.value)
+    let is = is_parted c.args.arena.now c.args.i c.args.parts _ _ _ c.requires.within c.requires.below c.deref-part-items.ensures.value (c.in_ok-old.ensures {u = tt}).items c.parts_of.ensures.value in
+    parts-end c.args.arena.now c.loop-part.arena c.make_parts.new.self c.args.binding.now c.args.i c.args.parts
+    c.in_ok-make_parts.field-0 c.deref-part-items.result.now c.loop-part.items.items c.loop-part.part-index is
+    c.loop-part-test.false c.loop-part.invariant.bound c.make_parts.ensures.forest
+    ((c.in_ok-make_parts.ensures {u = tt}).parts
+    ∙ ap (parts_of c.loop-part.arena.held (forest c.loop-part.arena)) c.deref.ensures.value)
 
 pub children::bind_with_list-bind_list-requires : goal.children::bind_with_list-bind_list-requires
-children::bind_with_list-bind_list-requires t c = (
-  search rules,
-  (
-    omega (arith, c.requires.within, (c.in-Ok.ensures {u = tt}).grows.longer),
-    (
-      AreNamed-grows c.args.arena.now c.bind.new.arena c.args.binding.now (c.in-Ok.ensures {u = tt}).grows
-          c.requires.named,
-      IsListBelow-grows c.args.arena.now c.bind.new.arena c.args.i c.args.list (c.in-Ok.ensures {u = tt}).grows
-          c.requires.below.1,
-    ),
-  ),
-)
+children::bind_with_list-bind_list-requires t c =
+    (search rules, list-ready _ _ c.args.binding.now c.args.i c.args.list (c.in-Ok.ensures {u = tt}).grows c.requires.within c.requires.named c.requires.below.1)
 
 pub children::bind_with_parts-bind_parts-requires : goal.children::bind_with_parts-bind_parts-requires
-children::bind_with_parts-bind_parts-requires t c = (
-  search rules,
-  (
-    omega (arith, c.requires.within, (c.in-Ok.ensures {u = tt}).grows.longer),
-    (
-      AreNamed-grows c.args.arena.now c.bind.new.arena c.args.binding.now (c.in-Ok.ensures {u = tt}).grows
-          c.requires.named,
-      IsPartsBelow-grows c.args.arena.now c.bind.new.arena c.args.i c.args.parts (c.in-Ok.ensures {u = tt}).grows
-          c.requires.below.1,
-    ),
-  ),
-)
+children::bind_with_parts-bind_parts-requires t c =
+    (search rules, parts-ready _ _ c.args.binding.now c.args.i c.args.parts (c.in-Ok.ensures {u = tt}).grows c.requires.within c.requires.named c.requires.below.1)
 
 pub children::bind_three-bind_parts-requires : goal.children::bind_three-bind_parts-requires
-children::bind_three-bind_parts-requires t c = (
-  search rules,
-  (
-    omega (arith, c.requires.within, (c.in-Ok.ensures {u = tt}).grows.longer),
-    (
-      AreNamed-grows c.args.arena.now c.bind_with_list.new.arena c.args.binding.now (c.in-Ok.ensures {u = tt}).grows
-          c.requires.named,
-      IsPartsBelow-grows c.args.arena.now c.bind_with_list.new.arena c.args.i c.args.parts
-          (c.in-Ok.ensures {u = tt}).grows c.requires.below.2,
-    ),
-  ),
-)
+children::bind_three-bind_parts-requires t c =
+    (search rules, parts-ready _ _ c.args.binding.now c.args.i c.args.parts (c.in-Ok.ensures {u = tt}).grows c.requires.within c.requires.named c.requires.below.2)
 
 pub children::bind_four-bind_three-requires : goal.children::bind_four-bind_three-requires
-children::bind_four-bind_three-requires t c = (
-  search rules,
-  (
-    omega (arith, c.requires.within, (c.in-Ok.ensures {u = tt}).grows.longer),
-    (
-      AreNamed-grows c.args.arena.now c.bind_option.new.arena c.args.binding.now (c.in-Ok.ensures {u = tt}).grows
-          c.requires.named,
-      (
-        c.requires.below.1,
-        IsListBelow-grows c.args.arena.now c.bind_option.new.arena c.args.i c.args.list
-            (c.in-Ok.ensures {u = tt}).grows c.requires.below.2,
-        IsPartsBelow-grows c.args.arena.now c.bind_option.new.arena c.args.i c.args.parts
-            (c.in-Ok.ensures {u = tt}).grows c.requires.below.3,
-      ),
-    ),
-  ),
-)
+children::bind_four-bind_three-requires t c =
+    let list = list-ready _ _ c.args.binding.now c.args.i c.args.list (c.in-Ok.ensures {u = tt}).grows c.requires.within c.requires.named c.requires.below.2 in
+    let parts = parts-ready _ _ c.args.binding.now c.args.i c.args.parts (c.in-Ok.ensures {u = tt}).grows c.requires.within c.requires.named c.requires.below.3 in
+    (search rules, (list.0, (list.1.0, (c.requires.below.1, list.1.1, parts.1.1))))
 
 pub children::bind_three-returns-clause-below : goal.children::bind_three-returns-clause-below
 children::bind_three-returns-clause-below t c = (
@@ -676,67 +410,6 @@ children::bind_three-returns-clause-below t c = (
 
 pub children::bind_parts-bind_part-requires : goal.children::bind_parts-bind_part-requires
 children::bind_parts-bind_part-requires t c =
-    let is : Parted c.args.arena.now c.args.i c.args.parts c.deref-part-items.result.now =
-    record {
-      within = c.requires.within;
-      below = c.requires.below;
-      same = c.deref-part-items.ensures.value
-          ∙ (c.in_ok-old.ensures {u = tt}).items ∙ c.parts_of.ensures.value;
-    } in (
-      search rules,
-      (
-        omega (arith, c.requires.within, c.loop-part.invariant.grows.longer),
-        (
-          AreNamed-grows c.args.arena.now c.loop-part.arena c.args.binding.now c.loop-part.invariant.grows
-              c.requires.named,
-          IsPartBelow-grows c.args.arena.now c.loop-part.arena c.args.i
-              (get_or c.deref-part-items.result.now c.loop-part.part-index _) c.loop-part.invariant.grows
-              (parted_below c.args.arena.now c.args.i c.args.parts c.deref-part-items.result.now
-              c.loop-part.part-index _ is c.loop-part-test.true),
-        ),
-      ),
-    )
-
-pub children::bind_list-returns-in-Err-clause-grows : goal.children::bind_list-returns-in-Err-clause-grows
-children::bind_list-returns-in-Err-clause-grows t c =
-    Grows-trans c.args.arena.now c.loop-t.arena c.bind.new.arena c.loop-t.invariant.grows c.bind.ensures.grows
-
-pub children::bind_list-returns-in-Err-push-clause-grows : goal.children::bind_list-returns-in-Err-push-clause-grows
-children::bind_list-returns-in-Err-push-clause-grows t c =
-    Grows-trans c.args.arena.now c.loop-t.arena c.bind.new.arena c.loop-t.invariant.grows c.bind.ensures.grows
-
-pub children::bind_list-returns-in_err-list-clause-grows : goal.children::bind_list-returns-in_err-list-clause-grows
-children::bind_list-returns-in_err-list-clause-grows t c =
-    Grows-trans c.args.arena.now c.loop-t.arena c.list.new.self c.loop-t.invariant.grows c.list.ensures.grows
-
-pub children::bind_list-returns-clause-grows : goal.children::bind_list-returns-clause-grows
-children::bind_list-returns-clause-grows t c =
-    Grows-trans c.args.arena.now c.loop-t.arena c.list.new.self c.loop-t.invariant.grows c.list.ensures.grows
-
-pub children::bind_parts-returns-in-Err-clause-grows : goal.children::bind_parts-returns-in-Err-clause-grows
-children::bind_parts-returns-in-Err-clause-grows t c =
-    Grows-trans c.args.arena.now c.loop-part.arena c.bind_part.new.arena c.loop-part.invariant.grows
-    c.bind_part.ensures.grows
-
-pub children::bind_parts-returns-in-Err-push-clause-grows : goal.children::bind_parts-returns-in-Err-push-clause-grows
-children::bind_parts-returns-in-Err-push-clause-grows t c =
-    Grows-trans c.args.arena.now c.loop-part.arena c.bind_part.new.arena c.loop-part.invariant.grows
-    c.bind_part.ensures.grows
-
-pub children::bind_parts-returns-in_err-parts-clause-grows : goal.children::bind_parts-returns-in_err-parts-clause-grows
-children::bind_parts-returns-in_err-parts-clause-grows t c =
-    Grows-trans c.args.arena.now c.loop-part.arena c.parts.new.self c.loop-part.invariant.grows c.parts.ensures.grows
-
-pub children::bind_parts-returns-clause-grows : goal.children::bind_parts-returns-clause-grows
-children::bind_parts-returns-clause-grows t c =
-    Grows-trans c.args.arena.now c.loop-part.arena c.parts.new.self c.loop-part.invariant.grows c.parts.ensures.grows
-
-pub children::bind_three-returns-in-Err-bind_parts-clause-grows : goal.children::bind_three-returns-in-Err-bind_parts-clause-grows
-children::bind_three-returns-in-Err-bind_parts-clause-grows t c =
-    Grows-trans c.args.arena.now c.bind_with_list.new.arena c.bind_parts.new.arena (c.in-Ok.ensures {u = tt}).grows
-    (c.in-Err-bind_parts.ensures {u = tt}).grows
-
-pub children::bind_three-returns-clause-grows : goal.children::bind_three-returns-clause-grows
-children::bind_three-returns-clause-grows t c =
-    Grows-trans c.args.arena.now c.bind_with_list.new.arena c.bind_parts.new.arena (c.in-Ok.ensures {u = tt}).grows
-    (c.in-Ok-bind_parts.ensures {u = tt}).grows
+    let is = is_parted c.args.arena.now c.args.i c.args.parts _ _ _ c.requires.within c.requires.below c.deref-part-items.ensures.value (c.in_ok-old.ensures {u = tt}).items c.parts_of.ensures.value in
+    let below = parted_below _ _ _ _ c.loop-part.part-index _ is c.loop-part-test.true in
+    (search rules, part-ready _ _ c.args.binding.now c.args.i _ c.loop-part.invariant.grows c.requires.within c.requires.named below)

@@ -1,8 +1,5 @@
-use Rattle.std.proofs.Common.{sym, subst}
 use Rattle.cxx_tree.specs.Measure.{measure}
-use Rattle.cxx_tree.specs.Counts.{Tallied}
-use Rattle.cxx_tree.specs.declared.node.Node.{Node}
-use Rattle.cxx_tree.specs.Stored.{forest, tree_of}
+use Rattle.cxx_tree.specs.Stored.{tree_of}
 use Rattle.cxx_tree.proofs.measuring.of_any.Goals as goal
 
 pub returns-in-Function : goal.returns-in-Function
@@ -10,10 +7,7 @@ unfolding measure tree_of
 returns-in-Function c =
     let after = c.and_parts-after.ensures.counts _ c.of_list-params.ensures.counts in
     let all = c.join-in-Function.ensures.counts _ _ c.measure-in-Function.ensures.counts after in
-    record {
-      counts = subst (λ (x : Node). Tallied c.around-in-Function.result (measure (tree_of c.args.arena.now.held (forest c.args.arena.now) x))) (sym c.in-Function.is)
-          (c.around-in-Function.ensures.counts _ all);
-    }
+    record { counts = rw c.in-Function.is (c.around-in-Function.ensures.counts _ all) }
 
 pub returns-in-Encoding : goal.returns-in-Encoding
 unfolding measure tree_of
@@ -21,7 +15,4 @@ returns-in-Encoding c =
     let after = c.and_parts-after-in-Encoding.ensures.counts _ c.of_list-params-in-Encoding.ensures.counts in
     let named = c.join-named.ensures.counts _ _ c.measure-in-Encoding.ensures.counts after in
     let all = c.option_and.ensures.counts _ named in
-    record {
-      counts = subst (λ (x : Node). Tallied c.around-in-Encoding.result (measure (tree_of c.args.arena.now.held (forest c.args.arena.now) x))) (sym c.in-Encoding.is)
-          (c.around-in-Encoding.ensures.counts _ all);
-    }
+    record { counts = rw c.in-Encoding.is (c.around-in-Encoding.ensures.counts _ all) }

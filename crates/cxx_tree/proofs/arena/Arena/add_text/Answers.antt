@@ -1,48 +1,23 @@
-use Rattle.std.proofs.Common.{ℕ, refl, subst, ap, ◌∙◌, arith, length, length-append}
-use Rattle.cxx_tree.specs.declared.node.Part.{Part}
-use Rattle.cxx_tree.specs.Stored.{Store, Held, Extends, forest}
-use Rattle.cxx_tree.specs.Grows.{Grows}
+use Rattle.std.proofs.Common.{ap, arith, length, length-append, ◌≤◌}
 use Rattle.cxx_tree.specs.View.{store_of}
-use Rattle.cxx_tree.proofs.Forest.{grown-forest, kept-held, Begins-end, Begins-same}
-use Rattle.cxx_tree.proofs.Grown.{Grows-held}
+use Rattle.cxx_tree.proofs.Forest.{kept-held}
+use Rattle.cxx_tree.proofs.Grown.{held-more, texts-longer}
 use Rattle.cxx_tree.proofs.arena.Arena.add_text.Goals as goal
 
 pub invariant_of-self-2 : goal.invariant_of-self-2
 invariant_of-self-2 c =
-    let s = store_of c.self.inside in
-    let h : Held = s.held in
-    let g : Held = record { lists = h.lists; parts = h.parts; texts = c.add_short.new.self } in
-    let e : Extends h g = (
-      Begins-same ℕ h.lists h.lists refl,
-      Begins-same Part h.parts h.parts refl,
-      Begins-end ℕ h.texts c.args.bytes.now c.add_short.new.self (c.in_ok-add_short.ensures {u = tt}).ok,
-    ) in
-    let b : Store = record { nodes = s.nodes; held = g; saved = s.saved; pending = s.pending; limit = s.limit } in
+    let more = (c.in_ok-add_short.ensures {u = tt}).ok in
+    let range = c.in_ok-range_behind.ensures {u = tt} in
     let w = c.self.invariant.2.within in
-    kept-held c.self.inside.entries.items s b c.self.invariant refl e refl refl refl w.items w.parts (omega (arith, ap length (c.in_ok-add_short.ensures {u = tt}).ok, length-append h.texts c.args.bytes.now, (c.in_ok-range_behind.ensures {u = tt}).to, (c.in_ok-range_behind.ensures {u = tt}).within, c.len.ensures))
+    let few : length c.add_short.new.self ≤ c.self.inside.limit = omega (arith, simp length-append at (ap length more), range.to, range.within, c.len.ensures) in
+    kept-held c.self.inside.entries.items (store_of c.self.inside) _ c.self.invariant (texts-longer (store_of c.self.inside) _ _ more) w.items w.parts few
 
 pub returns-clause-forest : goal.returns-clause-forest
 returns-clause-forest c =
     let s = store_of c.self.inside in
-    let h : Held = s.held in
-    let g : Held = record { lists = h.lists; parts = h.parts; texts = c.add_short.new.self } in
-    let e : Extends h g = (
-      Begins-same ℕ h.lists h.lists refl,
-      Begins-same Part h.parts h.parts refl,
-      Begins-end ℕ h.texts c.args.bytes.now c.add_short.new.self (c.in_ok-add_short.ensures {u = tt}).ok,
-    ) in
-    let b : Store = record { nodes = s.nodes; held = g; saved = s.saved; pending = s.pending; limit = s.limit } in
-    grown-forest s b refl e c.self.invariant.0 ∙ ap forest c.self.view_is
+    (held-more c.self.inside.entries.items s _ _ c.self.invariant c.self.view_is (texts-longer s _ _ (c.in_ok-add_short.ensures {u = tt}).ok)).0
 
 pub returns-clause-grows : goal.returns-clause-grows
 returns-clause-grows c =
     let s = store_of c.self.inside in
-    let h : Held = s.held in
-    let g : Held = record { lists = h.lists; parts = h.parts; texts = c.add_short.new.self } in
-    let e : Extends h g = (
-      Begins-same ℕ h.lists h.lists refl,
-      Begins-same Part h.parts h.parts refl,
-      Begins-end ℕ h.texts c.args.bytes.now c.add_short.new.self (c.in_ok-add_short.ensures {u = tt}).ok,
-    ) in
-    let b : Store = record { nodes = s.nodes; held = g; saved = s.saved; pending = s.pending; limit = s.limit } in
-    subst (λ (r : Store). Grows r b) c.self.view_is (Grows-held s b c.self.invariant.0 refl e refl refl refl)
+    (held-more c.self.inside.entries.items s _ _ c.self.invariant c.self.view_is (texts-longer s _ _ (c.in_ok-add_short.ensures {u = tt}).ok)).1

@@ -1,56 +1,30 @@
+use Rattle.std.proofs.Common.{ap, arith, length, length-append, length-take, ◌≤◌}
 use Rattle.std.proofs.lemmas.List.{length-drop}
-use Rattle.std.proofs.Common.{ℕ, ◌<◌, ◌-◌, drop, take, length-take, refl, subst, ap, ◌∙◌, arith, length, length-append}
-use Rattle.std.specs.List.{AllByRecursion}
-use Rattle.cxx_tree.specs.declared.node.Part.{Part}
-use Rattle.cxx_tree.specs.Stored.{Store, Held, Extends, forest, size}
-use Rattle.cxx_tree.specs.Grows.{Grows}
+use Rattle.cxx_tree.specs.Stored.{size}
 use Rattle.cxx_tree.specs.View.{store_of}
-use Rattle.cxx_tree.proofs.Forest.{grown-forest, kept-held, below-drop, Begins-end, Begins-same}
-use Rattle.cxx_tree.proofs.Grown.{Grows-held}
+use Rattle.cxx_tree.proofs.Forest.{kept-held, below-drop}
+use Rattle.cxx_tree.proofs.Grown.{held-more, lists-longer}
 use Rattle.cxx_tree.proofs.arena.Arena.copied_from.Goals as goal
 
 pub invariant_of-self-2 : goal.invariant_of-self-2
 invariant_of-self-2 c =
-    let s = store_of c.self.inside in
-    let h : Held = s.held in
-    let g : Held = record { lists = c.extend_from_slice.new.self.items; parts = h.parts; texts = h.texts } in
-    let e : Extends h g = (
-      Begins-end ℕ h.lists (take (length c.deref.result.now - c.args.from) (drop c.args.from c.deref.result.now)) c.extend_from_slice.new.self.items (c.in_ok-extend_from_slice.ensures {u = tt}).items,
-      Begins-same Part h.parts h.parts refl,
-      Begins-same ℕ h.texts h.texts refl,
-    ) in
-    let b : Store = record { nodes = s.nodes; held = g; saved = s.saved; pending = s.pending; limit = s.limit } in
+    let more = (c.in_ok-extend_from_slice.ensures {u = tt}).items in
+    let range = c.in_ok-range.ensures {u = tt} in
     let w = c.self.invariant.2.within in
-    kept-held c.self.inside.entries.items s b c.self.invariant refl e refl refl refl (omega (arith, ap length (c.in_ok-extend_from_slice.ensures {u = tt}).items, length-append h.lists (take (length c.deref.result.now - c.args.from) (drop c.args.from c.deref.result.now)), length-take (length c.deref.result.now - c.args.from) (drop c.args.from c.deref.result.now), length-drop c.args.from c.deref.result.now, ap length c.deref.ensures.value, (c.in_ok-range.ensures {u = tt}).to, (c.in_ok-range.ensures {u = tt}).within, c.len.ensures, c.len-2.ensures)) w.parts w.texts
+    let few : length c.extend_from_slice.new.self.items ≤ c.self.inside.limit = omega (arith, simp (length-append, length-take, length-drop) at (ap length more), ap length c.deref.ensures.value, range.to, range.within, c.len.ensures, c.len-2.ensures) in
+    kept-held c.self.inside.entries.items (store_of c.self.inside) _ c.self.invariant (lists-longer (store_of c.self.inside) _ _ more) few w.parts w.texts
 
 pub returns-clause-forest : goal.returns-clause-forest
 returns-clause-forest c =
     let s = store_of c.self.inside in
-    let h : Held = s.held in
-    let g : Held = record { lists = c.extend_from_slice.new.self.items; parts = h.parts; texts = h.texts } in
-    let e : Extends h g = (
-      Begins-end ℕ h.lists (take (length c.deref.result.now - c.args.from) (drop c.args.from c.deref.result.now)) c.extend_from_slice.new.self.items (c.in_ok-extend_from_slice.ensures {u = tt}).items,
-      Begins-same Part h.parts h.parts refl,
-      Begins-same ℕ h.texts h.texts refl,
-    ) in
-    let b : Store = record { nodes = s.nodes; held = g; saved = s.saved; pending = s.pending; limit = s.limit } in
-    grown-forest s b refl e c.self.invariant.0 ∙ ap forest c.self.view_is
+    (held-more c.self.inside.entries.items s _ _ c.self.invariant c.self.view_is (lists-longer s _ _ (c.in_ok-extend_from_slice.ensures {u = tt}).items)).0
 
 pub returns-clause-grows : goal.returns-clause-grows
 returns-clause-grows c =
     let s = store_of c.self.inside in
-    let h : Held = s.held in
-    let g : Held = record { lists = c.extend_from_slice.new.self.items; parts = h.parts; texts = h.texts } in
-    let e : Extends h g = (
-      Begins-end ℕ h.lists (take (length c.deref.result.now - c.args.from) (drop c.args.from c.deref.result.now)) c.extend_from_slice.new.self.items (c.in_ok-extend_from_slice.ensures {u = tt}).items,
-      Begins-same Part h.parts h.parts refl,
-      Begins-same ℕ h.texts h.texts refl,
-    ) in
-    let b : Store = record { nodes = s.nodes; held = g; saved = s.saved; pending = s.pending; limit = s.limit } in
-    subst (λ (r : Store). Grows r b) c.self.view_is (Grows-held s b c.self.invariant.0 refl e refl refl refl)
+    (held-more c.self.inside.entries.items s _ _ c.self.invariant c.self.view_is (lists-longer s _ _ (c.in_ok-extend_from_slice.ensures {u = tt}).items)).1
 
 pub returns-clause-below : goal.returns-clause-below
 returns-clause-below c =
     let s = store_of c.self.inside in
-    subst (λ (r : Store). AllByRecursion (λ i. i < size r) (drop c.args.from r.pending)) c.self.view_is
-    (below-drop c.args.from (size s) s.pending c.self.invariant.3.pending)
+    rw (← c.self.view_is) (below-drop c.args.from (size s) s.pending c.self.invariant.3.pending)

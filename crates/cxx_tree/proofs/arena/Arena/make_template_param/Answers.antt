@@ -1,8 +1,6 @@
-use Rattle.std.proofs.Common.{ℕ, sym, subst, arith}
-use Rattle.cxx_tree.specs.Stored.{forest, size, IsBelow, IsDeclarationBelow, IsPartsBelow, tree_of, declaration_tree}
-use Rattle.cxx_tree.proofs.Grown.{Makes-after}
-use Rattle.cxx_tree.proofs.Forest.{trees_in-more}
-use Rattle.cxx_tree.proofs.Replaced.{list_below-grows}
+use Rattle.std.proofs.Common.{arith}
+use Rattle.cxx_tree.specs.Stored.{IsBelow, IsDeclarationBelow}
+use Rattle.cxx_tree.proofs.Making.{listing-below}
 use Rattle.cxx_tree.proofs.arena.Arena.make_template_param.Goals as goal
 
 pub push-requires : goal.push-requires
@@ -11,16 +9,5 @@ push-requires c =
     let a = c.args.self.now in
     let b = c.constraint_parts.new.self in
     let made = c.in_ok-parts.ensures in
-    let list = list_below-grows a b c.args.declarations made.grows c.requires.declarations in
-    let parts = subst (λ (n : ℕ). IsPartsBelow b.held n c.in_ok-parts.parts) (sym made.size) made.below in
-    record { below = (omega (arith, c.requires.n, made.size), list, parts) }
-
-pub returns : goal.returns
-unfolding tree_of declaration_tree
-returns c =
-    let a = c.args.self.now in
-    let b = c.constraint_parts.new.self in
-    let parts = c.in_ok-parts.ensures in
-    let list = trees_in-more a.held b.held parts.grows.extends (size a) (forest a) c.args.declarations c.requires.declarations in
-    let made = simp (parts.forest, list, parts.parts) at c.push.ensures.makes in
-    record { makes = Makes-after c.push.result a b c.push.new.self _ parts.grows made }
+    let both = listing-below a b c.args.declarations c.in_ok-parts.parts made.grows made.size c.requires.declarations made.below in
+    record { below = (omega (arith, c.requires.n, made.size), both.0, both.1) }

@@ -1,14 +1,12 @@
-use Rattle.std.proofs.Common.{◌≡◌, ◌<◌, true, [], ◌∙◌, sym, subst, length, ap, arith}
+use Rattle.std.proofs.Common.{◌≡◌, ◌<◌, [], ◌∙◌, sym, subst, length, ap, arith}
 use Rattle.std.proofs.Math.ListN.{get_or}
 use Rattle.std.proofs.lemmas.List.{get_or-map, length-map}
 use Rattle.cxx_tree.specs.declared.arena.Entry as entry
 use Rattle.cxx_tree.specs.declared.node.Node.{Node}
 use Rattle.cxx_tree.specs.Stored.{Store, forest, trees_from, tree_of, tree_at, IsBelow}
 use Rattle.cxx_tree.specs.View.{store_of, nodes_of}
-use Rattle.cxx_tree.specs.Measure.{measure}
-use Rattle.cxx_tree.specs.Stored.{size}
-use Rattle.cxx_tree.proofs.Forest.{forest-at, stored-at, length-forest}
-use Rattle.cxx_tree.proofs.Measured.{counted-at, row-fit}
+use Rattle.cxx_tree.proofs.Forest.{forest-at, stored-at}
+use Rattle.cxx_tree.proofs.Measured.{counted-in, row-fit}
 use Rattle.cxx_tree.proofs.arena.Arena.node.Goals as goal
 
 pub returns-clause-tree : goal.returns-clause-tree
@@ -38,7 +36,4 @@ returns-clause-below c =
 
 pub returns-clause-fits : goal.returns-clause-fits
 returns-clause-fits c =
-    let s = store_of c.self.inside in
-    let small : c.args.i < length (forest s) = omega (arith, c.requires.within, ap size c.self.view_is, length-forest s) in
-    subst (λ (r : Store). (measure (tree_at (forest r) c.args.i)).fits ≡ true) c.self.view_is
-    (row-fit _ _ (counted-at c.self.inside.entries.items (forest s) c.self.invariant.1 c.args.i c.index.result.now small).0)
+    row-fit _ _ (counted-in c.self.inside.entries.items (store_of c.self.inside) _ c.self.invariant.1 c.self.view_is c.args.i c.index.result.now c.requires.within).0
