@@ -6,7 +6,7 @@ use Rattle.cxx_tree.specs.declared.kinds.Prec.TheVariants.{Unary}
 use Rattle.cxx_tree.specs.declared.kinds.Listing.TheVariants as listing
 use Rattle.cxx_tree.specs.Tree.{Tree, Trees, Parts, phrase, no_parts, text, trees}
 use Rattle.cxx_tree.specs.Stored.{trees_at}
-use Rattle.cxx_tree.specs.Phrases as rows
+use Rattle.cxx_tree.specs.Phrases as phrases
 use Rattle.cxx_tree.specs.Phrases.{◌·◌, fixed, styled, whole, enclosed, parens, placed, parens_if_any, expression, primary}
 
 pub conversion-others : (t : Tree) (ts : List Tree) (is : List ℕ) (p : Prec) → (length is ≡ 1 → ⊥) → phrases.conversion t (trees_at ts is) p ≡ phrase (expression 0 p) (fixed "(" · enclosed t · fixed ")" · parens (trees_at ts is) · no_parts)
