@@ -2,7 +2,7 @@
 //!
 //! A function that looks at the kind of a node calls the function for that kind last. That call is a jump, so the first
 //! function takes no stack. `#[inline(never)]` keeps the two apart.
-#![tactic(auto, using(crate::proofs::Appended::prints), unfolding(cxx_tree::specs::Stored::tree_of, cxx_tree::specs::Stored::plain_tree, cxx_tree::specs::Stored::declaration_tree, cxx_tree::specs::Stored::IsBelow, cxx_tree::specs::Stored::IsPlainBelow, cxx_tree::specs::Stored::IsDeclarationBelow, crate::specs::Print::print, crate::specs::Asked::text_of_part, cxx_tree::specs::Measure::measure))]
+#![tactic(auto, using(crate::proofs::Appended::prints, crate::proofs::Items::items), unfolding(cxx_tree::specs::Stored::tree_of, cxx_tree::specs::Stored::plain_tree, cxx_tree::specs::Stored::declaration_tree, cxx_tree::specs::Stored::IsBelow, cxx_tree::specs::Stored::IsPlainBelow, cxx_tree::specs::Stored::IsDeclarationBelow, crate::specs::Print::print, crate::specs::Asked::text_of_part, cxx_tree::specs::Measure::measure))]
 
 ghost use Rattle.std.specs.Prelude.{◌≡◌, ℕ, nat_eq, ◌+◌, ◌<◌, ◌≤◌, Bool, true, false, List, [], ◌∷◌, ◌++◌, codes, length, Option, Some, None, if◌then◌else◌, IfOk};
 ghost use Rattle.std.specs.List.{AllByRecursion};
@@ -36,8 +36,8 @@ use crate::writing::{
     write_styled, write_text,
 };
 use cxx_tree::{
-    Arena, Cv, Declaration, Encoding, Function, List, Listing, Manner, Node, Part, Parts, Phrase,
-    Plain, Prec,
+    Arena, Cv, Declaration, Encoding, Function, List, Listing, Manner, Node, NodeText, Part, Parts,
+    Phrase, Plain, Prec,
 };
 use growing_text::Text;
 use std::alloc::AllocError;
@@ -292,7 +292,7 @@ fn print_scoped_name(
     arena: &Arena,
     env: Env,
     scope: u32,
-    name: &cxx_tree::NodeText,
+    name: &NodeText,
     out: &mut Text,
 ) -> Result<(), AllocError>
     requires scope { scope < size arena.now }
@@ -424,7 +424,7 @@ fn print_abi_tag(
     arena: &Arena,
     env: Env,
     name: u32,
-    tag: &cxx_tree::NodeText,
+    tag: &NodeText,
     out: &mut Text,
 ) -> Result<(), AllocError>
     requires name { name < size arena.now }
@@ -463,7 +463,7 @@ fn print_protocol(
     arena: &Arena,
     env: Env,
     t: u32,
-    protocol: &cxx_tree::NodeText,
+    protocol: &NodeText,
     out: &mut Text,
 ) -> Result<(), AllocError>
     requires within { t < size arena.now }
@@ -477,7 +477,8 @@ fn print_protocol(
     write(out, b">")
 }
 
-/// Appends an expansion: its pattern for each element of the packs in it, or the pattern and an ellipsis.
+/// Appends an expansion: its pattern for each element of the packs in it, with commas between, or the pattern and an
+/// ellipsis.
 #[inline(never)]
 #[cycle(printer)]
 fn print_expansion(arena: &Arena, env: Env, t: u32, out: &mut Text) -> Result<(), AllocError>
@@ -485,37 +486,15 @@ fn print_expansion(arena: &Arena, env: Env, t: u32, out: &mut Text) -> Result<()
     ensures prints { Prints result out.old out.new (spec.expansion_text env (measure (tree_at (forest arena.now)
         t)).elements (item (tree_at (forest arena.now) t))) }
 {
-    match arena.elements(t) {
-        None => {
-            tri!(print_operand(arena, env.at(0), Prec::Comma, true, t, out));
-            write(out, b"...")
-        }
-        Some(n) => print_repeated(arena, env, n, t, out),
-    }
-}
-
-/// Appends a pattern for each index of a pack, with commas between.
-#[cycle(printer)]
-fn print_repeated(arena: &Arena, env: Env, n: u32, t: u32, out: &mut Text) -> Result<(), AllocError>
-    requires within { t < size arena.now }
-    ensures prints { Prints result out.old out.new (spec.repeated n 0 env (item (tree_at (forest arena.now) t))) }
-{
+    let Some(n) = arena.elements(t) else {
+        tri!(print_operand(arena, env.at(0), Prec::Comma, true, t, out));
+        return write(out, b"...");
+    };
     for k in 0..n {
-        tri!(print_element(arena, env, k, t, out));
+        tri!(write_separator(k == 0, out));
+        tri!(print(arena, env.at(k), t, out));
     }
     Ok(())
-}
-
-/// Appends a pattern at an index of its packs, with a comma before it if it isn't the first.
-#[inline(never)]
-#[cycle(printer)]
-fn print_element(arena: &Arena, env: Env, k: u32, t: u32, out: &mut Text) -> Result<(), AllocError>
-    requires within { t < size arena.now }
-    ensures prints { Prints result out.old out.new (spec.separator (nat_eq k 0) ++ spec.whole (spec.print (tree_at
-        (forest arena.now) t) (words.at env k))) }
-{
-    tri!(write_separator(k == 0, out));
-    print(arena, env.at(k), t, out)
 }
 
 /// Appends a list. What prints nothing has no comma.
@@ -528,193 +507,59 @@ fn print_list(arena: &Arena, env: Env, items: &[u32], out: &mut Text) -> Result<
 {
     let start = out.len();
     for t in items {
-        tri!(print_item(arena, env, start, *t, out));
+        tri!(print_item(arena, env, out.len() == start, *t, out));
     }
     Ok(())
 }
 
-/// Appends an item of a list that begins at a place, with a comma before it if something of the list stands there.
+/// Appends an item of a list, with a comma before it if it isn't the first that prints something.
 #[inline(never)]
 #[cycle(printer)]
 fn print_item(
     arena: &Arena,
     env: Env,
-    start: usize,
-    t: u32,
-    out: &mut Text,
-) -> Result<(), AllocError>
-    requires within { t < size arena.now }
-    ensures prints { Prints result out.old out.new (spec.item_behind (nat_eq (length out.old) start) (spec.item_text env
-        (item (tree_at (forest arena.now) t)))) }
-{
-    let is_first = out.len() == start;
-    match *node_at(arena, t) {
-        Node::Plain(Plain::ScopedName(scope, ref name)) => print_scoped_item(
-            arena, env, is_first, t, scope, name, out,
-        ),
-        Node::Plain(Plain::WithArgs(name, args)) => print_args_item(
-            arena, env, is_first, t, name, args, out,
-        ),
-        Node::Plain(ref plain) => print_plain_item(arena, env, is_first, t, plain, out),
-        _ => print_type_item(arena, env, is_first, t, out),
-    }
-}
-
-#[inline(always)]
-#[cycle(printer)]
-fn print_plain_item(
-    arena: &Arena,
-    env: Env,
     is_first: bool,
     t: u32,
-    plain: &Plain,
     out: &mut Text,
 ) -> Result<(), AllocError>
     requires within { t < size arena.now }
-    requires below { IsPlainBelow arena.now.held (size arena.now) plain.now }
-    requires tree { tree_at (forest arena.now) t ≡ plain_tree arena.now.held (forest arena.now) plain.now }
     ensures prints { Prints result out.old out.new (spec.item_behind is_first (spec.item_text env (item (tree_at
         (forest arena.now) t)))) }
 {
-    match *plain {
-        Plain::Name(text) => write_item(is_first, arena.bytes(text), out),
-        Plain::Leaf(_, ref llvm, ref gnu) => write_leaf_item(
+    match *node_at(arena, t) {
+        Node::Plain(Plain::Name(text)) => write_item(is_first, arena.bytes(text), out),
+        Node::Plain(Plain::Leaf(_, ref llvm, ref gnu)) => write_item(
             is_first,
             styled_bytes(arena, env, llvm, gnu),
             out,
         ),
+        // These print something.
+        Node::Plain(Plain::ScopedName(scope, ref name)) => {
+            if !try_separator(is_first, out) {
+                return print_any_item(arena, env, is_first, t, out);
+            }
+            print_scoped_name(arena, env, scope, name, out)
+        }
+        Node::Plain(Plain::WithArgs(name, args)) => {
+            if !try_separator(is_first, out) {
+                return print_any_item(arena, env, is_first, t, out);
+            }
+            print_with_args(arena, env, name, args, out)
+        }
+        Node::Pointer(u) => {
+            if !try_separator(is_first, out) {
+                return print_any_item(arena, env, is_first, t, out);
+            }
+            print_pointer(arena, env, t, u, out)
+        }
+        Node::Reference(u, is_lvalue) => {
+            if !try_separator(is_first, out) {
+                return print_any_item(arena, env, is_first, t, out);
+            }
+            print_reference(arena, env, t, is_lvalue, u, out)
+        }
         _ => print_any_item(arena, env, is_first, t, out),
     }
-}
-
-#[inline(never)]
-fn write_leaf_item(is_first: bool, text: &[u8], out: &mut Text) -> Result<(), AllocError>
-    ensures prints { Prints result out.old out.new (spec.item_behind is_first text.now) }
-{
-    write_item(is_first, text, out)
-}
-
-#[inline(always)]
-#[cycle(printer)]
-fn print_type_item(
-    arena: &Arena,
-    env: Env,
-    is_first: bool,
-    t: u32,
-    out: &mut Text,
-) -> Result<(), AllocError>
-    requires within { t < size arena.now }
-    ensures prints { Prints result out.old out.new (spec.item_behind is_first (spec.item_text env (item (tree_at
-        (forest arena.now) t)))) }
-{
-    match *node_at(arena, t) {
-        Node::Pointer(u) => print_pointer_item(arena, env, is_first, t, u, out),
-        Node::Reference(u, is_lvalue) => print_reference_item(
-            arena, env, is_first, t, is_lvalue, u, out,
-        ),
-        _ => print_any_item(arena, env, is_first, t, out),
-    }
-}
-
-#[inline(always)]
-#[cycle(printer)]
-fn print_scoped_item(
-    arena: &Arena,
-    env: Env,
-    is_first: bool,
-    t: u32,
-    scope: u32,
-    name: &cxx_tree::NodeText,
-    out: &mut Text,
-) -> Result<(), AllocError>
-    requires within { t < size arena.now }
-    requires scope { scope < size arena.now }
-    requires lower { height (tree_at (forest arena.now) scope) < height (tree_at (forest arena.now) t) }
-    requires name { IsText arena.now.held name.now }
-    requires tree { tree_at (forest arena.now) t ≡ scoped false (tree_at (forest arena.now) scope)
-        (named (text_at arena.now.held name.now)) }
-    ensures prints { Prints result out.old out.new (spec.item_behind is_first (spec.item_text env (item (tree_at
-        (forest arena.now) t)))) }
-{
-    if !try_separator(is_first, out) {
-        return print_any_item(arena, env, is_first, t, out);
-    }
-    print_scoped_name(arena, env, scope, name, out)
-}
-
-#[inline(always)]
-#[cycle(printer)]
-fn print_args_item(
-    arena: &Arena,
-    env: Env,
-    is_first: bool,
-    t: u32,
-    name: u32,
-    args: List,
-    out: &mut Text,
-) -> Result<(), AllocError>
-    requires within { t < size arena.now }
-    requires name { name < size arena.now }
-    requires args { IsListBelow arena.now.held (size arena.now) args }
-    requires height { height (tree_at (forest arena.now) t) ≡ height (with_args (tree_at (forest arena.now) name)
-        (trees_in arena.now.held (forest arena.now) args)) }
-    requires tree { tree_at (forest arena.now) t ≡ with_args (tree_at (forest arena.now) name) (trees_in arena.now.held
-        (forest arena.now) args) }
-    ensures prints { Prints result out.old out.new (spec.item_behind is_first (spec.item_text env (item (tree_at
-        (forest arena.now) t)))) }
-{
-    if !try_separator(is_first, out) {
-        return print_any_item(arena, env, is_first, t, out);
-    }
-    print_with_args(arena, env, name, args, out)
-}
-
-#[inline(always)]
-#[cycle(printer)]
-fn print_pointer_item(
-    arena: &Arena,
-    env: Env,
-    is_first: bool,
-    t: u32,
-    u: u32,
-    out: &mut Text,
-) -> Result<(), AllocError>
-    requires within { t < size arena.now }
-    requires child { u < size arena.now }
-    requires height { height (tree_at (forest arena.now) t) ≡ height (pointer (tree_at (forest arena.now) u)) }
-    requires tree { tree_at (forest arena.now) t ≡ pointer (tree_at (forest arena.now) u) }
-    ensures prints { Prints result out.old out.new (spec.item_behind is_first (spec.item_text env (item (tree_at
-        (forest arena.now) t)))) }
-{
-    if !try_separator(is_first, out) {
-        return print_any_item(arena, env, is_first, t, out);
-    }
-    print_pointer(arena, env, t, u, out)
-}
-
-#[inline(always)]
-#[cycle(printer)]
-fn print_reference_item(
-    arena: &Arena,
-    env: Env,
-    is_first: bool,
-    t: u32,
-    is_lvalue: bool,
-    u: u32,
-    out: &mut Text,
-) -> Result<(), AllocError>
-    requires within { t < size arena.now }
-    requires child { u < size arena.now }
-    requires height { height (tree_at (forest arena.now) t) ≡ height (reference (tree_at (forest arena.now) u)
-        is_lvalue) }
-    requires tree { tree_at (forest arena.now) t ≡ reference (tree_at (forest arena.now) u) is_lvalue }
-    ensures prints { Prints result out.old out.new (spec.item_behind is_first (spec.item_text env (item (tree_at
-        (forest arena.now) t)))) }
-{
-    if !try_separator(is_first, out) {
-        return print_any_item(arena, env, is_first, t, out);
-    }
-    print_reference(arena, env, t, is_lvalue, u, out)
 }
 
 // Appends an item of a list that may print nothing.
@@ -1270,12 +1115,11 @@ fn left_declaration(
             write(out, b" ")
         }
         Declaration::NonTypeParam(_, t) => left_non_type(arena, env, t, out),
-        Declaration::TemplateParam(_, declarations, _) => left_template(
-            arena,
-            env,
-            declarations,
-            out,
-        ),
+        Declaration::TemplateParam(_, declarations, _) => {
+            tri!(write(out, b"template"));
+            tri!(print_angles(arena, env, declarations, out));
+            write(out, b" typename ")
+        }
         Declaration::PackParam(d) => {
             tri!(print_left(arena, env, d, out));
             write(out, b"...")
@@ -1293,17 +1137,6 @@ fn left_non_type(arena: &Arena, env: Env, t: u32, out: &mut Text) -> Result<(), 
 {
     tri!(print_left(arena, env, t, out));
     write_blank_unless(has_right(arena, env, t), out)
-}
-
-#[cycle(printer)]
-fn left_template(arena: &Arena, env: Env, list: List, out: &mut Text) -> Result<(), AllocError>
-    requires below { IsListBelow arena.now.held (size arena.now) list }
-    ensures prints { Prints result out.old out.new (codes "template" ++ (spec.angles env (spec.items_of (trees_in
-        arena.now.held (forest arena.now) list)) ++ codes " typename ")) }
-{
-    tri!(write(out, b"template"));
-    tri!(print_angles(arena, env, list, out));
-    write(out, b" typename ")
 }
 
 #[inline(never)]

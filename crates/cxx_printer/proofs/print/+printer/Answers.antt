@@ -1,8 +1,9 @@
-use Rattle.std.proofs.Common.{codes, length, nat_eq, ℕ, ◌≡◌, ◌+◌, ◌*◌, ◌++◌, true, List, sym, subst, ap, ◌∙◌, arith}
+use Rattle.std.proofs.Common.{codes, length, nat_eq, ℕ, ◌≡◌, ◌+◌, ◌*◌, ◌++◌, true, false, Option, List, sym, subst, ap, ◌∙◌, arith}
 use Rattle.std.specs.List.{AllByRecursion}
 use Rattle.cxx_tree.specs.Stored.{forest, tree_at, trees_at, parts_of}
 use Rattle.cxx_printer.specs.Asked.{item}
-use Rattle.cxx_printer.specs.Print.{items_of, print, print_parts, whole, sequence, separated, declared, head, repeated}
+use Rattle.cxx_printer.specs.declared.env.Env.{Env}
+use Rattle.cxx_printer.specs.Print.{items_of, print, print_parts, whole, sequence, separated, declared, head, repeated, expansion_text}
 use Rattle.cxx_tree.specs.Tree.{named}
 use Rattle.cxx_tree.specs.Measure.{measure, measure_parts}
 use Rattle.cxx_tree.specs.Stored.{tree_of, plain_tree, declaration_tree, IsPlainBelow, text_at, trees_in, parts_in, size, IsPartBelow}
@@ -24,8 +25,9 @@ use Rattle.cxx_printer.proofs.print.+printer.Goals as goal
 
 pub print_list-loop-t-preserved : goal.print_list-loop-t-preserved
 print_list-loop-t-preserved t c =
-    items_step (forest c.args.arena.now) c.args.items.now c.args.env c.args.out.now c.loop-t.out c.print_item.new.out _ c.len-start.result c.loop-t.t-index 0
-    c.len-start.ensures.value c.loop-t-test.true c.loop-t.invariant (c.in-Ok.ensures {u = tt}).prints
+    let first = ap (λ (n : ℕ). nat_eq n c.len-start.result) c.len.ensures.value ∙ ap (nat_eq (length c.loop-t.out)) c.len-start.ensures.value in
+    items_step (forest c.args.arena.now) c.args.items.now c.args.env c.args.out.now c.loop-t.out c.print_item.new.out _ _ c.loop-t.t-index 0
+    first c.loop-t-test.true c.loop-t.invariant (c.in-Ok.ensures {u = tt}).prints
 
 pub print_list-returns : goal.print_list-returns
 print_list-returns t c =
@@ -55,10 +57,6 @@ print_sequence-loop-t-preserved t c =
 pub print_sequence-returns : goal.print_sequence-returns
 print_sequence-returns t c =
     record { prints = so_far_end c.args.out.now c.loop-t.out _ _ c.loop-t.invariant (sequence_end (forest c.args.arena.now) c.args.items.now c.args.env c.loop-t.t-index (omega (arith, c.loop-t-test.false))) }
-
-pub print_repeated-returns : goal.print_repeated-returns
-print_repeated-returns t c =
-    record { prints = so_far_end c.args.out.now c.loop-k.out _ _ c.loop-k.invariant (repeated_end c.args.n c.loop-k.k c.args.env (item (tree_at (forest c.args.arena.now) c.args.t)) (omega (arith, c.loop-k-test.false))) }
 
 pub print_parts-loop-part-preserved : goal.print_parts-loop-part-preserved
 print_parts-loop-part-preserved t c =
@@ -192,71 +190,6 @@ print_signature-returns t c =
           c.print_qualifiers.ensures.prints);
     }
 
-pub print_scoped_item-returns : goal.print_scoped_item-returns
-print_scoped_item-returns t c =
-    let ts = forest c.args.arena.now in
-    record {
-      prints = scoped_item c.print_scoped_name.result c.args.out.now c.try_separator.new.out c.print_scoped_name.new.out c.try_separator.result c.args.is_first c.args.env (tree_at ts c.args.t)
-          (tree_at ts c.args.scope) (named (text_at c.args.arena.now.held c.args.name.now)) c.if-not-try_separator.false c.try_separator.ensures.value c.requires.tree c.print_scoped_name.ensures.prints;
-    }
-
-pub print_args_item-returns : goal.print_args_item-returns
-print_args_item-returns t c =
-    let ts = forest c.args.arena.now in
-    record {
-      prints = args_item c.print_with_args.result c.args.out.now c.try_separator.new.out c.print_with_args.new.out c.try_separator.result c.args.is_first c.args.env (tree_at ts c.args.t)
-          (tree_at ts c.args.name) (trees_in c.args.arena.now.held ts c.args.args) c.if-not-try_separator.false c.try_separator.ensures.value c.requires.tree c.print_with_args.ensures.prints;
-    }
-
-pub print_pointer_item-returns : goal.print_pointer_item-returns
-print_pointer_item-returns t c =
-    let ts = forest c.args.arena.now in
-    record {
-      prints = pointer_item c.print_pointer.result c.args.out.now c.try_separator.new.out c.print_pointer.new.out c.try_separator.result c.args.is_first c.args.env (tree_at ts c.args.t)
-          (tree_at ts c.args.u) c.if-not-try_separator.false c.try_separator.ensures.value c.requires.tree c.print_pointer.ensures.prints;
-    }
-
-pub print_reference_item-returns : goal.print_reference_item-returns
-print_reference_item-returns t c =
-    let ts = forest c.args.arena.now in
-    record {
-      prints = reference_item c.print_reference.result c.args.out.now c.try_separator.new.out c.print_reference.new.out c.try_separator.result c.args.is_first c.args.env (tree_at ts c.args.t)
-          (tree_at ts c.args.u) c.args.is_lvalue c.if-not-try_separator.false c.try_separator.ensures.value c.requires.tree c.print_reference.ensures.prints;
-    }
-
-pub print_plain_item-returns-in-Name : goal.print_plain_item-returns-in-Name
-unfolding plain_tree
-print_plain_item-returns-in-Name t c =
-    let h = c.args.arena.now.held in
-    let ts = forest c.args.arena.now in
-    record {
-      prints = name_item c.write_item.result c.args.out.now c.write_item.new.out c.bytes.result.now (text_at h c.in-Name.text) c.args.is_first c.args.env (tree_at ts c.args.t)
-          (c.requires.tree ∙ ap (plain_tree h ts) c.in-Name.is) c.bytes.ensures.value c.write_item.ensures.prints;
-    }
-
-pub print_plain_item-returns-in-Leaf : goal.print_plain_item-returns-in-Leaf
-unfolding plain_tree
-print_plain_item-returns-in-Leaf t c =
-    let h = c.args.arena.now.held in
-    let ts = forest c.args.arena.now in
-    record {
-      prints = leaf_item c.write_leaf_item.result c.args.out.now c.write_leaf_item.new.out c.styled_bytes.result.now (text_at h c.in-Leaf.llvm) (text_at h c.in-Leaf.gnu) c.in-Leaf.field-0
-          c.args.is_first c.args.env (tree_at ts c.args.t) (c.requires.tree ∙ ap (plain_tree h ts) c.in-Leaf.is) c.styled_bytes.ensures.value c.write_leaf_item.ensures.prints;
-    }
-
-pub print_repeated-loop-k-preserved : goal.print_repeated-loop-k-preserved
-print_repeated-loop-k-preserved t c =
-    so_far_step c.args.out.now _ _ (repeated c.args.n 0 c.args.env (item (tree_at (forest c.args.arena.now) c.args.t))) _ _ _ c.loop-k.invariant (repeated_step _ _ _ _ c.loop-k-test.true) (c.in-Ok.ensures {u = tt}).prints
-
-pub left_declaration-returns-in-TemplateParam : goal.left_declaration-returns-in-TemplateParam
-unfolding print declaration_tree
-left_declaration-returns-in-TemplateParam t c =
-    let s = c.args.arena.now in
-    record {
-      prints = subst (λ (d : Declaration). Prints c.left_template.result c.args.out.now c.left_template.new.out ((print (declaration_tree s.held (forest s) d) c.args.env).text.left))
-          (sym c.in-TemplateParam.is) c.left_template.ensures.prints;
-    }
-
 pub print_pointer-returns-in-Ok : goal.print_pointer-returns-in-Ok
 unfolding tree_of
 print_pointer-returns-in-Ok t c =
@@ -303,4 +236,89 @@ print_reference-returns-in-Ok-print t c =
           (whole-cv-reference (tree_at ts c.args.i) (tree_at ts c.args.t) (tree_at ts c.in-Qualified.u) c.args.is_lvalue c.in-Qualified.cv c.args.env c.requires.tree
           (c.node_at.ensures.tree ∙ ap (tree_of h ts) c.in-Qualified.is) (c.is_plain.ensures.value c.if-not-is_plain.false))
           (prints_then c.write_cv_mark.result c.args.out.now _ c.write_cv_mark.new.out _ (cv_text c.in-Qualified.cv ++ mark c.args.is_lvalue) c.in-Ok-print.ensures.prints c.write_cv_mark.ensures.prints);
+    }
+
+pub print_item-returns-in-Plain-Name : goal.print_item-returns-in-Plain-Name
+unfolding tree_of plain_tree
+print_item-returns-in-Plain-Name t c =
+    let h = c.args.arena.now.held in
+    let ts = forest c.args.arena.now in
+    let m = c.in-Plain-Name in
+    let e = c.node_at.ensures.tree ∙ ap (tree_of h ts) m.is ∙ ap (plain_tree h ts) (rw m.is at m.field-0-is) in
+    record {
+      prints = name_item c.write_item.result c.args.out.now c.write_item.new.out c.bytes.result.now (text_at h m.text) c.args.is_first c.args.env (tree_at ts c.args.t)
+          e c.bytes.ensures.value c.write_item.ensures.prints;
+    }
+
+pub print_item-returns-in-Plain-Leaf : goal.print_item-returns-in-Plain-Leaf
+unfolding tree_of plain_tree
+print_item-returns-in-Plain-Leaf t c =
+    let h = c.args.arena.now.held in
+    let ts = forest c.args.arena.now in
+    let m = c.in-Plain-Leaf in
+    let e = c.node_at.ensures.tree ∙ ap (tree_of h ts) m.is ∙ ap (plain_tree h ts) (rw m.is at m.field-0-is) in
+    record {
+      prints = leaf_item c.write_item-in-Plain-Leaf.result c.args.out.now c.write_item-in-Plain-Leaf.new.out c.styled_bytes.result.now (text_at h m.llvm) (text_at h m.gnu) m.field-0-0
+          c.args.is_first c.args.env (tree_at ts c.args.t) e c.styled_bytes.ensures.value c.write_item-in-Plain-Leaf.ensures.prints;
+    }
+
+pub print_item-returns-else-not-try_separator : goal.print_item-returns-else-not-try_separator
+unfolding tree_of plain_tree
+print_item-returns-else-not-try_separator t c =
+    let h = c.args.arena.now.held in
+    let ts = forest c.args.arena.now in
+    let m = c.in-Plain-ScopedName in
+    let e = c.node_at.ensures.tree ∙ ap (tree_of h ts) m.is ∙ ap (plain_tree h ts) (rw m.is at m.field-0-is) in
+    record {
+      prints = scoped_item c.print_scoped_name.result c.args.out.now c.try_separator.new.out c.print_scoped_name.new.out c.try_separator.result c.args.is_first c.args.env (tree_at ts c.args.t)
+          (tree_at ts m.scope) (named (text_at h m.name)) c.if-not-try_separator.false c.try_separator.ensures.value e c.print_scoped_name.ensures.prints;
+    }
+
+pub print_item-returns-else-not-try_separator-3 : goal.print_item-returns-else-not-try_separator-3
+unfolding tree_of
+print_item-returns-else-not-try_separator-3 t c =
+    let ts = forest c.args.arena.now in
+    let e = c.node_at.ensures.tree ∙ ap (tree_of c.args.arena.now.held ts) c.in-Pointer.is in
+    record {
+      prints = pointer_item c.print_pointer.result c.args.out.now c.try_separator-in-Pointer.new.out c.print_pointer.new.out c.try_separator-in-Pointer.result c.args.is_first c.args.env (tree_at ts c.args.t)
+          (tree_at ts c.in-Pointer.u) c.if-not-try_separator-3.false c.try_separator-in-Pointer.ensures.value e c.print_pointer.ensures.prints;
+    }
+
+pub print_item-returns-else-not-try_separator-4 : goal.print_item-returns-else-not-try_separator-4
+unfolding tree_of
+print_item-returns-else-not-try_separator-4 t c =
+    let ts = forest c.args.arena.now in
+    let e = c.node_at.ensures.tree ∙ ap (tree_of c.args.arena.now.held ts) c.in-Reference.is in
+    record {
+      prints = reference_item c.print_reference.result c.args.out.now c.try_separator-in-Reference.new.out c.print_reference.new.out c.try_separator-in-Reference.result c.args.is_first c.args.env (tree_at ts c.args.t)
+          (tree_at ts c.in-Reference.u) c.in-Reference.is_lvalue c.if-not-try_separator-4.false c.try_separator-in-Reference.ensures.value e c.print_reference.ensures.prints;
+    }
+
+pub print_expansion-loop-k-preserved : goal.print_expansion-loop-k-preserved
+print_expansion-loop-k-preserved t c =
+    let x = item (tree_at (forest c.args.arena.now) c.args.t) in
+    let printed = (c.in-Ok-print.ensures {u = tt}).prints ∙ ap (λ (e : Env). c.write_separator.new.out ++ whole (x.printed e)) c.at-in-loop-k.ensures.value in
+    so_far_step c.args.out.now _ _ (repeated c.in-Some.n 0 c.args.env x) _ _ _ c.loop-k.invariant (repeated_step _ _ _ _ c.loop-k-test.true)
+    (added_twice _ _ _ _ _ (c.in-Ok-write_separator.ensures {u = tt}).prints printed)
+
+pub print_expansion-returns : goal.print_expansion-returns
+print_expansion-returns t c =
+    let x = item (tree_at (forest c.args.arena.now) c.args.t) in
+    let all = repeated c.in-Some.n 0 c.args.env x in
+    let end = repeated_end c.in-Some.n c.loop-k.k c.args.env x (omega (arith, c.loop-k-test.false)) in
+    record {
+      prints = so_far_end c.args.out.now c.loop-k.out all _ c.loop-k.invariant end
+          ∙ ap (λ (o : Option ℕ). c.args.out.now ++ expansion_text c.args.env o x) (sym c.in-Some.is ∙ c.elements.ensures.value);
+    }
+
+pub left_declaration-returns-in-Ok-print_angles : goal.left_declaration-returns-in-Ok-print_angles
+unfolding print declaration_tree
+left_declaration-returns-in-Ok-print_angles t c =
+    let s = c.args.arena.now in
+    let r = c.write-in-TemplateParam-2.result in
+    let new = c.write-in-TemplateParam-2.new.out in
+    record {
+      prints = subst (λ (d : Declaration). Prints r c.args.out.now new ((print (declaration_tree s.held (forest s) d) c.args.env).text.left)) (sym c.in-TemplateParam.is)
+          (prints_three r c.args.out.now c.write-in-TemplateParam.new.out c.print_angles.new.out new (codes "template") _ (codes " typename ") c.in-Ok-write.ensures.prints
+          c.in-Ok-print_angles.ensures.prints c.write-in-TemplateParam-2.ensures.prints);
     }

@@ -159,9 +159,6 @@ decreases-print_protocol l = 64 * height_at l.arena.now l.t + 41
 abbrev pub decreases-print_expansion : goal.decreases-print_expansion
 decreases-print_expansion l = 64 * height_at l.arena.now l.t + 47
 
-abbrev pub decreases-print_repeated : goal.decreases-print_repeated
-decreases-print_repeated l = 64 * height_at l.arena.now l.t + 46
-
 abbrev pub decreases-print_item : goal.decreases-print_item
 decreases-print_item l = 64 * height_at l.arena.now l.t + 48
 
@@ -231,35 +228,11 @@ decreases-print_scoped_name l = 64 * height_at l.arena.now l.scope + 46
 abbrev pub decreases-print_list : goal.decreases-print_list
 decreases-print_list l = 64 * items_height l.arena.now l.items.now + 49
 
-abbrev pub decreases-print_plain_item : goal.decreases-print_plain_item
-decreases-print_plain_item l = 64 * height_at l.arena.now l.t + 47
-
-abbrev pub decreases-print_type_item : goal.decreases-print_type_item
-decreases-print_type_item l = 64 * height_at l.arena.now l.t + 47
-
 abbrev pub decreases-print_any_item : goal.decreases-print_any_item
 decreases-print_any_item l = 64 * height_at l.arena.now l.t + 44
 
-abbrev pub decreases-print_element : goal.decreases-print_element
-decreases-print_element l = 64 * height_at l.arena.now l.t + 45
-
-abbrev pub decreases-left_template : goal.decreases-left_template
-decreases-left_template l = 64 * list_height l.arena.now l.list + 52
-
-abbrev pub decreases-print_scoped_item : goal.decreases-print_scoped_item
-decreases-print_scoped_item l = 64 * height_at l.arena.now l.t + 46
-
-abbrev pub decreases-print_args_item : goal.decreases-print_args_item
-decreases-print_args_item l = 64 * height_at l.arena.now l.t + 46
-
-abbrev pub decreases-print_pointer_item : goal.decreases-print_pointer_item
-decreases-print_pointer_item l = 64 * height_at l.arena.now l.t + 46
-
-abbrev pub decreases-print_reference_item : goal.decreases-print_reference_item
-decreases-print_reference_item l = 64 * height_at l.arena.now l.t + 46
-
-abbrev pub invariant-print_repeated-loop-k : goal.invariant-print_repeated-loop-k
-invariant-print_repeated-loop-k l =
+abbrev pub invariant-print_expansion-loop-k : goal.invariant-print_expansion-loop-k
+invariant-print_expansion-loop-k l =
     l.fn.out ++ repeated l.n 0 l.env (item (tree_at (forest l.arena) l.t))
     ≡ l.out ++ repeated (l.n - l.k) l.k l.env (item (tree_at (forest l.arena) l.t))
 
