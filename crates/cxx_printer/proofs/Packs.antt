@@ -19,7 +19,7 @@ use Rattle.cxx_printer.specs.Words.{ending, ending_of_byte, opened, closed}
 use Rattle.cxx_printer.specs.declared.words.Form.{Form}
 use Rattle.cxx_printer.specs.Heads.{protocol_of}
 use Rattle.cxx_tree.specs.declared.kinds.Cv.{Cv}
-use Rattle.cxx_printer.specs.Print.{Printed, FunctionTexts, Sides, simple, print, print_parts, whole, right_behind, blank_unless, in_scope, without_return, head, declared_name, pointed, items_of, printed_at, nothing, element_of, last_ends}
+use Rattle.cxx_printer.specs.Print.{Printed, FunctionTexts, Sides, simple, joinable, print, print_parts, whole, right_behind, blank_unless, without_return, head, declared_name, pointed, items_of, printed_at, nothing, element_of, last_ends}
 use Rattle.cxx_printer.specs.declared.shapes.Ending.TheVariants.{Other}
 use Rattle.cxx_printer.specs.declared.shapes.Ending.{Ending}
 
@@ -141,66 +141,60 @@ closed_nothing t e =
     ap (λ (f : Form). closed f ++ right_behind false t) e.2
     ∙ ap (λ (b : Bool). (if b then blank_unless false else []) ++ t.right) e.1 ∙ e.0
 
-plain-left : (h : Held) (ts : List Tree) (p : Plain) (env : Env) → IsLeft (print (plain_tree h ts p) env).text × IsLeft (print (plain_tree h ts p) env).base
-unfolding print plain_tree
-plain-left h ts (plain.Name x) env = ((refl, refl, refl), (refl, refl, refl))
-plain-left h ts (plain.Leaf a x y) env = ((refl, refl, refl), (refl, refl, refl))
-plain-left h ts (plain.StdName k x) env = ((refl, refl, refl), (refl, refl, refl))
-plain-left h ts (plain.Phrase a x) env = ((refl, refl, refl), (refl, refl, refl))
-plain-left h ts (plain.Scoped true q n) env = ((refl, refl, refl), (refl, refl, refl))
-plain-left h ts (plain.Scoped false q n) env = ((refl, refl, refl), (refl, refl, refl))
-plain-left h ts (plain.ScopedName q x) env = ((refl, refl, refl), (refl, refl, refl))
-plain-left h ts (plain.WithArgs n x) env = ((refl, refl, refl), (refl, refl, refl))
-plain-left h ts (plain.AbiTag n x) env = ((refl, refl, refl), (refl, refl, refl))
-plain-left h ts (plain.InModule n m) env = ((refl, refl, refl), (refl, refl, refl))
-plain-left h ts (plain.Data n) env = ((refl, refl, refl), (refl, refl, refl))
-plain-left h ts (plain.ObjcProtocol t x) env = ((refl, refl, refl), (refl, refl, refl))
-plain-left h ts (plain.Several x) env = ((refl, refl, refl), (refl, refl, refl))
-plain-left h ts (plain.Expansion t) env = ((refl, refl, refl), (refl, refl, refl))
-plain-left h ts (plain.Param l i) env = ((refl, refl, refl), (refl, refl, refl))
+pub one-side : (x : Sides) (c : Bool) → IsLeft x → x.left ++ right_behind c x ≡ x.left
+one-side x c h =
+    ap (λ (b : Bool). x.left ++ ((if b then blank_unless c else []) ++ x.right)) h.1
+    ∙ ap (λ (l : List ℕ). x.left ++ l) h.0 ∙ append-nil x.left
 
--- a tree with one side has no other texts, as a function or a declaration has
-pub plain-asked : (h : Held) (ts : List Tree) (p : Plain) (env : Env) → ((print (plain_tree h ts p) env).function ≡ None) × ((print (plain_tree h ts p) env).declaration ≡ None)
+-- a node with one side has a text, and nothing else but how the text ends
+pub plain-joinable : (h : Held) (ts : List Tree) (p : Plain) (env : Env) → let q = print (plain_tree h ts p) env in q ≡ joinable q.text.left q.closed q.ends
 unfolding print plain_tree
-plain-asked h ts (plain.Name x) env = (refl, refl)
-plain-asked h ts (plain.Leaf a x y) env = (refl, refl)
-plain-asked h ts (plain.StdName k x) env = (refl, refl)
-plain-asked h ts (plain.Phrase a x) env = (refl, refl)
-plain-asked h ts (plain.Scoped true q n) env = (refl, refl)
-plain-asked h ts (plain.Scoped false q n) env = (refl, refl)
-plain-asked h ts (plain.ScopedName q x) env = (refl, refl)
-plain-asked h ts (plain.WithArgs n x) env = (refl, refl)
-plain-asked h ts (plain.AbiTag n x) env = (refl, refl)
-plain-asked h ts (plain.InModule n m) env = (refl, refl)
-plain-asked h ts (plain.Data n) env = (refl, refl)
-plain-asked h ts (plain.ObjcProtocol t x) env = (refl, refl)
-plain-asked h ts (plain.Several x) env = (refl, refl)
-plain-asked h ts (plain.Expansion t) env = (refl, refl)
-plain-asked h ts (plain.Param l i) env = (refl, refl)
+plain-joinable h ts (plain.Name x) env = refl
+plain-joinable h ts (plain.Leaf a x y) env = refl
+plain-joinable h ts (plain.StdName k x) env = refl
+plain-joinable h ts (plain.Phrase a x) env = refl
+plain-joinable h ts (plain.Scoped true q n) env = refl
+plain-joinable h ts (plain.Scoped false q n) env = refl
+plain-joinable h ts (plain.ScopedName q x) env = refl
+plain-joinable h ts (plain.WithArgs n x) env = refl
+plain-joinable h ts (plain.AbiTag n x) env = refl
+plain-joinable h ts (plain.InModule n m) env = refl
+plain-joinable h ts (plain.Data n) env = refl
+plain-joinable h ts (plain.ObjcProtocol t x) env = refl
+plain-joinable h ts (plain.Several x) env = refl
+plain-joinable h ts (plain.Expansion t) env = refl
+plain-joinable h ts (plain.Param l i) env = refl
+
+plain-left : (h : Held) (ts : List Tree) (p : Plain) (env : Env) → IsLeft (print (plain_tree h ts p) env).text × IsLeft (print (plain_tree h ts p) env).base
+plain-left h ts p env =
+    let e = plain-joinable h ts p env in
+    let text = ap (λ (q : Printed). q.text) e in
+    let base = ap (λ (q : Printed). q.base) e in (
+      (ap (λ (x : Sides). x.right) text, ap (λ (x : Sides). x.bracket) text, ap (λ (x : Sides). x.form) text),
+      (ap (λ (x : Sides). x.right) base, ap (λ (x : Sides). x.bracket) base, ap (λ (x : Sides). x.form) base),
+    )
 
 pub plain-whole : (h : Held) (ts : List Tree) (p : Plain) (t : Tree) (env : Env) → t ≡ plain_tree h ts p → (print (plain_tree h ts p) env).text.left ≡ whole (print t env)
 plain-whole h ts p t env e =
     let q = print (plain_tree h ts p) env in
-    let l = (plain-left h ts p env).0 in
-    sym (ap (λ (b : Bool). q.text.left ++ ((if b then blank_unless q.closed else []) ++ q.text.right)) l.1 ∙ ap (λ (r : List ℕ). q.text.left ++ r) l.0 ∙ append-nil q.text.left)
-    ∙ sym (ap (λ (v : Tree). whole (print v env)) e)
+    sym (one-side q.text q.closed (plain-left h ts p env).0) ∙ sym (ap (λ (v : Tree). whole (print v env)) e)
 
 pub plain-scope : (h : Held) (ts : List Tree) (p : Plain) (t : Tree) (env : Env) → t ≡ plain_tree h ts p → (print (plain_tree h ts p) env).text.left ≡ without_return (print t env)
 plain-scope h ts p t env e =
     plain-whole h ts p (plain_tree h ts p) env refl
-    ∙ sym (ap (λ (o : Option FunctionTexts). option_map_or (λ f. f.scope) o (whole (print (plain_tree h ts p) env))) (plain-asked h ts p env).0)
+    ∙ sym (ap (λ (o : Option FunctionTexts). option_map_or (λ f. f.scope) o (whole (print (plain_tree h ts p) env))) (ap (λ (q : Printed). q.function) (plain-joinable h ts p env)))
     ∙ sym (ap (λ (v : Tree). without_return (print v env)) e)
 
 pub plain-head : (h : Held) (ts : List Tree) (p : Plain) (t : Tree) (env : Env) → t ≡ plain_tree h ts p → (print (plain_tree h ts p) env).text.left ≡ head (print t env)
 plain-head h ts p t env e =
     plain-whole h ts p (plain_tree h ts p) env refl
-    ∙ sym (ap (λ (o : Option (record { head : List ℕ; name : List ℕ })). option_map_or (λ d. d.head) o (whole (print (plain_tree h ts p) env))) (plain-asked h ts p env).1)
+    ∙ sym (ap (λ (o : Option (record { head : List ℕ; name : List ℕ })). option_map_or (λ d. d.head) o (whole (print (plain_tree h ts p) env))) (ap (λ (q : Printed). q.declaration) (plain-joinable h ts p env)))
     ∙ sym (ap (λ (v : Tree). head (print v env)) e)
 
 pub plain-declares : (h : Held) (ts : List Tree) (p : Plain) (t : Tree) (env : Env) → t ≡ plain_tree h ts p → declared_name (print t env) ≡ []
 plain-declares h ts p t env e =
     ap (λ (v : Tree). declared_name (print v env)) e
-    ∙ ap (λ (o : Option (record { head : List ℕ; name : List ℕ })). option_map_or (λ d. d.name) o []) (plain-asked h ts p env).1
+    ∙ ap (λ (o : Option (record { head : List ℕ; name : List ℕ })). option_map_or (λ d. d.name) o []) (ap (λ (q : Printed). q.declaration) (plain-joinable h ts p env))
 
 pub plain-right : (h : Held) (ts : List Tree) (p : Plain) (t : Tree) (env : Env) (joined : Bool) → t ≡ plain_tree h ts p → right_behind joined (print t env).text ≡ []
 plain-right h ts p t env joined e =
@@ -208,15 +202,6 @@ plain-right h ts p t env joined e =
     let l = (plain-left h ts p env).0 in
     ap (λ (v : Tree). right_behind joined (print v env).text) e
     ∙ ap (λ (b : Bool). (if b then blank_unless joined else []) ++ q.text.right) l.1 ∙ l.0
-
--- a name in a scope ends as the name does
-pub in_scope-closed : (friend : Bool) (env : Env) (q n : Printed) → n.closed ≡ (in_scope friend env q n).closed
-in_scope-closed true env q n = refl
-in_scope-closed false env q n = refl
-
-pub in_scope-ends : (friend : Bool) (env : Env) (q n : Printed) → n.ends ≡ (in_scope friend env q n).ends
-in_scope-ends true env q n = refl
-in_scope-ends false env q n = refl
 
 pub plain-one_sided : (h : Held) (ts : List Tree) (p : Plain) (t : Tree) → t ≡ plain_tree h ts p → OneSided t
 unfolding OneSided

@@ -125,23 +125,12 @@ fn count_of_list(arena: &Arena, items: List) -> u64
 {
     let mut sum = 0;
     for t in arena.items(items) {
-        sum += count_of_item(arena, *t);
+        sum += match *arena.node(*t) {
+            Node::Plain(Plain::Expansion(t)) => arena.elements(t).unwrap_or(0) as u64,
+            _ => 1,
+        };
     }
     sum
-}
-
-fn count_of_item(arena: &Arena, i: u32) -> u64
-    requires within { i < size arena.now }
-    ensures value { result ≡ spec.count_item (tree_at (forest arena.now) i) }
-    ensures small { result ≤ 4294967295 }
-{
-    match *arena.node(i) {
-        Node::Plain(Plain::Expansion(t)) => match arena.elements(t) {
-            Some(n) => n as u64,
-            None => 0,
-        },
-        _ => 1,
-    }
 }
 
 /// Returns the protocol of a type, if a pointer to the type is an `id`.

@@ -69,18 +69,6 @@ fn print_node(arena: &Arena, env: Env, i: u32, out: &mut Text) -> Result<(), All
         Node::Plain(Plain::WithArgs(name, args)) => print_with_args(arena, env, name, args, out),
         Node::Plain(Plain::Name(ref text)) => write_text(arena, text, out),
         Node::Plain(ref plain) => print_plain(arena, env, plain, out),
-        _ => print_type(arena, env, i, out),
-    }
-}
-
-// Appends what a tree prints that may have two sides.
-#[inline(always)]
-#[cycle(printer)]
-fn print_type(arena: &Arena, env: Env, i: u32, out: &mut Text) -> Result<(), AllocError>
-    requires within { i < size arena.now }
-    ensures prints { Prints result out.old out.new (spec.whole (spec.print (tree_at (forest arena.now) i) env)) }
-{
-    match *node_at(arena, i) {
         Node::Encoding(ref encoding) => print_encoding(arena, env, encoding, out),
         Node::Qualified(t, cv) => print_qualified(arena, env, i, t, cv, out),
         Node::Pointer(t) => print_pointer(arena, env, i, t, out),
@@ -224,7 +212,10 @@ pub fn print_left(arena: &Arena, env: Env, i: u32, out: &mut Text) -> Result<(),
         Node::Array(element, _) => print_left(arena, env, element, out),
         Node::Function(ref function) => left_function(arena, env, function.ret, out),
         Node::Encoding(ref encoding) => left_encoding(arena, env, encoding, out),
-        Node::Pack(items) => left_pack(arena, env, items, out),
+        Node::Pack(items) => match element(arena, env, items) {
+            None => Ok(()),
+            Some(t) => print_left(arena, env, t, out),
+        },
     }
 }
 
@@ -252,7 +243,10 @@ pub fn print_right(
         Node::Array(element, dimension) => right_array(arena, env, element, dimension, joined, out),
         Node::Function(ref function) => right_function(arena, env, function, out),
         Node::Encoding(ref encoding) => right_encoding(arena, env, encoding, out),
-        Node::Pack(items) => right_pack(arena, env, items, joined, out),
+        Node::Pack(items) => match element(arena, env, items) {
+            None => Ok(()),
+            Some(t) => print_right(arena, env, t, joined, out),
+        },
     }
 }
 
@@ -956,29 +950,13 @@ fn print_declarations(arena: &Arena, env: Env, list: List, out: &mut Text) -> Re
         return print_angles(arena, env, list, out);
     }
     tri!(write(out, b"<"));
-    tri!(print_declared_list(arena, env.in_angle(), arena.items(list), out));
-    write(out, b">")
-}
-
-#[cycle(printer)]
-fn print_declared_list(
-    arena: &Arena,
-    env: Env,
-    items: &[u32],
-    out: &mut Text,
-) -> Result<(), AllocError>
-    requires below { AllByRecursion (λ t. t < size arena.now) items.now }
-    ensures prints { Prints result out.old out.new (spec.separated spec.declared true env (spec.items_of (trees_at
-        (forest
-        arena.now) items.now))) }
-{
     let mut is_first = true;
-    for t in items {
+    for t in arena.items(list) {
         tri!(write_separator(is_first, out));
-        tri!(print_declared(arena, env, *t, out));
+        tri!(print_declared(arena, env.in_angle(), *t, out));
         is_first = false;
     }
-    Ok(())
+    write(out, b">")
 }
 
 #[cycle(printer)]
@@ -998,36 +976,22 @@ fn print_head(arena: &Arena, env: Env, t: u32, out: &mut Text) -> Result<(), All
     ensures prints { Prints result out.old out.new (spec.head (spec.print (tree_at (forest arena.now) t) env)) }
 {
     match *node_at(arena, t) {
-        Node::Declaration(ref declaration) => head_of_declaration(arena, env, declaration, out),
-        Node::Plain(ref plain) => print_plain(arena, env, plain, out),
-        _ => print(arena, env, t, out),
-    }
-}
-
-#[cycle(printer)]
-fn head_of_declaration(
-    arena: &Arena,
-    env: Env,
-    declaration: &Declaration,
-    out: &mut Text,
-) -> Result<(), AllocError>
-    requires below { IsDeclarationBelow arena.now.held (size arena.now) declaration.now }
-    ensures prints { Prints result out.old out.new (spec.head (spec.print (declaration_tree arena.now.held (forest
-        arena.now) declaration.now) env)) }
-{
-    match *declaration {
-        Declaration::TypeParam(constraint, _) => print(arena, env, constraint, out),
-        Declaration::NonTypeParam(_, t) => print(arena, env, t, out),
-        Declaration::TemplateParam(_, declarations, _) => print_template_head(
+        Node::Declaration(Declaration::TypeParam(constraint, _)) => print(
+            arena, env, constraint, out,
+        ),
+        Node::Declaration(Declaration::NonTypeParam(_, t)) => print(arena, env, t, out),
+        Node::Declaration(Declaration::TemplateParam(_, declarations, _)) => print_template_head(
             arena,
             env,
             arena.items(declarations),
             out,
         ),
-        Declaration::PackParam(d) => {
+        Node::Declaration(Declaration::PackParam(d)) => {
             tri!(print_head(arena, env, d, out));
             write(out, b"...")
         }
+        Node::Plain(ref plain) => print_plain(arena, env, plain, out),
+        _ => print(arena, env, t, out),
     }
 }
 
@@ -1044,24 +1008,13 @@ fn print_template_head(
         (trees_at (forest arena.now) items.now)) ++ codes "> class")) }
 {
     tri!(write(out, b"template<"));
-    tri!(print_heads(arena, env, items, out));
-    write(out, b"> class")
-}
-
-#[cycle(printer)]
-fn print_heads(arena: &Arena, env: Env, items: &[u32], out: &mut Text) -> Result<(), AllocError>
-    requires below { AllByRecursion (λ t. t < size arena.now) items.now }
-    ensures prints { Prints result out.old out.new (spec.separated spec.head true env (spec.items_of (trees_at
-        (forest arena.now)
-        items.now))) }
-{
     let mut is_first = true;
     for t in items {
         tri!(write_separator(is_first, out));
         tri!(print_head(arena, env, *t, out));
         is_first = false;
     }
-    Ok(())
+    write(out, b"> class")
 }
 
 /// Appends the name that a declaration declares.
@@ -1072,28 +1025,12 @@ fn print_declared_name(arena: &Arena, env: Env, t: u32, out: &mut Text) -> Resul
         env)) }
 {
     match *node_at(arena, t) {
-        Node::Declaration(ref declaration) => name_of_declaration(arena, env, declaration, out),
+        Node::Declaration(Declaration::TypeParam(_, name)) => print(arena, env, name, out),
+        Node::Declaration(Declaration::NonTypeParam(name, _)) => print(arena, env, name, out),
+        Node::Declaration(Declaration::TemplateParam(name, _, _)) => print(arena, env, name, out),
+        Node::Declaration(Declaration::PackParam(d)) => print_declared_name(arena, env, d, out),
         Node::Plain(_) => Ok(()),
         _ => Ok(()),
-    }
-}
-
-#[cycle(printer)]
-fn name_of_declaration(
-    arena: &Arena,
-    env: Env,
-    declaration: &Declaration,
-    out: &mut Text,
-) -> Result<(), AllocError>
-    requires below { IsDeclarationBelow arena.now.held (size arena.now) declaration.now }
-    ensures prints { Prints result out.old out.new (spec.declared_name (spec.print (declaration_tree arena.now.held
-        (forest arena.now) declaration.now) env)) }
-{
-    match *declaration {
-        Declaration::TypeParam(_, name) => print(arena, env, name, out),
-        Declaration::NonTypeParam(name, _) => print(arena, env, name, out),
-        Declaration::TemplateParam(name, _, _) => print(arena, env, name, out),
-        Declaration::PackParam(d) => print_declared_name(arena, env, d, out),
     }
 }
 
@@ -1184,21 +1121,13 @@ fn left_pointer(arena: &Arena, env: Env, t: u32, out: &mut Text) -> Result<(), A
         t)) (spec.print (tree_at (forest arena.now) t) env)).text.left) }
 {
     match protocol_of(arena, t) {
-        None => left_plain_pointer(arena, env, t, out),
+        None => {
+            tri!(print_left(arena, env, t, out));
+            tri!(write_opened(form_of(arena, env, t), out));
+            write(out, b"*")
+        }
         Some(protocol) => write_id(protocol, out),
     }
-}
-
-#[inline(never)]
-#[cycle(printer)]
-fn left_plain_pointer(arena: &Arena, env: Env, t: u32, out: &mut Text) -> Result<(), AllocError>
-    requires within { t < size arena.now }
-    ensures prints { Prints result out.old out.new ((spec.print (tree_at (forest arena.now) t) env).text.left ++
-        (words.opened (spec.print (tree_at (forest arena.now) t) env).text.form ++ codes "*")) }
-{
-    tri!(print_left(arena, env, t, out));
-    tri!(write_opened(form_of(arena, env, t), out));
-    write(out, b"*")
 }
 
 #[inline(never)]
@@ -1242,26 +1171,12 @@ fn left_reference(
     let referent = referent_of(arena, env, is_lvalue, t);
     match referent.base {
         None => write_mark(referent.is_lvalue, out),
-        Some(base) => left_base(arena, env, referent.is_lvalue, base, out),
+        Some(base) => {
+            tri!(print_left(arena, env, base, out));
+            tri!(write_opened(form_of(arena, env, base), out));
+            write_mark(referent.is_lvalue, out)
+        }
     }
-}
-
-#[inline(never)]
-#[cycle(printer)]
-fn left_base(
-    arena: &Arena,
-    env: Env,
-    is_lvalue: bool,
-    t: u32,
-    out: &mut Text,
-) -> Result<(), AllocError>
-    requires within { t < size arena.now }
-    ensures prints { Prints result out.old out.new ((spec.refers is_lvalue (spec.print (tree_at (forest arena.now)
-        t) env).text).left) }
-{
-    tri!(print_left(arena, env, t, out));
-    tri!(write_opened(form_of(arena, env, t), out));
-    write_mark(is_lvalue, out)
 }
 
 #[inline(never)]
@@ -1319,37 +1234,10 @@ fn right_array(
         env)).text) }
 {
     tri!(write_blank_unless(joined, out));
-    right_bracket(arena, env, element, dimension, out)
-}
-
-#[inline(never)]
-#[cycle(printer)]
-fn right_bracket(
-    arena: &Arena,
-    env: Env,
-    element: u32,
-    dimension: Parts,
-    out: &mut Text,
-) -> Result<(), AllocError>
-    requires element { element < size arena.now }
-    requires dimension { IsPartsBelow arena.now.held (size arena.now) dimension }
-    ensures prints { Prints result out.old out.new (codes "[" ++ ((spec.print_parts (parts_in arena.now.held
-        (forest arena.now) dimension) env).text ++ (codes "]" ++ (spec.print (tree_at (forest arena.now) element)
-        env).text.right))) }
-{
     tri!(write(out, b"["));
     tri!(print_parts(arena, env, dimension, out));
     tri!(write(out, b"]"));
-    print_joined(arena, env, element, out)
-}
-
-// Appends the right side of a type after a bracket.
-#[cycle(printer)]
-fn print_joined(arena: &Arena, env: Env, t: u32, out: &mut Text) -> Result<(), AllocError>
-    requires within { t < size arena.now }
-    ensures prints { Prints result out.old out.new ((spec.print (tree_at (forest arena.now) t) env).text.right) }
-{
-    print_right(arena, env, t, true, out)
+    print_right(arena, env, element, true, out)
 }
 
 #[inline(never)]
@@ -1360,14 +1248,6 @@ fn left_function(arena: &Arena, env: Env, ret: u32, out: &mut Text) -> Result<()
         spec.function_blank env (spec.print (tree_at (forest arena.now) ret) env)) }
 {
     tri!(print_left(arena, env, ret, out));
-    blank_behind_ret(arena, env, ret, out)
-}
-
-fn blank_behind_ret(arena: &Arena, env: Env, ret: u32, out: &mut Text) -> Result<(), AllocError>
-    requires ret { ret < size arena.now }
-    ensures prints { Prints result out.old out.new (spec.function_blank env (spec.print (tree_at (forest arena.now)
-        ret) env)) }
-{
     if env.is_llvm() {
         return write(out, b" ");
     }
@@ -1418,20 +1298,12 @@ fn left_encoding(
         (spec.of_return spec.left_of env (spec.items_of (option_at (forest arena.now) encoding.now.ret))
         ++ spec.whole (spec.print (tree_at (forest arena.now) encoding.now.name) env)) }
 {
-    tri!(left_ret(arena, env, encoding.ret, out));
-    print(arena, env, encoding.name, out)
-}
-
-#[cycle(printer)]
-fn left_ret(arena: &Arena, env: Env, ret: Option<u32>, out: &mut Text) -> Result<(), AllocError>
-    requires ret { IsOptionBelow (size arena.now) ret }
-    ensures prints { Prints result out.old out.new (spec.of_return spec.left_of env (spec.items_of (option_at
-        (forest arena.now)
-        ret))) }
-{
-    match ret {
-        None => Ok(()),
-        Some(t) => left_non_type(arena, env, t, out),
+    match encoding.ret {
+        None => print(arena, env, encoding.name, out),
+        Some(t) => {
+            tri!(left_non_type(arena, env, t, out));
+            print(arena, env, encoding.name, out)
+        }
     }
 }
 
@@ -1493,36 +1365,4 @@ fn print_qualifiers(
         return Ok(());
     }
     print_parts(arena, env, encoding.clauses, out)
-}
-
-#[inline(never)]
-#[cycle(printer)]
-fn left_pack(arena: &Arena, env: Env, items: List, out: &mut Text) -> Result<(), AllocError>
-    requires items { IsListBelow arena.now.held (size arena.now) items }
-    ensures prints { Prints result out.old out.new ((spec.print (pack (trees_in arena.now.held (forest arena.now)
-        items)) env).text.left) }
-{
-    match element(arena, env, items) {
-        None => Ok(()),
-        Some(t) => print_left(arena, env, t, out),
-    }
-}
-
-#[inline(never)]
-#[cycle(printer)]
-fn right_pack(
-    arena: &Arena,
-    env: Env,
-    items: List,
-    joined: bool,
-    out: &mut Text,
-) -> Result<(), AllocError>
-    requires items { IsListBelow arena.now.held (size arena.now) items }
-    ensures prints { Prints result out.old out.new (spec.right_behind joined (spec.print (pack (trees_in
-        arena.now.held (forest arena.now) items)) env).text) }
-{
-    match element(arena, env, items) {
-        None => Ok(()),
-        Some(t) => print_right(arena, env, t, joined, out),
-    }
 }

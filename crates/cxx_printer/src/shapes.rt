@@ -189,13 +189,7 @@ pub fn referent_of(arena: &Arena, env: Env, is_lvalue: bool, i: u32) -> Referent
             Some(t) => referent_of(arena, env, is_lvalue, t),
         },
         Node::Plain(_) => itself(is_lvalue, i),
-        Node::Declaration(_) => itself(is_lvalue, i),
-        Node::Qualified(_, _) => itself(is_lvalue, i),
-        Node::Pointer(_) => itself(is_lvalue, i),
-        Node::MemberPointer(_, _) => itself(is_lvalue, i),
-        Node::Array(_, _) => itself(is_lvalue, i),
-        Node::Function(_) => itself(is_lvalue, i),
-        Node::Encoding(_) => itself(is_lvalue, i),
+        _ => itself(is_lvalue, i),
     }
 }
 
@@ -246,23 +240,15 @@ pub fn ending_of(arena: &Arena, env: Env, i: u32) -> Ending
 {
     match *node_at(arena, i) {
         Node::Plain(ref plain) => ending_of_plain(arena, env, plain),
-        Node::Pointer(t) => ending_of_pointer(arena, t),
+        Node::Pointer(t) => match protocol_of(arena, t) {
+            None => Ending::Other,
+            Some(_) => Ending::Greater,
+        },
         Node::Pack(items) => match element(arena, env, items) {
             None => Ending::Other,
             Some(t) => ending_of(arena, env, t),
         },
         _ => Ending::Other,
-    }
-}
-
-fn ending_of_pointer(arena: &Arena, t: u32) -> Ending
-    requires within { t < size arena.now }
-    ensures value { (p : spec.Printed) → result ≡ (spec.pointed (heads.protocol_of (tree_at (forest arena.now) t))
-        p).ends }
-{
-    match protocol_of(arena, t) {
-        None => Ending::Other,
-        Some(_) => Ending::Greater,
     }
 }
 

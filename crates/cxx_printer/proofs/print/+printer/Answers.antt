@@ -1,21 +1,22 @@
-use Rattle.std.proofs.Common.{codes, length, nat_eq, ℕ, ◌≡◌, ◌+◌, ◌*◌, ◌++◌, true, false, Option, List, sym, subst, ap, ◌∙◌, arith}
+use Rattle.std.proofs.Common.{codes, length, Bool, if◌then◌else◌, ◌<◌, [], nat_eq, ℕ, ◌≡◌, ◌+◌, ◌*◌, ◌++◌, true, false, Option, List, sym, subst, ap, ◌∙◌, arith}
+use Rattle.std.proofs.Math.ListN.{get_or}
 use Rattle.std.specs.List.{AllByRecursion}
-use Rattle.cxx_tree.specs.Stored.{forest, tree_at, trees_at, parts_of}
+use Rattle.cxx_tree.specs.Stored.{forest, tree_at, trees_at, parts_of, list_at}
 use Rattle.cxx_printer.specs.Asked.{item}
 use Rattle.cxx_printer.specs.declared.env.Env.{Env}
-use Rattle.cxx_printer.specs.Print.{items_of, print, print_parts, whole, sequence, separated, declared, head, repeated, expansion_text}
+use Rattle.cxx_printer.specs.Print.{items_of, print, print_parts, whole, sequence, separated, declared, head, repeated, expansion_text, blank_unless, angles}
 use Rattle.cxx_tree.specs.Tree.{named}
 use Rattle.cxx_tree.specs.Measure.{measure, measure_parts}
 use Rattle.cxx_tree.specs.Stored.{tree_of, plain_tree, declaration_tree, IsPlainBelow, text_at, trees_in, parts_in, size, IsPartBelow}
 use Rattle.cxx_tree.specs.declared.node.Declaration.{Declaration}
 use Rattle.cxx_tree.specs.declared.node.Part.{Part}
-use Rattle.cxx_printer.proofs.Heights.{plain_height, run_height, parts_height, item_height, part_falls, phrase_height}
-use Rattle.cxx_printer.specs.Words.{cv_text}
+use Rattle.cxx_printer.proofs.Heights.{items_height, plain_height, run_height, parts_height, item_height, part_falls, phrase_height}
+use Rattle.cxx_printer.specs.Words.{cv_text, in_angle}
 use Rattle.cxx_printer.proofs.Appended.{prints_then}
 use Rattle.cxx_printer.proofs.Symbols.{prints_three}
-use Rattle.cxx_printer.proofs.Declarators.{signature-alone, whole-qualified, whole-plain-pointer, whole-cv-pointer, whole-plain-reference, whole-cv-reference}
+use Rattle.cxx_printer.proofs.Declarators.{same-sides, signature-alone, whole-left, whole-qualified, whole-plain-pointer, whole-cv-pointer, whole-plain-reference, whole-cv-reference}
 use Rattle.cxx_printer.proofs.Items.{scoped_item, args_item, pointer_item, reference_item, name_item, leaf_item, items_step}
-use Rattle.cxx_printer.proofs.Turns.{so_far_step, added_twice, so_far_end, list_end, sequence_step, sequence_end, separated_step, separated_end, repeated_step, repeated_end, parts_step, whole-left}
+use Rattle.cxx_printer.proofs.Turns.{so_far_step, added_twice, so_far_end, list_end, sequence_step, sequence_end, separated_step, separated_end, repeated_step, repeated_end, parts_step}
 use Rattle.cxx_printer.specs.Print.{collapsed}
 use Rattle.cxx_printer.specs.Prints.{Prints}
 use Rattle.cxx_printer.specs.Words.{mark}
@@ -42,13 +43,28 @@ print_qualified-returns t c =
           (prints_then c.write_cv.result c.args.out.now c.print.new.out c.write_cv.new.out _ (cv_text c.args.cv) c.in-Ok.ensures.prints c.write_cv.ensures.prints);
     }
 
-pub print_declared_list-returns : goal.print_declared_list-returns
-print_declared_list-returns t c =
-    record { prints = so_far_end c.args.out.now c.loop-t.out _ _ c.loop-t.invariant (separated_end declared (forest c.args.arena.now) c.args.items.now c.args.env c.loop-t.is_first c.loop-t.t-index (omega (arith, c.loop-t-test.false))) }
+pub print_declarations-returns : goal.print_declarations-returns
+print_declarations-returns t c =
+    let s = c.args.arena.now in
+    let r = c.write-2.result in
+    let new = c.write-2.new.out in
+    let env = in_angle c.args.env in
+    let is = c.items-t-items.result.now in
+    let end = separated_end declared (forest s) is env c.loop-t.is_first c.loop-t.t-index (omega (arith, c.loop-t-test.false)) in
+    let all = prints_three r c.args.out.now c.write.new.out c.loop-t.out new (codes "<") _ (codes ">") c.in-Ok.ensures.prints (so_far_end c.write.new.out c.loop-t.out _ _ c.loop-t.invariant end) c.write-2.ensures.prints in
+    let text = λ (js : List ℕ). codes "<" ++ (separated declared true env (items_of (trees_at (forest s) js)) ++ codes ">") in
+    record {
+      prints = subst (λ (b : Bool). Prints r c.args.out.now new (if b then angles c.args.env (items_of (trees_in s.held (forest s) c.args.list)) else text (list_at s.held c.args.list)))
+          (sym c.if-is_llvm.false ∙ c.is_llvm.ensures.value) (subst (λ (js : List ℕ). Prints r c.args.out.now new (text js)) c.items-t-items.ensures.value all);
+    }
 
-pub print_heads-returns : goal.print_heads-returns
-print_heads-returns t c =
-    record { prints = so_far_end c.args.out.now c.loop-t.out _ _ c.loop-t.invariant (separated_end head (forest c.args.arena.now) c.args.items.now c.args.env c.loop-t.is_first c.loop-t.t-index (omega (arith, c.loop-t-test.false))) }
+pub print_template_head-returns : goal.print_template_head-returns
+print_template_head-returns t c =
+    let end = separated_end head (forest c.args.arena.now) c.args.items.now c.args.env c.loop-t.is_first c.loop-t.t-index (omega (arith, c.loop-t-test.false)) in
+    record {
+      prints = prints_three c.write-2.result c.args.out.now c.write.new.out c.loop-t.out c.write-2.new.out (codes "template<") _ (codes "> class") c.in-Ok.ensures.prints
+          (so_far_end c.write.new.out c.loop-t.out _ _ c.loop-t.invariant end) c.write-2.ensures.prints;
+    }
 
 pub print_sequence-loop-t-preserved : goal.print_sequence-loop-t-preserved
 print_sequence-loop-t-preserved t c =
@@ -152,25 +168,29 @@ print_declared_name-returns-in-Plain t c =
     let e = c.node_at.ensures.tree ∙ ap (tree_of s.held (forest s)) c.in-Plain.is in
     record { prints = prints_nothing tt c.args.out.now _ (plain-declares s.held (forest s) c.in-Plain.field-0 (tree_at (forest s) c.args.t) c.args.env e) }
 
-pub print_declared_list-loop-t-preserved : goal.print_declared_list-loop-t-preserved
-print_declared_list-loop-t-preserved t c =
-    so_far_step c.args.out.now _ _ (separated declared true c.args.env (items_of (trees_at (forest c.args.arena.now) c.args.items.now))) _ _ _ c.loop-t.invariant (separated_step declared _ _ _ _ _ 0 c.loop-t-test.true)
-    (added_twice _ _ _ _ _ (c.in-Ok.ensures {u = tt}).prints (c.in-Ok-print_declared.ensures {u = tt}).prints)
+pub print_declarations-loop-t-preserved : goal.print_declarations-loop-t-preserved
+print_declarations-loop-t-preserved t c =
+    let ts = forest c.args.arena.now in
+    let is = c.items-t-items.result.now in
+    let printed = (c.in-Ok-print_declared.ensures {u = tt}).prints ∙ ap (λ (e : Env). c.write_separator.new.out ++ declared (print (tree_at ts (get_or is c.loop-t.t-index 0)) e)) c.in_angle.ensures.value in
+    so_far_step c.write.new.out _ _ (separated declared true (in_angle c.args.env) (items_of (trees_at ts is))) _ _ _ c.loop-t.invariant (separated_step declared _ _ _ _ _ 0 c.loop-t-test.true)
+    (added_twice _ _ _ _ _ (c.in-Ok-write_separator.ensures {u = tt}).prints printed)
 
-pub print_heads-loop-t-preserved : goal.print_heads-loop-t-preserved
-print_heads-loop-t-preserved t c =
-    so_far_step c.args.out.now _ _ (separated head true c.args.env (items_of (trees_at (forest c.args.arena.now) c.args.items.now))) _ _ _ c.loop-t.invariant (separated_step head _ _ _ _ _ 0 c.loop-t-test.true)
-    (added_twice _ _ _ _ _ (c.in-Ok.ensures {u = tt}).prints (c.in-Ok-print_head.ensures {u = tt}).prints)
+pub print_template_head-loop-t-preserved : goal.print_template_head-loop-t-preserved
+print_template_head-loop-t-preserved t c =
+    so_far_step c.write.new.out _ _ (separated head true c.args.env (items_of (trees_at (forest c.args.arena.now) c.args.items.now))) _ _ _ c.loop-t.invariant (separated_step head _ _ _ _ _ 0 c.loop-t-test.true)
+    (added_twice _ _ _ _ _ (c.in-Ok-write_separator.ensures {u = tt}).prints (c.in-Ok-print_head.ensures {u = tt}).prints)
 
-pub print_declared_list-print_declared-requires : goal.print_declared_list-print_declared-requires
-print_declared_list-print_declared-requires t c =
+pub print_declarations-print_declared-requires : goal.print_declarations-print_declared-requires
+print_declarations-print_declared-requires t c =
     let s = c.args.arena.now in
-    let is = c.args.items.now in
+    let is = c.items-t-items.result.now in
     let lower = item_height s is c.loop-t.t-index 0 c.loop-t-test.true in
-    (omega (arith, lower), below_at (size s) is c.loop-t.t-index 0 c.requires.below c.loop-t-test.true)
+    let high = ap (items_height s) c.items-t-items.ensures.value in
+    (omega (arith, lower, high), below_at (size s) is c.loop-t.t-index 0 (subst (AllByRecursion (λ t. t < size s)) (sym c.items-t-items.ensures.value) c.requires.below.1) c.loop-t-test.true)
 
-pub print_heads-print_head-requires : goal.print_heads-print_head-requires
-print_heads-print_head-requires t c =
+pub print_template_head-print_head-requires : goal.print_template_head-print_head-requires
+print_template_head-print_head-requires t c =
     let s = c.args.arena.now in
     let is = c.args.items.now in
     let lower = item_height s is c.loop-t.t-index 0 c.loop-t-test.true in
@@ -321,4 +341,18 @@ left_declaration-returns-in-Ok-print_angles t c =
       prints = subst (λ (d : Declaration). Prints r c.args.out.now new ((print (declaration_tree s.held (forest s) d) c.args.env).text.left)) (sym c.in-TemplateParam.is)
           (prints_three r c.args.out.now c.write-in-TemplateParam.new.out c.print_angles.new.out new (codes "template") _ (codes " typename ") c.in-Ok-write.ensures.prints
           c.in-Ok-print_angles.ensures.prints c.write-in-TemplateParam-2.ensures.prints);
+    }
+
+pub right_array-returns : goal.right_array-returns
+right_array-returns t c =
+    let s = c.args.arena.now in
+    let r = c.print_right.result in
+    let new = c.print_right.new.out in
+    let element = (print (tree_at (forest s) c.args.element) c.args.env).text in
+    let dimension = (print_parts (parts_in s.held (forest s) c.args.dimension) c.args.env).text in
+    let behind = subst (Prints r c.write-2.new.out new) (ap (λ (l : List ℕ). l ++ element.right) (same-sides element.bracket [])) c.print_right.ensures.prints in
+    let bracket =
+    prints_three r c.write.new.out c.print_parts.new.out c.write-2.new.out new dimension (codes "]") element.right c.in-Ok-print_parts.ensures.prints c.in-Ok-write-2.ensures.prints behind in
+    record {
+      prints = prints_three r c.args.out.now c.write_blank_unless.new.out c.write.new.out new (blank_unless c.args.joined) (codes "[") _ c.in-Ok.ensures.prints c.in-Ok-write.ensures.prints bracket;
     }

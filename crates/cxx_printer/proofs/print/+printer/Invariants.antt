@@ -2,6 +2,7 @@ use Rattle.std.proofs.Common.{◌≡◌, ◌+◌, ◌-◌, ◌*◌, ◌≤◌, �
 use Rattle.cxx_tree.specs.declared.node.Node.TheVariants as node
 use Rattle.cxx_tree.specs.Stored.{forest, tree_at, trees_at, parts_of}
 use Rattle.cxx_printer.specs.Asked.{item}
+use Rattle.cxx_printer.specs.Words.{in_angle}
 use Rattle.cxx_printer.specs.Print.{items_of, print_parts, list_from, sequence, separated, declared, head, repeated}
 use Rattle.cxx_printer.proofs.Heights.{height_at, height_of, plain_height, declaration_height, option_height, items_height, list_height, part_height, parts_height}
 use Rattle.cxx_printer.proofs.print.+printer.Given as goal
@@ -30,9 +31,6 @@ decreases-print_encoding l = 64 * height_of l.arena.now (node.Encoding l.encodin
 abbrev pub decreases-left_encoding : goal.decreases-left_encoding
 decreases-left_encoding l = 64 * height_of l.arena.now (node.Encoding l.encoding.now) + 21
 
-abbrev pub decreases-left_ret : goal.decreases-left_ret
-decreases-left_ret l = 64 * option_height l.arena.now l.ret + 32
-
 abbrev pub decreases-right_ret : goal.decreases-right_ret
 decreases-right_ret l = 64 * option_height l.arena.now l.ret + 32
 
@@ -54,35 +52,20 @@ decreases-left_declaration l = 64 * declaration_height l.arena.now l.declaration
 abbrev pub decreases-right_declaration : goal.decreases-right_declaration
 decreases-right_declaration l = 64 * declaration_height l.arena.now l.declaration.now + 20
 
-abbrev pub decreases-head_of_declaration : goal.decreases-head_of_declaration
-decreases-head_of_declaration l = 64 * declaration_height l.arena.now l.declaration.now + 20
-
-abbrev pub decreases-name_of_declaration : goal.decreases-name_of_declaration
-decreases-name_of_declaration l = 64 * declaration_height l.arena.now l.declaration.now + 20
-
 abbrev pub decreases-left_qualified : goal.decreases-left_qualified
 decreases-left_qualified l = 64 * height_at l.arena.now l.t + 35
 
 abbrev pub decreases-left_pointer : goal.decreases-left_pointer
 decreases-left_pointer l = 64 * height_at l.arena.now l.t + 37
 
-abbrev pub decreases-left_plain_pointer : goal.decreases-left_plain_pointer
-decreases-left_plain_pointer l = 64 * height_at l.arena.now l.t + 36
-
 abbrev pub decreases-left_reference : goal.decreases-left_reference
 decreases-left_reference l = 64 * height_at l.arena.now l.t + 37
-
-abbrev pub decreases-left_base : goal.decreases-left_base
-decreases-left_base l = 64 * height_at l.arena.now l.t + 36
 
 abbrev pub decreases-left_member : goal.decreases-left_member
 decreases-left_member l = 64 * max (height_at l.arena.now l.class) (height_at l.arena.now l.member) + 41
 
 abbrev pub decreases-left_function : goal.decreases-left_function
 decreases-left_function l = 64 * height_at l.arena.now l.ret + 31
-
-abbrev pub decreases-left_pack : goal.decreases-left_pack
-decreases-left_pack l = 64 * list_height l.arena.now l.items + 31
 
 abbrev pub decreases-right_pointer : goal.decreases-right_pointer
 decreases-right_pointer l = 64 * height_at l.arena.now l.t + 32
@@ -96,17 +79,8 @@ decreases-right_reference l = 64 * height_at l.arena.now l.t + 32
 abbrev pub decreases-right_array : goal.decreases-right_array
 decreases-right_array l = 64 * max (height_at l.arena.now l.element) (parts_height l.arena.now l.dimension) + 57
 
-abbrev pub decreases-right_bracket : goal.decreases-right_bracket
-decreases-right_bracket l = 64 * max (height_at l.arena.now l.element) (parts_height l.arena.now l.dimension) + 56
-
-abbrev pub decreases-print_joined : goal.decreases-print_joined
-decreases-print_joined l = 64 * height_at l.arena.now l.t + 31
-
 abbrev pub decreases-right_function : goal.decreases-right_function
 decreases-right_function l = 64 * height_of l.arena.now (node.Function l.function.now) + 18
-
-abbrev pub decreases-right_pack : goal.decreases-right_pack
-decreases-right_pack l = 64 * list_height l.arena.now l.items + 31
 
 abbrev pub decreases-print_phrase : goal.decreases-print_phrase
 decreases-print_phrase l = 64 * parts_height l.arena.now l.parts + 57
@@ -129,14 +103,8 @@ decreases-print_parens l = 64 * list_height l.arena.now l.list + 51
 abbrev pub decreases-print_angles : goal.decreases-print_angles
 decreases-print_angles l = 64 * list_height l.arena.now l.list + 51
 
-abbrev pub decreases-print_declared_list : goal.decreases-print_declared_list
-decreases-print_declared_list l = 64 * items_height l.arena.now l.items.now + 48
-
 abbrev pub decreases-print_template_head : goal.decreases-print_template_head
 decreases-print_template_head l = 64 * items_height l.arena.now l.items.now + 49
-
-abbrev pub decreases-print_heads : goal.decreases-print_heads
-decreases-print_heads l = 64 * items_height l.arena.now l.items.now + 48
 
 abbrev pub decreases-print_sequence : goal.decreases-print_sequence
 decreases-print_sequence l = 64 * items_height l.arena.now l.items.now + 49
@@ -207,9 +175,6 @@ decreases-print_declared_name l = 64 * height_at l.arena.now l.t + 45
 abbrev pub decreases-left_non_type : goal.decreases-left_non_type
 decreases-left_non_type l = 64 * height_at l.arena.now l.t + 31
 
-abbrev pub decreases-print_type : goal.decreases-print_type
-decreases-print_type l = 64 * height_at l.arena.now l.i + 38
-
 abbrev pub decreases-print_qualified : goal.decreases-print_qualified
 decreases-print_qualified l = 64 * height_at l.arena.now l.i + 37
 
@@ -252,12 +217,12 @@ invariant-print_sequence-loop-t l =
     l.fn.out ++ sequence l.env (items_of (trees_at (forest l.arena) l.items))
     ≡ l.out ++ sequence l.env (items_of (trees_at (forest l.arena) (drop l.t-index l.items)))
 
-abbrev pub invariant-print_declared_list-loop-t : goal.invariant-print_declared_list-loop-t
-invariant-print_declared_list-loop-t l =
-    l.fn.out ++ separated declared true l.env (items_of (trees_at (forest l.arena) l.items))
-    ≡ l.out ++ separated declared l.is_first l.env (items_of (trees_at (forest l.arena) (drop l.t-index l.items)))
+abbrev pub invariant-print_declarations-loop-t : goal.invariant-print_declarations-loop-t
+invariant-print_declarations-loop-t l =
+    l.initial.out ++ separated declared true (in_angle l.env) (items_of (trees_at (forest l.arena) l.t-items))
+    ≡ l.out ++ separated declared l.is_first (in_angle l.env) (items_of (trees_at (forest l.arena) (drop l.t-index l.t-items)))
 
-abbrev pub invariant-print_heads-loop-t : goal.invariant-print_heads-loop-t
-invariant-print_heads-loop-t l =
-    l.fn.out ++ separated head true l.env (items_of (trees_at (forest l.arena) l.items))
+abbrev pub invariant-print_template_head-loop-t : goal.invariant-print_template_head-loop-t
+invariant-print_template_head-loop-t l =
+    l.initial.out ++ separated head true l.env (items_of (trees_at (forest l.arena) l.items))
     ≡ l.out ++ separated head l.is_first l.env (items_of (trees_at (forest l.arena) (drop l.t-index l.items)))
