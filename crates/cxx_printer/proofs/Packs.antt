@@ -84,34 +84,17 @@ pack-past ts is us env k e f h =
     ∙ ap element_of (printed_at-past ts is env k h)
 
 -- how parts end
-abbrev last_of : Ending → Option Ending → Option Ending
-last_of ends rest = Some (unwrap_or rest ends)
-
-last_of-some : (e : Ending) (o : Option Ending) → (x : Ending) × (last_of e o ≡ Some x)
-last_of-some e None = (e, refl)
-last_of-some e (Some x) = (x, refl)
-
-ends-some : (h : Held) (ts : List Tree) (env : Env) (p : Part) (ps : List Part) → (x : Ending) × ((print_parts (parts_of h ts (p ∷ ps)) env).ends ≡ Some x)
-unfolding print
-ends-some h ts env (part.Text a b) ps = last_of-some _ (print_parts (parts_of h ts ps) env).ends
-ends-some h ts env (part.Tree manner t) ps = last_of-some _ (print_parts (parts_of h ts ps) env).ends
-ends-some h ts env (part.Trees listing l) ps = last_of-some _ (print_parts (parts_of h ts ps) env).ends
-
-none-some : (x : Ending) → None ≡ Some x → ⊥
-none-some x h = true≢false (sym (ap is_some h))
-
-last_of-rest : (e : Ending) (o : Option Ending) (x : Ending) → o ≡ Some x → last_of e o ≡ o
-last_of-rest e None x h = absurd (none-some x h)
-last_of-rest e (Some y) x h = refl
-
 ends-rest : (h : Held) (ts : List Tree) (env : Env) (p q : Part) (ps : List Part) → (print_parts (parts_of h ts (p ∷ q ∷ ps)) env).ends ≡ (print_parts (parts_of h ts (q ∷ ps)) env).ends
 unfolding print
-ends-rest h ts env (part.Text a b) q ps =
-    let some = ends-some h ts env q ps in last_of-rest _ (print_parts (parts_of h ts (q ∷ ps)) env).ends some.0 some.1
-ends-rest h ts env (part.Tree manner t) q ps =
-    let some = ends-some h ts env q ps in last_of-rest _ (print_parts (parts_of h ts (q ∷ ps)) env).ends some.0 some.1
-ends-rest h ts env (part.Trees listing l) q ps =
-    let some = ends-some h ts env q ps in last_of-rest _ (print_parts (parts_of h ts (q ∷ ps)) env).ends some.0 some.1
+ends-rest h ts env (part.Text a b) (part.Text x y) ps = refl
+ends-rest h ts env (part.Text a b) (part.Tree m u) ps = refl
+ends-rest h ts env (part.Text a b) (part.Trees k v) ps = refl
+ends-rest h ts env (part.Tree manner t) (part.Text x y) ps = refl
+ends-rest h ts env (part.Tree manner t) (part.Tree m u) ps = refl
+ends-rest h ts env (part.Tree manner t) (part.Trees k v) ps = refl
+ends-rest h ts env (part.Trees listing l) (part.Text x y) ps = refl
+ends-rest h ts env (part.Trees listing l) (part.Tree m u) ps = refl
+ends-rest h ts env (part.Trees listing l) (part.Trees k v) ps = refl
 
 pub parts-end-at : (h : Held) (ts : List Tree) (env : Env) (ps : List Part) (k : ℕ) (d : Part) → length ps ≡ suc k → run_ends (print_parts (parts_of h ts ps) env).ends ≡ ends_of_part h ts env (get_or ps k d)
 unfolding print ends_of_part

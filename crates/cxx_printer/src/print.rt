@@ -753,15 +753,11 @@ fn print_address(
     ensures prints { Prints result out.old out.new (spec.part_text (manner.Address prec) env (item (tree_at (forest
         arena.now) t))) }
 {
-    if env.is_llvm() {
-        return print_operand(arena, env, prec, false, t, out);
-    }
     match *node_at(arena, t) {
-        Node::Encoding(ref encoding) => {
-            if is_named_address(arena, encoding.name, encoding.cv, encoding.ref_qual) {
-                return print(arena, env, encoding.name, out);
-            }
-            print_operand(arena, env, prec, false, t, out)
+        Node::Encoding(ref encoding)
+            if !env.is_llvm()
+                && is_named_address(arena, encoding.name, encoding.cv, encoding.ref_qual) => {
+            print(arena, env, encoding.name, out)
         }
         _ => print_operand(arena, env, prec, false, t, out),
     }
@@ -812,29 +808,13 @@ fn print_count(
     ensures prints { Prints result out.old out.new (spec.part_text (manner.Count has_blank) env (item (tree_at
         (forest arena.now) t))) }
 {
-    if env.is_llvm() {
-        return print_sizeof(arena, env, has_blank, t, out);
-    }
     match count_of(arena, t) {
-        None => print_sizeof(arena, env, has_blank, t, out),
-        Some(n) => write_number(n, out),
+        Some(n) if !env.is_llvm() => write_number(n, out),
+        _ => {
+            tri!(write_sizeof(has_blank, out));
+            print_enclosed(arena, env, t, out)
+        }
     }
-}
-
-#[cycle(printer)]
-fn print_sizeof(
-    arena: &Arena,
-    env: Env,
-    has_blank: bool,
-    t: u32,
-    out: &mut Text,
-) -> Result<(), AllocError>
-    requires within { t < size arena.now }
-    ensures prints { Prints result out.old out.new (spec.sizeof_text has_blank env (item (tree_at (forest
-        arena.now) t))) }
-{
-    tri!(write_sizeof(has_blank, out));
-    print_enclosed(arena, env, t, out)
 }
 
 /// Appends a pack that a fold expression folds.

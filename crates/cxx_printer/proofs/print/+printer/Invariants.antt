@@ -157,9 +157,6 @@ decreases-print_argument l = 64 * height_at l.arena.now l.t + 45
 abbrev pub decreases-print_count : goal.decreases-print_count
 decreases-print_count l = 64 * height_at l.arena.now l.t + 46
 
-abbrev pub decreases-print_sizeof : goal.decreases-print_sizeof
-decreases-print_sizeof l = 64 * height_at l.arena.now l.t + 45
-
 abbrev pub decreases-print_folded : goal.decreases-print_folded
 decreases-print_folded l = 64 * height_at l.arena.now l.t + 48
 
