@@ -144,5 +144,3 @@ items_step ts is env old out new all first k d s h inv e =
           (list_step ts is env same k d h) f ∙ ap (λ (b : Bool). new ++ list_from b env more) next.0,
       next.1,
     )
-
-pub ruleset items = (scoped_item, args_item, pointer_item, reference_item, name_item, leaf_item)

@@ -141,10 +141,7 @@ pub fn protocol_of(arena: &Arena, i: u32) -> Option<&[u8]>
 {
     match *arena.node(i) {
         Node::Plain(Plain::ObjcProtocol(name, protocol)) => match *arena.node(name) {
-            Node::Plain(Plain::Name(name)) => {
-                if arena.bytes(name) != b"objc_object".as_slice() {
-                    return None;
-                }
+            Node::Plain(Plain::Name(name)) if arena.bytes(name) == b"objc_object".as_slice() => {
                 Some(arena.bytes(protocol))
             }
             _ => None,

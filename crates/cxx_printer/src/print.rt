@@ -2,15 +2,15 @@
 //!
 //! A function that looks at the kind of a node calls the function for that kind last. That call is a jump, so the first
 //! function takes no stack. `#[inline(never)]` keeps the two apart.
-#![tactic(auto, using(crate::proofs::Appended::prints, crate::proofs::Items::items), unfolding(cxx_tree::specs::Stored::tree_of, cxx_tree::specs::Stored::plain_tree, cxx_tree::specs::Stored::declaration_tree, cxx_tree::specs::Stored::IsBelow, cxx_tree::specs::Stored::IsPlainBelow, cxx_tree::specs::Stored::IsDeclarationBelow, crate::specs::Print::print, crate::specs::Asked::text_of_part, cxx_tree::specs::Measure::measure))]
+#![tactic(auto, using(crate::proofs::Appended::prints, crate::proofs::Items::args_item), unfolding(cxx_tree::specs::Stored::tree_of, cxx_tree::specs::Stored::plain_tree, cxx_tree::specs::Stored::declaration_tree, cxx_tree::specs::Stored::IsBelow, cxx_tree::specs::Stored::IsPlainBelow, cxx_tree::specs::Stored::IsDeclarationBelow, crate::specs::Print::print, crate::specs::Asked::text_of_part, cxx_tree::specs::Measure::measure))]
 
-ghost use Rattle.std.specs.Prelude.{◌≡◌, ℕ, nat_eq, ◌+◌, ◌<◌, ◌≤◌, Bool, true, false, List, [], ◌∷◌, ◌++◌, codes, length, Option, Some, None, if◌then◌else◌, IfOk};
+ghost use Rattle.std.specs.Prelude.{◌≡◌, ℕ, ◌+◌, ◌<◌, ◌≤◌, Bool, true, false, List, [], ◌∷◌, ◌++◌, codes, Option, Some, None};
 ghost use Rattle.std.specs.List.{AllByRecursion};
 ghost use Rattle.cxx_tree.specs.declared.kinds.Listing.TheVariants as listing;
 ghost use Rattle.cxx_tree.specs.declared.kinds.Manner.TheVariants as manner;
 ghost use Rattle.cxx_tree.specs.declared.kinds.Prec.TheVariants as prec;
 ghost use Rattle.cxx_tree.specs.declared.node.Node.TheVariants as node;
-ghost use Rattle.cxx_tree.specs.Tree.{Tree, named, pack, pointer, qualified, reference, scoped, with_args};
+ghost use Rattle.cxx_tree.specs.Tree.{Tree, named, pack, pointer, qualified, reference};
 ghost use Rattle.cxx_tree.specs.Measure.{measure};
 ghost use Rattle.cxx_tree.specs.Stored.{forest, size, tree_of, IsBelow, tree_at, trees_at, trees_in, option_at, plain_tree, declaration_tree, parts_in, text_at, IsText, IsListBelow, IsOptionBelow, IsPlainBelow, IsDeclarationBelow, IsPartsBelow, IsPartBelow};
 ghost use Rattle.cxx_printer.specs.declared.shapes.Ending.TheVariants as ending;
@@ -118,11 +118,8 @@ fn print_pointer(arena: &Arena, env: Env, i: u32, t: u32, out: &mut Text) -> Res
                 tri!(print(arena, env, t, out));
                 write_byte(out, b'*')
             }
-        }
-        Node::Qualified(u, cv) => {
-            if !is_plain(arena, u) {
-                return print_sides(arena, env, i, out);
-            }
+        },
+        Node::Qualified(u, cv) if is_plain(arena, u) => {
             tri!(print(arena, env, u, out));
             write_star(cv, out)
         }
@@ -153,10 +150,7 @@ fn print_reference(
             tri!(print(arena, env, t, out));
             write_mark(is_lvalue, out)
         }
-        Node::Qualified(u, cv) => {
-            if !is_plain(arena, u) {
-                return print_sides(arena, env, i, out);
-            }
+        Node::Qualified(u, cv) if is_plain(arena, u) => {
             tri!(print(arena, env, u, out));
             write_cv_mark(cv, is_lvalue, out)
         }
@@ -570,29 +564,18 @@ fn print_any_item(
     ensures prints { Prints result out.old out.new (spec.item_behind is_first (spec.item_text env (item (tree_at
         (forest arena.now) t)))) }
 {
-    if is_first {
-        return print_item_text(arena, env, t, out);
-    }
     let before = out.len();
-    tri!(write(out, b", "));
+    tri!(write_separator(is_first, out));
     let start = out.len();
-    tri!(print_item_text(arena, env, t, out));
+    if env.is_llvm() {
+        tri!(print_operand(arena, env, Prec::Comma, false, t, out));
+    } else {
+        tri!(print(arena, env, t, out));
+    }
     if out.len() == start {
         out.truncate(before);
     }
     Ok(())
-}
-
-#[inline(never)]
-#[cycle(printer)]
-fn print_item_text(arena: &Arena, env: Env, t: u32, out: &mut Text) -> Result<(), AllocError>
-    requires within { t < size arena.now }
-    ensures prints { Prints result out.old out.new (spec.item_text env (item (tree_at (forest arena.now) t))) }
-{
-    if env.is_llvm() {
-        return print_operand(arena, env, Prec::Comma, false, t, out);
-    }
-    print(arena, env, t, out)
 }
 
 /// Appends an operand: the tree, in parentheses if it is looser than the precedence, or as loose and `loose` is false.
@@ -825,10 +808,8 @@ fn print_folded(arena: &Arena, env: Env, t: u32, out: &mut Text) -> Result<(), A
     ensures prints { Prints result out.old out.new (spec.folded_text env (measure (tree_at (forest arena.now)
         t)).elements (item (tree_at (forest arena.now) t))) }
 {
-    if !env.is_llvm() {
-        if arena.elements(t).is_none() {
-            return print_operand(arena, env, Prec::Comma, true, t, out);
-        }
+    if !env.is_llvm() && arena.elements(t).is_none() {
+        return print_operand(arena, env, Prec::Comma, true, t, out);
     }
     tri!(write(out, b"("));
     tri!(print_expansion(arena, env, t, out));

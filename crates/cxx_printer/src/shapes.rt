@@ -3,12 +3,11 @@
 
 ghost use Rattle.std.specs.Prelude.{◌≡◌, ℕ, ◌<◌, ◌≤◌, Bool, true, false, Option, Some, None, MatchOption, IfSome};
 ghost use Rattle.std.specs.List.{AllByRecursion};
-ghost use Rattle.cxx_tree.specs.Tree.{named, pack, scoped};
-ghost use Rattle.cxx_tree.specs.Stored.{forest, size, tree_of, tree_at, trees_at, trees_in, plain_tree, parts_in, parts_at, parts_of, IsBelow, IsListBelow, IsPlainBelow, IsPartsBelow, IsPartBelow};
+ghost use Rattle.cxx_tree.specs.Tree.{pack};
+ghost use Rattle.cxx_tree.specs.Stored.{forest, size, tree_of, tree_at, trees_at, trees_in, plain_tree, parts_in, parts_of, IsBelow, IsListBelow, IsPlainBelow, IsPartsBelow, IsPartBelow};
 ghost use Rattle.cxx_printer.specs.Print as spec;
 ghost use Rattle.cxx_printer.specs.Words.{ending, ending_of_byte, within};
 ghost use Rattle.cxx_tree.specs.Measure.{measure};
-ghost use Rattle.cxx_printer.specs.Heads as heads;
 ghost use Rattle.cxx_printer.specs.Asked.{OneSided, Refers, ends_of_part, height, highest, item, run_ends};
 
 use crate::env::Env;
@@ -336,11 +335,9 @@ fn ending_of_address(arena: &Arena, env: Env, t: u32) -> Ending
     ensures value { result ≡ spec.address_ends env (item (tree_at (forest arena.now) t)) }
 {
     match *node_at(arena, t) {
-        Node::Encoding(ref encoding) => {
-            if is_named_address(arena, encoding.name, encoding.cv, encoding.ref_qual) {
-                return ending_of(arena, env, encoding.name);
-            }
-            ending_of_operand(arena, env, t)
+        Node::Encoding(ref encoding)
+            if is_named_address(arena, encoding.name, encoding.cv, encoding.ref_qual) => {
+            ending_of(arena, env, encoding.name)
         }
         _ => ending_of_operand(arena, env, t),
     }

@@ -230,7 +230,7 @@ print_pointer-returns-in-Ok-print t c =
     record {
       prints = subst (λ (l : List ℕ). Prints c.write_star.result c.args.out.now c.write_star.new.out l)
           (whole-cv-pointer (tree_at ts c.args.i) (tree_at ts c.args.t) (tree_at ts c.in-Qualified.u) c.in-Qualified.cv c.args.env c.requires.tree
-          (c.node_at.ensures.tree ∙ ap (tree_of h ts) c.in-Qualified.is) (c.is_plain.ensures.value c.if-not-is_plain.false))
+          (c.node_at.ensures.tree ∙ ap (tree_of h ts) c.in-Qualified.is) (c.is_plain.ensures.value c.if-is_plain.true))
           (prints_then c.write_star.result c.args.out.now _ c.write_star.new.out _ (cv_text c.in-Qualified.cv ++ codes "*") c.in-Ok-print.ensures.prints c.write_star.ensures.prints);
     }
 
@@ -254,7 +254,7 @@ print_reference-returns-in-Ok-print t c =
     record {
       prints = subst (λ (l : List ℕ). Prints c.write_cv_mark.result c.args.out.now c.write_cv_mark.new.out l)
           (whole-cv-reference (tree_at ts c.args.i) (tree_at ts c.args.t) (tree_at ts c.in-Qualified.u) c.args.is_lvalue c.in-Qualified.cv c.args.env c.requires.tree
-          (c.node_at.ensures.tree ∙ ap (tree_of h ts) c.in-Qualified.is) (c.is_plain.ensures.value c.if-not-is_plain.false))
+          (c.node_at.ensures.tree ∙ ap (tree_of h ts) c.in-Qualified.is) (c.is_plain.ensures.value c.if-is_plain.true))
           (prints_then c.write_cv_mark.result c.args.out.now _ c.write_cv_mark.new.out _ (cv_text c.in-Qualified.cv ++ mark c.args.is_lvalue) c.in-Ok-print.ensures.prints c.write_cv_mark.ensures.prints);
     }
 
