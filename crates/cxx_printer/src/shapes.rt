@@ -52,8 +52,8 @@ pub fn form_of(arena: &Arena, env: Env, i: u32) -> Form
     ensures value { result ≡ (spec.print (tree_at (forest arena.now) i) env).text.form }
 {
     match *node_at(arena, i) {
-        Node::Plain(_) => Form::Plain,
-        Node::Declaration(_)
+        Node::Plain(_)
+        | Node::Declaration(_)
         | Node::Pointer(_)
         | Node::Reference(_, _)
         | Node::MemberPointer(_, _) => Form::Plain,
@@ -100,8 +100,7 @@ pub fn has_right(arena: &Arena, env: Env, i: u32) -> bool
 {
     match *node_at(arena, i) {
         Node::Plain(_) => false,
-        Node::Declaration(_) => true,
-        Node::Array(_, _) | Node::Function(_) | Node::Encoding(_) => true,
+        Node::Declaration(_) | Node::Array(_, _) | Node::Function(_) | Node::Encoding(_) => true,
         Node::Qualified(t, _) | Node::Pointer(t) | Node::Reference(t, _) => has_right(
             arena, env, t,
         ),
@@ -130,32 +129,20 @@ pub fn is_starred(arena: &Arena, env: Env, i: u32) -> bool
 }
 
 /// Returns whether the left side of a tree ends with a bracket that joins one after it.
-#[cycle(closings)]
 pub fn is_closed(arena: &Arena, env: Env, i: u32) -> bool
     requires within { i < size arena.now }
     ensures value { result ≡ (spec.print (tree_at (forest arena.now) i) env).closed }
 {
     match *node_at(arena, i) {
-        Node::Plain(ref plain) => is_plain_closed(arena, env, plain),
+        Node::Plain(Plain::Phrase(phrase, _)) => env.is_llvm() && phrase.is_closed,
+        Node::Plain(Plain::AbiTag(_, _)) => env.is_llvm(),
+        Node::Plain(Plain::Scoped(_, _, name)) => is_closed(arena, env, name),
+        Node::Plain(Plain::Data(name)) => is_closed(arena, env, name),
         Node::Array(t, _) => is_closed(arena, env, t),
         Node::Pack(items) => match element(arena, env, items) {
             None => false,
             Some(t) => is_closed(arena, env, t),
         },
-        _ => false,
-    }
-}
-
-#[cycle(closings)]
-fn is_plain_closed(arena: &Arena, env: Env, plain: &Plain) -> bool
-    requires below { IsPlainBelow arena.now.held (size arena.now) plain.now }
-    ensures value { result ≡ (spec.print (plain_tree arena.now.held (forest arena.now) plain.now) env).closed }
-{
-    match *plain {
-        Plain::Phrase(phrase, _) => env.is_llvm() && phrase.is_closed,
-        Plain::AbiTag(_, _) => env.is_llvm(),
-        Plain::Scoped(_, _, name) => is_closed(arena, env, name),
-        Plain::Data(name) => is_closed(arena, env, name),
         _ => false,
     }
 }
@@ -284,21 +271,12 @@ fn ending_of_phrase(arena: &Arena, env: Env, phrase: Phrase, parts: Parts) -> En
     if !phrase.is_open {
         return Ending::Other;
     }
-    ending_of_parts(arena, env.within(phrase.guard), arena.parts_of(parts))
-}
-
-// How parts end.
-#[cycle(endings)]
-fn ending_of_parts(arena: &Arena, env: Env, parts: &[Part]) -> Ending
-    requires below { AllByRecursion (IsPartBelow arena.now.held (size arena.now)) parts.now }
-    ensures value { result ≡ run_ends (spec.print_parts (parts_of arena.now.held (forest arena.now) parts.now)
-        env).ends }
-{
-    let n = parts.len();
+    let list = arena.parts_of(parts);
+    let n = list.len();
     if n == 0 {
         return Ending::Other;
     }
-    ending_of_part(arena, env, parts[n - 1])
+    ending_of_part(arena, env.within(phrase.guard), list[n - 1])
 }
 
 #[cycle(endings)]

@@ -1,26 +1,21 @@
 use Rattle.std.proofs.Common.{codes, length, Bool, if◌then◌else◌, ◌<◌, [], nat_eq, ℕ, ◌≡◌, ◌+◌, ◌*◌, ◌++◌, true, false, Option, List, sym, subst, ap, ◌∙◌, arith}
 use Rattle.std.proofs.Math.ListN.{get_or}
 use Rattle.std.specs.List.{AllByRecursion}
-use Rattle.cxx_tree.specs.Stored.{forest, tree_at, trees_at, parts_of, list_at}
+use Rattle.cxx_tree.specs.Stored.{forest, tree_at, trees_at, parts_of, list_at, tree_of, plain_tree, declaration_tree, IsPlainBelow, text_at, trees_in, parts_in, size, IsPartBelow}
 use Rattle.cxx_printer.specs.Asked.{item}
 use Rattle.cxx_printer.specs.declared.env.Env.{Env}
-use Rattle.cxx_printer.specs.Print.{items_of, print, print_parts, whole, sequence, separated, declared, head, repeated, expansion_text, blank_unless, angles}
+use Rattle.cxx_printer.specs.Print.{items_of, print, print_parts, whole, sequence, separated, declared, head, repeated, expansion_text, blank_unless, angles, collapsed}
 use Rattle.cxx_tree.specs.Tree.{named}
 use Rattle.cxx_tree.specs.Measure.{measure, measure_parts}
-use Rattle.cxx_tree.specs.Stored.{tree_of, plain_tree, declaration_tree, IsPlainBelow, text_at, trees_in, parts_in, size, IsPartBelow}
 use Rattle.cxx_tree.specs.declared.node.Declaration.{Declaration}
-use Rattle.cxx_tree.specs.declared.node.Part.{Part}
-use Rattle.cxx_printer.proofs.Heights.{items_height, plain_height, run_height, parts_height, item_height, part_falls, phrase_height}
-use Rattle.cxx_printer.specs.Words.{cv_text, in_angle}
-use Rattle.cxx_printer.proofs.Appended.{prints_then}
+use Rattle.cxx_printer.proofs.Heights.{items_height, plain_height, run_height, item_height, part_falls, phrase_height}
+use Rattle.cxx_printer.specs.Words.{cv_text, in_angle, mark}
+use Rattle.cxx_printer.proofs.Appended.{prints_then, prints_nothing}
 use Rattle.cxx_printer.proofs.Symbols.{prints_three}
 use Rattle.cxx_printer.proofs.Declarators.{same-sides, signature-alone, whole-left, whole-qualified, whole-plain-pointer, whole-cv-pointer, whole-plain-reference, whole-cv-reference}
-use Rattle.cxx_printer.proofs.Items.{scoped_item, args_item, pointer_item, reference_item, name_item, leaf_item, items_step}
+use Rattle.cxx_printer.proofs.Items.{scoped_item, pointer_item, reference_item, name_item, leaf_item, items_step}
 use Rattle.cxx_printer.proofs.Turns.{so_far_step, added_twice, so_far_end, list_end, sequence_step, sequence_end, separated_step, separated_end, repeated_step, repeated_end, parts_step}
-use Rattle.cxx_printer.specs.Print.{collapsed}
 use Rattle.cxx_printer.specs.Prints.{Prints}
-use Rattle.cxx_printer.specs.Words.{mark}
-use Rattle.cxx_printer.proofs.Appended.{prints_nothing}
 use Rattle.cxx_printer.proofs.Packs.{below_at, in_parts, plain-scope, plain-head, plain-declares, plain-right, refers-none, left-none, right-none}
 use Rattle.cxx_printer.proofs.print.+printer.Goals as goal
 
@@ -120,8 +115,8 @@ print_parts-print_part-requires t c =
     let s = c.args.arena.now in
     let ps = c.parts_of-list.result.now in
     let e = c.parts_of-list.ensures.value in
-    let m : t ≡ 64 * parts_height s c.args.parts + 55 = omega arith in (
-      part_falls s ps c.loop-part.part-index _ t c.loop-part-test.true (m ∙ ap (λ (qs : List Part). 64 * run_height s qs + 55) (sym e)),
+    let high = ap (run_height s) e in (
+      part_falls s ps c.loop-part.part-index _ t c.loop-part-test.true (omega (arith, high)),
       in_parts s.held (size s) ps c.loop-part.part-index _ (subst (AllByRecursion (IsPartBelow s.held (size s))) (sym e) c.requires.parts.1) c.loop-part-test.true,
     )
 

@@ -1,4 +1,4 @@
-use Rattle.std.proofs.Common.{ℕ, List, Bool, codes, sym, subst, ◌∙◌, ◌++◌, if◌then◌else◌}
+use Rattle.std.proofs.Common.{Bool, codes, sym, subst, ◌∙◌, if◌then◌else◌}
 use Rattle.cxx_printer.specs.Prints.{Prints}
 use Rattle.cxx_printer.specs.Symbol.{in_parens, pieces_text, suffix_text}
 use Rattle.cxx_printer.proofs.Symbols.{prints_three}
