@@ -2,17 +2,15 @@ use Rattle.std.proofs.Common.{ℕ, ◌≡◌, ◌<◌, ◌≤◌, Bool, true, fa
 use Rattle.std.proofs.Math.ListN.{get_or}
 use Rattle.std.proofs.lemmas.List.{append-nil}
 use Rattle.std.specs.List.{AllByRecursion}
-use Rattle.std.specs.Prelude.{is_some, unwrap_or, if◌then◌else◌}
+use Rattle.std.specs.Prelude.{is_some, if◌then◌else◌}
 use Rattle.std.specs.Option.{option_map_or}
 use mathlib.Core.Bool.{true≢false}
 use Rattle.cxx_tree.specs.declared.node.Part.{Part}
 use Rattle.cxx_tree.specs.declared.node.Part.TheVariants as part
 use Rattle.cxx_tree.specs.declared.node.Plain.{Plain}
 use Rattle.cxx_tree.specs.declared.node.Plain.TheVariants as plain
-use Rattle.cxx_tree.specs.declared.node.Declaration.{Declaration}
-use Rattle.cxx_tree.specs.declared.node.Declaration.TheVariants as declaration
 use Rattle.cxx_tree.specs.Tree.{Tree, Trees, pack, qualified, pointer, reference}
-use Rattle.cxx_tree.specs.Stored.{Held, tree_at, trees_at, plain_tree, declaration_tree, parts_of, IsPartBelow}
+use Rattle.cxx_tree.specs.Stored.{Held, tree_at, trees_at, plain_tree, parts_of, IsPartBelow}
 use Rattle.cxx_printer.specs.Asked.{Refers, IsLeft, OneSided, ends_of_part, run_ends}
 use Rattle.cxx_printer.specs.declared.env.Env.{Env}
 use Rattle.cxx_printer.specs.Words.{ending, ending_of_byte, opened, closed}
@@ -21,7 +19,6 @@ use Rattle.cxx_printer.specs.Heads.{protocol_of}
 use Rattle.cxx_tree.specs.declared.kinds.Cv.{Cv}
 use Rattle.cxx_printer.specs.Print.{Printed, FunctionTexts, Sides, simple, joinable, print, print_parts, whole, right_behind, blank_unless, without_return, head, declared_name, pointed, items_of, printed_at, nothing, element_of, last_ends}
 use Rattle.cxx_printer.specs.declared.shapes.Ending.TheVariants.{Other}
-use Rattle.cxx_printer.specs.declared.shapes.Ending.{Ending}
 
 -- the element of a pack
 pub printed_at-item : (ts : List Tree) (is : List ℕ) (env : Env) (k d : ℕ) → k < length is → printed_at (items_of (trees_at ts is)) k env ≡ print (tree_at ts (get_or is k d)) env

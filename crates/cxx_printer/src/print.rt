@@ -4,7 +4,7 @@
 //! function takes no stack. `#[inline(never)]` keeps the two apart.
 #![tactic(auto, using(crate::proofs::Appended::prints, crate::proofs::Items::args_item), unfolding(cxx_tree::specs::Stored::tree_of, cxx_tree::specs::Stored::plain_tree, cxx_tree::specs::Stored::declaration_tree, cxx_tree::specs::Stored::IsBelow, cxx_tree::specs::Stored::IsPlainBelow, cxx_tree::specs::Stored::IsDeclarationBelow, crate::specs::Print::print, crate::specs::Asked::text_of_part, cxx_tree::specs::Measure::measure))]
 
-ghost use Rattle.std.specs.Prelude.{◌≡◌, ℕ, ◌+◌, ◌<◌, ◌≤◌, Bool, true, false, List, [], ◌∷◌, ◌++◌, codes, Option, Some, None};
+ghost use Rattle.std.specs.Prelude.{◌≡◌, ℕ, ◌+◌, ◌<◌, ◌≤◌, Bool, true, false, List, [], ◌++◌, codes, Option, Some, None};
 ghost use Rattle.std.specs.List.{AllByRecursion};
 ghost use Rattle.cxx_tree.specs.declared.kinds.Listing.TheVariants as listing;
 ghost use Rattle.cxx_tree.specs.declared.kinds.Manner.TheVariants as manner;
@@ -465,8 +465,8 @@ fn print_protocol(
     write(out, b">")
 }
 
-/// Appends an expansion: its pattern for each element of the packs in it, with commas between, or the pattern and an
-/// ellipsis.
+// Appends an expansion: its pattern for each element of the packs in it, with commas between, or the pattern and an
+// ellipsis.
 #[inline(never)]
 #[cycle(printer)]
 fn print_expansion(arena: &Arena, env: Env, t: u32, out: &mut Text) -> Result<(), AllocError>
@@ -485,7 +485,7 @@ fn print_expansion(arena: &Arena, env: Env, t: u32, out: &mut Text) -> Result<()
     Ok(())
 }
 
-/// Appends a list. What prints nothing has no comma.
+// Appends a list. What prints nothing has no comma.
 #[inline(always)]
 #[cycle(printer)]
 fn print_list(arena: &Arena, env: Env, items: &[u32], out: &mut Text) -> Result<(), AllocError>
@@ -500,7 +500,7 @@ fn print_list(arena: &Arena, env: Env, items: &[u32], out: &mut Text) -> Result<
     Ok(())
 }
 
-/// Appends an item of a list, with a comma before it if it isn't the first that prints something.
+// Appends an item of a list, with a comma before it if it isn't the first that prints something.
 #[inline(never)]
 #[cycle(printer)]
 fn print_item(
@@ -578,8 +578,8 @@ fn print_any_item(
     Ok(())
 }
 
-/// Appends an operand: the tree, in parentheses if it is looser than the precedence, or as loose and `loose` is false.
-/// In GNU's style it is in parentheses if it isn't a name.
+// Appends an operand: the tree, in parentheses if it is looser than the precedence, or as loose and `loose` is false.
+// In GNU's style it is in parentheses if it isn't a name.
 #[inline(always)]
 #[cycle(printer)]
 fn print_operand(
@@ -612,7 +612,7 @@ fn is_bare(arena: &Arena, env: Env, prec: Prec, loose: bool, t: u32) -> bool
     is_simple(arena, t)
 }
 
-/// Appends a tree in parentheses.
+// Appends a tree in parentheses.
 #[inline(never)]
 #[cycle(printer)]
 fn print_enclosed(arena: &Arena, env: Env, t: u32, out: &mut Text) -> Result<(), AllocError>
@@ -698,7 +698,7 @@ fn print_tree(
     }
 }
 
-/// Appends a function that is called. In GNU's style it has no parameters.
+// Appends a function that is called. In GNU's style it has no parameters.
 #[inline(never)]
 #[cycle(printer)]
 fn print_callee(arena: &Arena, env: Env, t: u32, out: &mut Text) -> Result<(), AllocError>
@@ -722,7 +722,7 @@ fn print_callee(arena: &Arena, env: Env, t: u32, out: &mut Text) -> Result<(), A
     }
 }
 
-/// Appends the operand of an `&`. In GNU's style some functions have no parameters.
+// Appends the operand of an `&`. In GNU's style some functions have no parameters.
 #[inline(never)]
 #[cycle(printer)]
 fn print_address(
@@ -746,7 +746,7 @@ fn print_address(
     }
 }
 
-/// Appends a value after a designator.
+// Appends a value after a designator.
 #[inline(never)]
 #[cycle(printer)]
 fn print_value(arena: &Arena, env: Env, t: u32, out: &mut Text) -> Result<(), AllocError>
@@ -761,7 +761,7 @@ fn print_value(arena: &Arena, env: Env, t: u32, out: &mut Text) -> Result<(), Al
     print_operand(arena, env, Prec::Comma, true, t, out)
 }
 
-/// Appends the only argument of a conversion.
+// Appends the only argument of a conversion.
 #[inline(never)]
 #[cycle(printer)]
 fn print_argument(arena: &Arena, env: Env, t: u32, out: &mut Text) -> Result<(), AllocError>
@@ -777,7 +777,7 @@ fn print_argument(arena: &Arena, env: Env, t: u32, out: &mut Text) -> Result<(),
     write(out, b")")
 }
 
-/// Appends `sizeof...` and a pack, in GNU's style the number of its elements if it is known.
+// Appends `sizeof...` and a pack, in GNU's style the number of its elements if it is known.
 #[inline(never)]
 #[cycle(printer)]
 fn print_count(
@@ -800,7 +800,7 @@ fn print_count(
     }
 }
 
-/// Appends a pack that a fold expression folds.
+// Appends a pack that a fold expression folds.
 #[inline(never)]
 #[cycle(printer)]
 fn print_folded(arena: &Arena, env: Env, t: u32, out: &mut Text) -> Result<(), AllocError>
@@ -852,7 +852,7 @@ pub fn print_parens(arena: &Arena, env: Env, list: List, out: &mut Text) -> Resu
     write_byte(out, b')')
 }
 
-/// Appends a list in angle brackets.
+// Appends a list in angle brackets.
 #[inline(always)]
 #[cycle(printer)]
 fn print_angles(arena: &Arena, env: Env, list: List, out: &mut Text) -> Result<(), AllocError>
@@ -899,7 +899,7 @@ fn print_sequence(arena: &Arena, env: Env, items: &[u32], out: &mut Text) -> Res
     Ok(())
 }
 
-/// Appends the declarations of a closure's template parameters.
+// Appends the declarations of a closure's template parameters.
 #[inline(never)]
 #[cycle(printer)]
 fn print_declarations(arena: &Arena, env: Env, list: List, out: &mut Text) -> Result<(), AllocError>
@@ -930,7 +930,7 @@ fn print_declared(arena: &Arena, env: Env, t: u32, out: &mut Text) -> Result<(),
     print_declared_name(arena, env, t, out)
 }
 
-/// Appends a declaration of a template parameter without its name, as GNU's style has it.
+// Appends a declaration of a template parameter without its name, as GNU's style has it.
 #[cycle(printer)]
 fn print_head(arena: &Arena, env: Env, t: u32, out: &mut Text) -> Result<(), AllocError>
     requires within { t < size arena.now }
@@ -978,7 +978,7 @@ fn print_template_head(
     write(out, b"> class")
 }
 
-/// Appends the name that a declaration declares.
+// Appends the name that a declaration declares.
 #[cycle(printer)]
 fn print_declared_name(arena: &Arena, env: Env, t: u32, out: &mut Text) -> Result<(), AllocError>
     requires within { t < size arena.now }
@@ -1025,7 +1025,7 @@ fn left_declaration(
     }
 }
 
-/// Appends the left side of a type, and a blank unless it has a right one.
+// Appends the left side of a type, and a blank unless it has a right one.
 #[inline(never)]
 #[cycle(printer)]
 fn left_non_type(arena: &Arena, env: Env, t: u32, out: &mut Text) -> Result<(), AllocError>
@@ -1104,7 +1104,7 @@ fn right_pointer(arena: &Arena, env: Env, t: u32, out: &mut Text) -> Result<(), 
     }
 }
 
-/// Appends the right side of a type after a pointer to it.
+// Appends the right side of a type after a pointer to it.
 #[inline(never)]
 #[cycle(printer)]
 fn right_behind(arena: &Arena, env: Env, t: u32, out: &mut Text) -> Result<(), AllocError>
@@ -1209,13 +1209,8 @@ fn left_function(arena: &Arena, env: Env, ret: u32, out: &mut Text) -> Result<()
         spec.function_blank env (spec.print (tree_at (forest arena.now) ret) env)) }
 {
     tri!(print_left(arena, env, ret, out));
-    if env.is_llvm() {
-        return write(out, b" ");
-    }
-    write_blank_unless(
-        is_starred(arena, env, ret) && has_right(arena, env, ret),
-        out,
-    )
+    let is_joined = !env.is_llvm() && is_starred(arena, env, ret) && has_right(arena, env, ret);
+    write_blank_unless(is_joined, out)
 }
 
 #[inline(never)]
@@ -1259,13 +1254,10 @@ fn left_encoding(
         (spec.of_return spec.left_of env (spec.items_of (option_at (forest arena.now) encoding.now.ret))
         ++ spec.whole (spec.print (tree_at (forest arena.now) encoding.now.name) env)) }
 {
-    match encoding.ret {
-        None => print(arena, env, encoding.name, out),
-        Some(t) => {
-            tri!(left_non_type(arena, env, t, out));
-            print(arena, env, encoding.name, out)
-        }
+    if let Some(t) = encoding.ret {
+        tri!(left_non_type(arena, env, t, out));
     }
+    print(arena, env, encoding.name, out)
 }
 
 #[cycle(printer)]

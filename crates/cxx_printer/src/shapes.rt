@@ -8,7 +8,7 @@ ghost use Rattle.cxx_tree.specs.Stored.{forest, size, tree_of, tree_at, trees_at
 ghost use Rattle.cxx_printer.specs.Print as spec;
 ghost use Rattle.cxx_printer.specs.Words.{ending, ending_of_byte, within};
 ghost use Rattle.cxx_tree.specs.Measure.{measure};
-ghost use Rattle.cxx_printer.specs.Asked.{OneSided, Refers, ends_of_part, height, highest, item, run_ends};
+ghost use Rattle.cxx_printer.specs.Asked.{OneSided, Refers, ends_of_part, height, highest, item};
 
 use crate::env::Env;
 use crate::operands::{is_named_address, is_simple, protocol_of};

@@ -1,4 +1,4 @@
-use Rattle.std.proofs.Common.{◌≡◌, ◌+◌, ◌-◌, ◌*◌, ◌<◌, length, sym, subst, ap, arith}
+use Rattle.std.proofs.Common.{◌-◌, ◌<◌, length, sym, subst, ap, arith}
 use Rattle.std.specs.List.{AllByRecursion}
 use Rattle.cxx_tree.specs.Stored.{forest, parts_in, size, IsPartBelow}
 use Rattle.cxx_printer.proofs.Heights.{run_height, item_height, part_falls, phrase_height}
