@@ -522,28 +522,14 @@ fn print_item(
             out,
         ),
         // These print something.
-        Node::Plain(Plain::ScopedName(scope, ref name)) => {
-            if !try_separator(is_first, out) {
-                return print_any_item(arena, env, is_first, t, out);
-            }
+        Node::Plain(Plain::ScopedName(scope, ref name)) if try_separator(is_first, out) => {
             print_scoped_name(arena, env, scope, name, out)
         }
-        Node::Plain(Plain::WithArgs(name, args)) => {
-            if !try_separator(is_first, out) {
-                return print_any_item(arena, env, is_first, t, out);
-            }
+        Node::Plain(Plain::WithArgs(name, args)) if try_separator(is_first, out) => {
             print_with_args(arena, env, name, args, out)
         }
-        Node::Pointer(u) => {
-            if !try_separator(is_first, out) {
-                return print_any_item(arena, env, is_first, t, out);
-            }
-            print_pointer(arena, env, t, u, out)
-        }
-        Node::Reference(u, is_lvalue) => {
-            if !try_separator(is_first, out) {
-                return print_any_item(arena, env, is_first, t, out);
-            }
+        Node::Pointer(u) if try_separator(is_first, out) => print_pointer(arena, env, t, u, out),
+        Node::Reference(u, is_lvalue) if try_separator(is_first, out) => {
             print_reference(arena, env, t, is_lvalue, u, out)
         }
         _ => print_any_item(arena, env, is_first, t, out),

@@ -277,36 +277,36 @@ print_item-returns-in-Plain-Leaf t c =
           c.args.is_first c.args.env (tree_at ts c.args.t) e c.styled_bytes.ensures.value c.write_item-in-Plain-Leaf.ensures.prints;
     }
 
-pub print_item-returns-else-not-try_separator : goal.print_item-returns-else-not-try_separator
+pub print_item-returns-in-Plain-ScopedName : goal.print_item-returns-in-Plain-ScopedName
 unfolding tree_of plain_tree
-print_item-returns-else-not-try_separator t c =
+print_item-returns-in-Plain-ScopedName t c =
     let h = c.args.arena.now.held in
     let ts = forest c.args.arena.now in
     let m = c.in-Plain-ScopedName in
     let e = c.node_at.ensures.tree ∙ ap (tree_of h ts) m.is ∙ ap (plain_tree h ts) (rw m.is at m.field-0-is) in
     record {
       prints = scoped_item c.print_scoped_name.result c.args.out.now c.try_separator.new.out c.print_scoped_name.new.out c.try_separator.result c.args.is_first c.args.env (tree_at ts c.args.t)
-          (tree_at ts m.scope) (named (text_at h m.name)) c.if-not-try_separator.false c.try_separator.ensures.value e c.print_scoped_name.ensures.prints;
+          (tree_at ts m.scope) (named (text_at h m.name)) c.if-try_separator.true c.try_separator.ensures.value e c.print_scoped_name.ensures.prints;
     }
 
-pub print_item-returns-else-not-try_separator-3 : goal.print_item-returns-else-not-try_separator-3
+pub print_item-returns-in-Pointer : goal.print_item-returns-in-Pointer
 unfolding tree_of
-print_item-returns-else-not-try_separator-3 t c =
+print_item-returns-in-Pointer t c =
     let ts = forest c.args.arena.now in
     let e = c.node_at.ensures.tree ∙ ap (tree_of c.args.arena.now.held ts) c.in-Pointer.is in
     record {
-      prints = pointer_item c.print_pointer.result c.args.out.now c.try_separator-in-Pointer.new.out c.print_pointer.new.out c.try_separator-in-Pointer.result c.args.is_first c.args.env (tree_at ts c.args.t)
-          (tree_at ts c.in-Pointer.u) c.if-not-try_separator-3.false c.try_separator-in-Pointer.ensures.value e c.print_pointer.ensures.prints;
+      prints = pointer_item c.print_pointer.result c.args.out.now c.try_separator-in-Pointer-1.new.out c.print_pointer.new.out c.try_separator-in-Pointer-1.result c.args.is_first c.args.env (tree_at ts c.args.t)
+          (tree_at ts c.in-Pointer.u) c.if-try_separator-3.true c.try_separator-in-Pointer-1.ensures.value e c.print_pointer.ensures.prints;
     }
 
-pub print_item-returns-else-not-try_separator-4 : goal.print_item-returns-else-not-try_separator-4
+pub print_item-returns-in-Reference : goal.print_item-returns-in-Reference
 unfolding tree_of
-print_item-returns-else-not-try_separator-4 t c =
+print_item-returns-in-Reference t c =
     let ts = forest c.args.arena.now in
     let e = c.node_at.ensures.tree ∙ ap (tree_of c.args.arena.now.held ts) c.in-Reference.is in
     record {
-      prints = reference_item c.print_reference.result c.args.out.now c.try_separator-in-Reference.new.out c.print_reference.new.out c.try_separator-in-Reference.result c.args.is_first c.args.env (tree_at ts c.args.t)
-          (tree_at ts c.in-Reference.u) c.in-Reference.is_lvalue c.if-not-try_separator-4.false c.try_separator-in-Reference.ensures.value e c.print_reference.ensures.prints;
+      prints = reference_item c.print_reference.result c.args.out.now c.try_separator-in-Reference-1.new.out c.print_reference.new.out c.try_separator-in-Reference-1.result c.args.is_first c.args.env (tree_at ts c.args.t)
+          (tree_at ts c.in-Reference.u) c.in-Reference.is_lvalue c.if-try_separator-4.true c.try_separator-in-Reference-1.ensures.value e c.print_reference.ensures.prints;
     }
 
 pub print_expansion-loop-k-preserved : goal.print_expansion-loop-k-preserved
