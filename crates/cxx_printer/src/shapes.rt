@@ -226,10 +226,7 @@ pub fn ending_of(arena: &Arena, env: Env, i: u32) -> Ending
 {
     match *node_at(arena, i) {
         Node::Plain(ref plain) => ending_of_plain(arena, env, plain),
-        Node::Pointer(t) => match protocol_of(arena, t) {
-            None => Ending::Other,
-            Some(_) => Ending::Greater,
-        },
+        Node::Pointer(t) if protocol_of(arena, t).is_some() => Ending::Greater,
         Node::Pack(items) => match element(arena, env, items) {
             None => Ending::Other,
             Some(t) => ending_of(arena, env, t),

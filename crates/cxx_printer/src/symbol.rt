@@ -132,23 +132,13 @@ fn print_byte(rest: &[u8], out: &mut Text) -> Result<(), AllocError>
 }
 
 // Whether a piece begins here: with a dot that no digit follows.
-#[tactic(auto, unfolding(crate::specs::Symbol::is_piece))]
+#[tactic(auto, unfolding(crate::specs::Symbol::is_piece, crate::specs::Symbol::is_digit_first))]
 fn is_piece(bytes: &[u8]) -> bool
     ensures value { result ≡ spec.is_piece bytes.now }
 {
     match bytes {
-        [byte, behind @ ..] => *byte == b'.' && !is_digit_first(behind),
-        [] => false,
-    }
-}
-
-// Whether the first byte, if there is one, is a digit.
-#[tactic(auto, unfolding(crate::specs::Symbol::is_digit_first))]
-fn is_digit_first(bytes: &[u8]) -> bool
-    ensures value { result ≡ spec.is_digit_first bytes.now }
-{
-    match bytes {
-        [byte, ..] => b'0' <= *byte && *byte <= b'9',
-        [] => false,
+        [b'.', b'0'..=b'9', ..] => false,
+        [b'.', ..] => true,
+        _ => false,
     }
 }
