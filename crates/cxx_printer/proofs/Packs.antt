@@ -222,3 +222,5 @@ unfolding closed
 right-none b e = ap (λ (t : Sides). closed t.form ++ right_behind false t) e
 
 pub ruleset packs = (below_at, ending-at, ending-none, last_ends-at, last_ends-none, parts-end-at, parts-end-none, in_parts)
+
+pub ruleset plains = (plain-scope, plain-head, plain-declares, plain-right)

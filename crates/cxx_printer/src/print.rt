@@ -2,7 +2,7 @@
 //!
 //! A function that looks at the kind of a node calls the function for that kind last. That call is a jump, so the first
 //! function takes no stack. `#[inline(never)]` keeps the two apart.
-#![tactic(auto, using(crate::proofs::Appended::prints, crate::proofs::Items::args_item), unfolding(cxx_tree::specs::Stored::tree_of, cxx_tree::specs::Stored::plain_tree, cxx_tree::specs::Stored::declaration_tree, cxx_tree::specs::Stored::IsBelow, cxx_tree::specs::Stored::IsPlainBelow, cxx_tree::specs::Stored::IsDeclarationBelow, crate::specs::Print::print, crate::specs::Asked::text_of_part, cxx_tree::specs::Measure::measure))]
+#![tactic(auto, using(crate::proofs::Appended::prints, crate::proofs::Items::args_item, crate::proofs::Packs::plains), unfolding(cxx_tree::specs::Stored::tree_of, cxx_tree::specs::Stored::plain_tree, cxx_tree::specs::Stored::declaration_tree, cxx_tree::specs::Stored::IsBelow, cxx_tree::specs::Stored::IsPlainBelow, cxx_tree::specs::Stored::IsDeclarationBelow, crate::specs::Print::print, crate::specs::Asked::text_of_part, cxx_tree::specs::Measure::measure))]
 
 ghost use Rattle.std.specs.Prelude.{◌≡◌, ℕ, ◌+◌, ◌<◌, ◌≤◌, Bool, true, false, List, [], ◌++◌, codes, Option, Some, None};
 ghost use Rattle.std.specs.List.{AllByRecursion};
@@ -976,7 +976,6 @@ fn print_declared_name(arena: &Arena, env: Env, t: u32, out: &mut Text) -> Resul
         Node::Declaration(Declaration::NonTypeParam(name, _)) => print(arena, env, name, out),
         Node::Declaration(Declaration::TemplateParam(name, _, _)) => print(arena, env, name, out),
         Node::Declaration(Declaration::PackParam(d)) => print_declared_name(arena, env, d, out),
-        Node::Plain(_) => Ok(()),
         _ => Ok(()),
     }
 }

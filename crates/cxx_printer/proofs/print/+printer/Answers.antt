@@ -129,40 +129,6 @@ print_plain-print_phrase-requires t c =
     let same = phrase_height c.in-Phrase.phrase.is_reversed ps in
     (omega (arith, e, same), subst (IsPlainBelow s.held (size s)) c.in-Phrase.is c.requires.below)
 
-pub print_gnu_scope-returns-in-Plain : goal.print_gnu_scope-returns-in-Plain
-unfolding tree_of
-print_gnu_scope-returns-in-Plain t c =
-    let s = c.args.arena.now in
-    let e = c.node_at.ensures.tree ∙ ap (tree_of s.held (forest s)) c.in-Plain.is in
-    record {
-      prints = subst (λ (l : List ℕ). Prints c.print_plain.result c.args.out.now c.print_plain.new.out l)
-          (plain-scope s.held (forest s) c.in-Plain.plain (tree_at (forest s) c.args.i) c.args.env e) c.print_plain.ensures.prints;
-    }
-
-pub print_head-returns-in-Plain : goal.print_head-returns-in-Plain
-unfolding tree_of
-print_head-returns-in-Plain t c =
-    let s = c.args.arena.now in
-    let e = c.node_at.ensures.tree ∙ ap (tree_of s.held (forest s)) c.in-Plain.is in
-    record {
-      prints = subst (λ (l : List ℕ). Prints c.print_plain.result c.args.out.now c.print_plain.new.out l)
-          (plain-head s.held (forest s) c.in-Plain.plain (tree_at (forest s) c.args.t) c.args.env e) c.print_plain.ensures.prints;
-    }
-
-pub print_right-returns-in-Plain : goal.print_right-returns-in-Plain
-unfolding tree_of
-print_right-returns-in-Plain t c =
-    let s = c.args.arena.now in
-    let e = c.node_at.ensures.tree ∙ ap (tree_of s.held (forest s)) c.in-Plain.is in
-    record { prints = prints_nothing tt c.args.out.now _ (plain-right s.held (forest s) c.in-Plain.field-0 (tree_at (forest s) c.args.i) c.args.env c.args.joined e) }
-
-pub print_declared_name-returns-in-Plain : goal.print_declared_name-returns-in-Plain
-unfolding tree_of
-print_declared_name-returns-in-Plain t c =
-    let s = c.args.arena.now in
-    let e = c.node_at.ensures.tree ∙ ap (tree_of s.held (forest s)) c.in-Plain.is in
-    record { prints = prints_nothing tt c.args.out.now _ (plain-declares s.held (forest s) c.in-Plain.field-0 (tree_at (forest s) c.args.t) c.args.env e) }
-
 pub print_declarations-loop-t-preserved : goal.print_declarations-loop-t-preserved
 print_declarations-loop-t-preserved t c =
     let ts = forest c.args.arena.now in
