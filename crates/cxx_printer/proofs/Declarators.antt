@@ -105,3 +105,5 @@ same-sides false l = refl
 
 pub signature-alone : (env : Env) (params : List Item) (cv : Cv) (ref : RefQual) (rest : Run) → signature_right env [] params cv ref rest ≡ parens env params ++ qualifiers cv ref rest.text
 signature-alone env params cv ref rest = ap (λ (l : List ℕ). parens env params ++ l) (same-sides (is_llvm env) (qualifiers cv ref rest.text))
+
+pub ruleset one_sided = (whole-left, whole-qualified)

@@ -3,7 +3,6 @@ use Rattle.std.proofs.Math.ListN.{get_or}
 use Rattle.std.proofs.lemmas.List.{append-nil}
 use Rattle.std.specs.List.{AllByRecursion}
 use Rattle.std.specs.Prelude.{is_some, if◌then◌else◌}
-use Rattle.std.specs.Option.{option_map_or}
 use mathlib.Core.Bool.{true≢false}
 use Rattle.cxx_tree.specs.declared.node.Part.{Part}
 use Rattle.cxx_tree.specs.declared.node.Part.TheVariants as part
@@ -17,7 +16,7 @@ use Rattle.cxx_printer.specs.Words.{ending, ending_of_byte, opened, closed}
 use Rattle.cxx_printer.specs.declared.words.Form.{Form}
 use Rattle.cxx_printer.specs.Heads.{protocol_of}
 use Rattle.cxx_tree.specs.declared.kinds.Cv.{Cv}
-use Rattle.cxx_printer.specs.Print.{Printed, FunctionTexts, Sides, simple, joinable, print, print_parts, whole, right_behind, blank_unless, without_return, head, declared_name, pointed, items_of, printed_at, nothing, element_of, last_ends}
+use Rattle.cxx_printer.specs.Print.{Printed, Sides, simple, joinable, print, print_parts, whole, right_behind, blank_unless, without_return, head, declared_name, pointed, items_of, printed_at, nothing, element_of, last_ends}
 use Rattle.cxx_printer.specs.declared.shapes.Ending.TheVariants.{Other}
 
 -- the element of a pack
@@ -154,34 +153,23 @@ plain-left h ts p env =
       (ap (λ (x : Sides). x.right) base, ap (λ (x : Sides). x.bracket) base, ap (λ (x : Sides). x.form) base),
     )
 
-pub plain-whole : (h : Held) (ts : List Tree) (p : Plain) (t : Tree) (env : Env) → t ≡ plain_tree h ts p → (print (plain_tree h ts p) env).text.left ≡ whole (print t env)
-plain-whole h ts p t env e =
-    let q = print (plain_tree h ts p) env in
-    sym (one-side q.text q.closed (plain-left h ts p env).0) ∙ sym (ap (λ (v : Tree). whole (print v env)) e)
+-- a node with one side is no function, and no declaration
+plain-printed : (h : Held) (ts : List Tree) (p : Plain) (t : Tree) (env : Env) → t ≡ plain_tree h ts p → let q = print (plain_tree h ts p) env in print t env ≡ joinable q.text.left q.closed q.ends
+plain-printed h ts p t env e = ap (λ (v : Tree). print v env) e ∙ plain-joinable h ts p env
 
-pub plain-scope : (h : Held) (ts : List Tree) (p : Plain) (t : Tree) (env : Env) → t ≡ plain_tree h ts p → (print (plain_tree h ts p) env).text.left ≡ without_return (print t env)
+pub plain-scope : (h : Held) (ts : List Tree) (p : Plain) (t : Tree) (env : Env) → t ≡ plain_tree h ts p → whole (print t env) ≡ without_return (print t env)
 plain-scope h ts p t env e =
-    plain-whole h ts p (plain_tree h ts p) env refl
-    ∙ sym (ap (λ (o : Option FunctionTexts). option_map_or (λ f. f.scope) o (whole (print (plain_tree h ts p) env))) (ap (λ (q : Printed). q.function) (plain-joinable h ts p env)))
-    ∙ sym (ap (λ (v : Tree). without_return (print v env)) e)
+    let q = plain-printed h ts p t env e in ap whole q ∙ sym (ap without_return q)
 
-pub plain-head : (h : Held) (ts : List Tree) (p : Plain) (t : Tree) (env : Env) → t ≡ plain_tree h ts p → (print (plain_tree h ts p) env).text.left ≡ head (print t env)
+pub plain-head : (h : Held) (ts : List Tree) (p : Plain) (t : Tree) (env : Env) → t ≡ plain_tree h ts p → whole (print t env) ≡ head (print t env)
 plain-head h ts p t env e =
-    plain-whole h ts p (plain_tree h ts p) env refl
-    ∙ sym (ap (λ (o : Option (record { head : List ℕ; name : List ℕ })). option_map_or (λ d. d.head) o (whole (print (plain_tree h ts p) env))) (ap (λ (q : Printed). q.declaration) (plain-joinable h ts p env)))
-    ∙ sym (ap (λ (v : Tree). head (print v env)) e)
+    let q = plain-printed h ts p t env e in ap whole q ∙ sym (ap head q)
 
 pub plain-declares : (h : Held) (ts : List Tree) (p : Plain) (t : Tree) (env : Env) → t ≡ plain_tree h ts p → declared_name (print t env) ≡ []
-plain-declares h ts p t env e =
-    ap (λ (v : Tree). declared_name (print v env)) e
-    ∙ ap (λ (o : Option (record { head : List ℕ; name : List ℕ })). option_map_or (λ d. d.name) o []) (ap (λ (q : Printed). q.declaration) (plain-joinable h ts p env))
+plain-declares h ts p t env e = ap declared_name (plain-printed h ts p t env e)
 
 pub plain-right : (h : Held) (ts : List Tree) (p : Plain) (t : Tree) (env : Env) (joined : Bool) → t ≡ plain_tree h ts p → right_behind joined (print t env).text ≡ []
-plain-right h ts p t env joined e =
-    let q = print (plain_tree h ts p) env in
-    let l = (plain-left h ts p env).0 in
-    ap (λ (v : Tree). right_behind joined (print v env).text) e
-    ∙ ap (λ (b : Bool). (if b then blank_unless joined else []) ++ q.text.right) l.1 ∙ l.0
+plain-right h ts p t env joined e = ap (λ (q : Printed). right_behind joined q.text) (plain-printed h ts p t env e)
 
 pub plain-one_sided : (h : Held) (ts : List Tree) (p : Plain) (t : Tree) → t ≡ plain_tree h ts p → OneSided t
 unfolding OneSided

@@ -2,7 +2,7 @@
 //!
 //! A function that looks at the kind of a node calls the function for that kind last. That call is a jump, so the first
 //! function takes no stack. `#[inline(never)]` keeps the two apart.
-#![tactic(auto, using(crate::proofs::Appended::prints, crate::proofs::Items::args_item, crate::proofs::Packs::plains), unfolding(cxx_tree::specs::Stored::tree_of, cxx_tree::specs::Stored::plain_tree, cxx_tree::specs::Stored::declaration_tree, cxx_tree::specs::Stored::IsBelow, cxx_tree::specs::Stored::IsPlainBelow, cxx_tree::specs::Stored::IsDeclarationBelow, crate::specs::Print::print, crate::specs::Asked::text_of_part, cxx_tree::specs::Measure::measure))]
+#![tactic(auto, using(crate::proofs::Appended::prints, crate::proofs::Items::args_item, crate::proofs::Packs::plains, crate::proofs::Declarators::one_sided), unfolding(cxx_tree::specs::Stored::tree_of, cxx_tree::specs::Stored::plain_tree, cxx_tree::specs::Stored::declaration_tree, cxx_tree::specs::Stored::IsBelow, cxx_tree::specs::Stored::IsPlainBelow, cxx_tree::specs::Stored::IsDeclarationBelow, crate::specs::Print::print, crate::specs::Asked::text_of_part, cxx_tree::specs::Measure::measure))]
 
 ghost use Rattle.std.specs.Prelude.{◌≡◌, ℕ, ◌+◌, ◌<◌, ◌≤◌, Bool, true, false, List, [], ◌++◌, codes, Option, Some, None};
 ghost use Rattle.std.specs.List.{AllByRecursion};
@@ -346,7 +346,6 @@ fn print_gnu_scope(arena: &Arena, env: Env, i: u32, out: &mut Text) -> Result<()
 {
     match *node_at(arena, i) {
         Node::Encoding(ref encoding) => print_signature(arena, env, encoding, out),
-        Node::Plain(ref plain) => print_plain(arena, env, plain, out),
         _ => print(arena, env, i, out),
     }
 }
@@ -937,7 +936,6 @@ fn print_head(arena: &Arena, env: Env, t: u32, out: &mut Text) -> Result<(), All
             tri!(print_head(arena, env, d, out));
             write(out, b"...")
         }
-        Node::Plain(ref plain) => print_plain(arena, env, plain, out),
         _ => print(arena, env, t, out),
     }
 }

@@ -1,4 +1,4 @@
-use Rattle.std.proofs.Common.{codes, length, Bool, if◌then◌else◌, ◌<◌, [], nat_eq, ℕ, ◌≡◌, ◌+◌, ◌*◌, ◌++◌, true, false, Option, List, sym, subst, ap, ◌∙◌, arith}
+use Rattle.std.proofs.Common.{rules, codes, length, Bool, if◌then◌else◌, ◌<◌, [], nat_eq, ℕ, ◌≡◌, ◌+◌, ◌*◌, ◌++◌, true, false, Option, List, sym, subst, ap, ◌∙◌, arith}
 use Rattle.std.proofs.Math.ListN.{get_or}
 use Rattle.std.specs.List.{AllByRecursion}
 use Rattle.cxx_tree.specs.Stored.{forest, tree_at, trees_at, parts_of, list_at, tree_of, plain_tree, declaration_tree, IsPlainBelow, text_at, trees_in, parts_in, size, IsPartBelow}
@@ -12,11 +12,11 @@ use Rattle.cxx_printer.proofs.Heights.{items_height, plain_height, run_height, i
 use Rattle.cxx_printer.specs.Words.{cv_text, in_angle, mark}
 use Rattle.cxx_printer.proofs.Appended.{prints_then, prints_nothing}
 use Rattle.cxx_printer.proofs.Symbols.{prints_three}
-use Rattle.cxx_printer.proofs.Declarators.{same-sides, signature-alone, whole-left, whole-qualified, whole-plain-pointer, whole-cv-pointer, whole-plain-reference, whole-cv-reference}
+use Rattle.cxx_printer.proofs.Declarators.{same-sides, signature-alone, whole-plain-pointer, whole-cv-pointer, whole-plain-reference, whole-cv-reference}
 use Rattle.cxx_printer.proofs.Items.{scoped_item, pointer_item, reference_item, name_item, leaf_item, items_step}
 use Rattle.cxx_printer.proofs.Turns.{so_far_step, added_twice, so_far_end, list_end, sequence_step, sequence_end, separated_step, separated_end, repeated_step, repeated_end, parts_step}
 use Rattle.cxx_printer.specs.Prints.{Prints}
-use Rattle.cxx_printer.proofs.Packs.{below_at, in_parts, plain-scope, plain-head, plain-declares, plain-right, refers-none, left-none, right-none}
+use Rattle.cxx_printer.proofs.Packs.{below_at, in_parts, refers-none, left-none, right-none}
 use Rattle.cxx_printer.proofs.print.+printer.Goals as goal
 
 pub print_list-loop-t-preserved : goal.print_list-loop-t-preserved
@@ -28,15 +28,6 @@ print_list-loop-t-preserved t c =
 pub print_list-returns : goal.print_list-returns
 print_list-returns t c =
     record { prints = so_far_end c.args.out.now c.loop-t.out _ _ c.loop-t.invariant.0 (list_end (forest c.args.arena.now) c.args.items.now c.args.env (nat_eq (length c.loop-t.out) (length c.args.out.now)) c.loop-t.t-index (omega (arith, c.loop-t-test.false))) }
-
-pub print_qualified-returns : goal.print_qualified-returns
-print_qualified-returns t c =
-    let ts = forest c.args.arena.now in
-    record {
-      prints = subst (λ (l : List ℕ). Prints c.write_cv.result c.args.out.now c.write_cv.new.out l)
-          (whole-qualified (tree_at ts c.args.i) (tree_at ts c.args.t) c.args.cv c.args.env c.requires.tree (c.is_plain.ensures.value c.if-not-is_plain.false))
-          (prints_then c.write_cv.result c.args.out.now c.print.new.out c.write_cv.new.out _ (cv_text c.args.cv) c.in-Ok.ensures.prints c.write_cv.ensures.prints);
-    }
 
 pub print_declarations-returns : goal.print_declarations-returns
 print_declarations-returns t c =
@@ -73,13 +64,6 @@ pub print_parts-loop-part-preserved : goal.print_parts-loop-part-preserved
 print_parts-loop-part-preserved t c =
     so_far_step c.args.out.now _ _ ((print_parts (parts_of c.args.arena.now.held (forest c.args.arena.now) c.parts_of-list.result.now) c.args.env).text) _ _ _ c.loop-part.invariant
     (parts_step c.args.arena.now.held (forest c.args.arena.now) c.parts_of-list.result.now c.args.env c.loop-part.part-index _ c.loop-part-test.true) (c.in-Ok.ensures {u = tt}).prints
-
-pub print_sides-returns-then-is_one_sided : goal.print_sides-returns-then-is_one_sided
-print_sides-returns-then-is_one_sided t c =
-    record {
-      prints = (c.in-Ok.ensures {u = tt}).prints
-          ∙ ap (λ (l : List ℕ). c.args.out.now ++ l) (sym (whole-left (tree_at (forest c.args.arena.now) c.args.i) c.args.env (c.is_one_sided.ensures.value c.if-is_one_sided.true)));
-    }
 
 pub left_reference-returns-in-None : goal.left_reference-returns-in-None
 left_reference-returns-in-None t c =
@@ -171,6 +155,105 @@ print_signature-returns t c =
           c.print_qualifiers.ensures.prints);
     }
 
+pub print_item-returns-in-Plain-Name : goal.print_item-returns-in-Plain-Name
+unfolding tree_of plain_tree
+print_item-returns-in-Plain-Name t c =
+    let h = c.args.arena.now.held in
+    let ts = forest c.args.arena.now in
+    let m = c.in-Plain-Name in
+    let e = c.node_at.ensures.tree ∙ ap (tree_of h ts) m.is ∙ ap (plain_tree h ts) (rw m.is at m.field-0-is) in
+    record {
+      prints = name_item c.write_item.result c.args.out.now c.write_item.new.out c.bytes.result.now (text_at h m.text) c.args.is_first c.args.env (tree_at ts c.args.t)
+          e c.bytes.ensures.value c.write_item.ensures.prints;
+    }
+
+pub print_item-returns-in-Plain-Leaf : goal.print_item-returns-in-Plain-Leaf
+unfolding tree_of plain_tree
+print_item-returns-in-Plain-Leaf t c =
+    let h = c.args.arena.now.held in
+    let ts = forest c.args.arena.now in
+    let m = c.in-Plain-Leaf in
+    let e = c.node_at.ensures.tree ∙ ap (tree_of h ts) m.is ∙ ap (plain_tree h ts) (rw m.is at m.field-0-is) in
+    record {
+      prints = leaf_item c.write_item-in-Plain-Leaf.result c.args.out.now c.write_item-in-Plain-Leaf.new.out c.styled_bytes.result.now (text_at h m.llvm) (text_at h m.gnu) m.field-0-0
+          c.args.is_first c.args.env (tree_at ts c.args.t) e c.styled_bytes.ensures.value c.write_item-in-Plain-Leaf.ensures.prints;
+    }
+
+pub print_item-returns-in-Plain-ScopedName : goal.print_item-returns-in-Plain-ScopedName
+unfolding tree_of plain_tree
+print_item-returns-in-Plain-ScopedName t c =
+    let h = c.args.arena.now.held in
+    let ts = forest c.args.arena.now in
+    let m = c.in-Plain-ScopedName in
+    let e = c.node_at.ensures.tree ∙ ap (tree_of h ts) m.is ∙ ap (plain_tree h ts) (rw m.is at m.field-0-is) in
+    record {
+      prints = scoped_item c.print_scoped_name.result c.args.out.now c.try_separator.new.out c.print_scoped_name.new.out c.try_separator.result c.args.is_first c.args.env (tree_at ts c.args.t)
+          (tree_at ts m.scope) (named (text_at h m.name)) c.if-try_separator.true c.try_separator.ensures.value e c.print_scoped_name.ensures.prints;
+    }
+
+pub print_item-returns-in-Pointer : goal.print_item-returns-in-Pointer
+unfolding tree_of
+print_item-returns-in-Pointer t c =
+    let ts = forest c.args.arena.now in
+    let e = c.node_at.ensures.tree ∙ ap (tree_of c.args.arena.now.held ts) c.in-Pointer.is in
+    record {
+      prints = pointer_item c.print_pointer.result c.args.out.now _ c.print_pointer.new.out _ c.args.is_first c.args.env (tree_at ts c.args.t)
+          (tree_at ts c.in-Pointer.u) c.if-try_separator-3.true (search rules) e c.print_pointer.ensures.prints;
+    }
+
+pub print_item-returns-in-Reference : goal.print_item-returns-in-Reference
+unfolding tree_of
+print_item-returns-in-Reference t c =
+    let ts = forest c.args.arena.now in
+    let e = c.node_at.ensures.tree ∙ ap (tree_of c.args.arena.now.held ts) c.in-Reference.is in
+    record {
+      prints = reference_item c.print_reference.result c.args.out.now _ c.print_reference.new.out _ c.args.is_first c.args.env (tree_at ts c.args.t)
+          (tree_at ts c.in-Reference.u) c.in-Reference.is_lvalue c.if-try_separator-4.true (search rules) e c.print_reference.ensures.prints;
+    }
+
+pub print_expansion-loop-k-preserved : goal.print_expansion-loop-k-preserved
+print_expansion-loop-k-preserved t c =
+    let x = item (tree_at (forest c.args.arena.now) c.args.t) in
+    let printed = (c.in-Ok-print.ensures {u = tt}).prints ∙ ap (λ (e : Env). c.write_separator.new.out ++ whole (x.printed e)) c.at-in-loop-k.ensures.value in
+    so_far_step c.args.out.now _ _ (repeated c.in-Some.n 0 c.args.env x) _ _ _ c.loop-k.invariant (repeated_step _ _ _ _ c.loop-k-test.true)
+    (added_twice _ _ _ _ _ (c.in-Ok-write_separator.ensures {u = tt}).prints printed)
+
+pub print_expansion-returns : goal.print_expansion-returns
+print_expansion-returns t c =
+    let x = item (tree_at (forest c.args.arena.now) c.args.t) in
+    let all = repeated c.in-Some.n 0 c.args.env x in
+    let end = repeated_end c.in-Some.n c.loop-k.k c.args.env x (omega (arith, c.loop-k-test.false)) in
+    record {
+      prints = so_far_end c.args.out.now c.loop-k.out all _ c.loop-k.invariant end
+          ∙ ap (λ (o : Option ℕ). c.args.out.now ++ expansion_text c.args.env o x) (sym c.in-Some.is ∙ c.elements.ensures.value);
+    }
+
+pub left_declaration-returns-in-Ok-print_angles : goal.left_declaration-returns-in-Ok-print_angles
+unfolding print declaration_tree
+left_declaration-returns-in-Ok-print_angles t c =
+    let s = c.args.arena.now in
+    let r = c.write-in-TemplateParam-2.result in
+    let new = c.write-in-TemplateParam-2.new.out in
+    record {
+      prints = subst (λ (d : Declaration). Prints r c.args.out.now new ((print (declaration_tree s.held (forest s) d) c.args.env).text.left)) (sym c.in-TemplateParam.is)
+          (prints_three r c.args.out.now c.write-in-TemplateParam.new.out c.print_angles.new.out new (codes "template") _ (codes " typename ") c.in-Ok-write.ensures.prints
+          c.in-Ok-print_angles.ensures.prints c.write-in-TemplateParam-2.ensures.prints);
+    }
+
+pub right_array-returns : goal.right_array-returns
+right_array-returns t c =
+    let s = c.args.arena.now in
+    let r = c.print_right.result in
+    let new = c.print_right.new.out in
+    let element = (print (tree_at (forest s) c.args.element) c.args.env).text in
+    let dimension = (print_parts (parts_in s.held (forest s) c.args.dimension) c.args.env).text in
+    let behind = subst (Prints r c.write-2.new.out new) (ap (λ (l : List ℕ). l ++ element.right) (same-sides element.bracket [])) c.print_right.ensures.prints in
+    let bracket =
+    prints_three r c.write.new.out c.print_parts.new.out c.write-2.new.out new dimension (codes "]") element.right c.in-Ok-print_parts.ensures.prints c.in-Ok-write-2.ensures.prints behind in
+    record {
+      prints = prints_three r c.args.out.now c.write_blank_unless.new.out c.write.new.out new (blank_unless c.args.joined) (codes "[") _ c.in-Ok.ensures.prints c.in-Ok-write.ensures.prints bracket;
+    }
+
 pub print_pointer-returns-in-Ok : goal.print_pointer-returns-in-Ok
 unfolding tree_of
 print_pointer-returns-in-Ok t c =
@@ -217,103 +300,4 @@ print_reference-returns-in-Ok-print t c =
           (whole-cv-reference (tree_at ts c.args.i) (tree_at ts c.args.t) (tree_at ts c.in-Qualified.u) c.args.is_lvalue c.in-Qualified.cv c.args.env c.requires.tree
           (c.node_at.ensures.tree ∙ ap (tree_of h ts) c.in-Qualified.is) (c.is_plain.ensures.value c.if-is_plain.true))
           (prints_then c.write_cv_mark.result c.args.out.now _ c.write_cv_mark.new.out _ (cv_text c.in-Qualified.cv ++ mark c.args.is_lvalue) c.in-Ok-print.ensures.prints c.write_cv_mark.ensures.prints);
-    }
-
-pub print_item-returns-in-Plain-Name : goal.print_item-returns-in-Plain-Name
-unfolding tree_of plain_tree
-print_item-returns-in-Plain-Name t c =
-    let h = c.args.arena.now.held in
-    let ts = forest c.args.arena.now in
-    let m = c.in-Plain-Name in
-    let e = c.node_at.ensures.tree ∙ ap (tree_of h ts) m.is ∙ ap (plain_tree h ts) (rw m.is at m.field-0-is) in
-    record {
-      prints = name_item c.write_item.result c.args.out.now c.write_item.new.out c.bytes.result.now (text_at h m.text) c.args.is_first c.args.env (tree_at ts c.args.t)
-          e c.bytes.ensures.value c.write_item.ensures.prints;
-    }
-
-pub print_item-returns-in-Plain-Leaf : goal.print_item-returns-in-Plain-Leaf
-unfolding tree_of plain_tree
-print_item-returns-in-Plain-Leaf t c =
-    let h = c.args.arena.now.held in
-    let ts = forest c.args.arena.now in
-    let m = c.in-Plain-Leaf in
-    let e = c.node_at.ensures.tree ∙ ap (tree_of h ts) m.is ∙ ap (plain_tree h ts) (rw m.is at m.field-0-is) in
-    record {
-      prints = leaf_item c.write_item-in-Plain-Leaf.result c.args.out.now c.write_item-in-Plain-Leaf.new.out c.styled_bytes.result.now (text_at h m.llvm) (text_at h m.gnu) m.field-0-0
-          c.args.is_first c.args.env (tree_at ts c.args.t) e c.styled_bytes.ensures.value c.write_item-in-Plain-Leaf.ensures.prints;
-    }
-
-pub print_item-returns-in-Plain-ScopedName : goal.print_item-returns-in-Plain-ScopedName
-unfolding tree_of plain_tree
-print_item-returns-in-Plain-ScopedName t c =
-    let h = c.args.arena.now.held in
-    let ts = forest c.args.arena.now in
-    let m = c.in-Plain-ScopedName in
-    let e = c.node_at.ensures.tree ∙ ap (tree_of h ts) m.is ∙ ap (plain_tree h ts) (rw m.is at m.field-0-is) in
-    record {
-      prints = scoped_item c.print_scoped_name.result c.args.out.now c.try_separator.new.out c.print_scoped_name.new.out c.try_separator.result c.args.is_first c.args.env (tree_at ts c.args.t)
-          (tree_at ts m.scope) (named (text_at h m.name)) c.if-try_separator.true c.try_separator.ensures.value e c.print_scoped_name.ensures.prints;
-    }
-
-pub print_item-returns-in-Pointer : goal.print_item-returns-in-Pointer
-unfolding tree_of
-print_item-returns-in-Pointer t c =
-    let ts = forest c.args.arena.now in
-    let e = c.node_at.ensures.tree ∙ ap (tree_of c.args.arena.now.held ts) c.in-Pointer.is in
-    record {
-      prints = pointer_item c.print_pointer.result c.args.out.now c.try_separator-in-Pointer-1.new.out c.print_pointer.new.out c.try_separator-in-Pointer-1.result c.args.is_first c.args.env (tree_at ts c.args.t)
-          (tree_at ts c.in-Pointer.u) c.if-try_separator-3.true c.try_separator-in-Pointer-1.ensures.value e c.print_pointer.ensures.prints;
-    }
-
-pub print_item-returns-in-Reference : goal.print_item-returns-in-Reference
-unfolding tree_of
-print_item-returns-in-Reference t c =
-    let ts = forest c.args.arena.now in
-    let e = c.node_at.ensures.tree ∙ ap (tree_of c.args.arena.now.held ts) c.in-Reference.is in
-    record {
-      prints = reference_item c.print_reference.result c.args.out.now c.try_separator-in-Reference-1.new.out c.print_reference.new.out c.try_separator-in-Reference-1.result c.args.is_first c.args.env (tree_at ts c.args.t)
-          (tree_at ts c.in-Reference.u) c.in-Reference.is_lvalue c.if-try_separator-4.true c.try_separator-in-Reference-1.ensures.value e c.print_reference.ensures.prints;
-    }
-
-pub print_expansion-loop-k-preserved : goal.print_expansion-loop-k-preserved
-print_expansion-loop-k-preserved t c =
-    let x = item (tree_at (forest c.args.arena.now) c.args.t) in
-    let printed = (c.in-Ok-print.ensures {u = tt}).prints ∙ ap (λ (e : Env). c.write_separator.new.out ++ whole (x.printed e)) c.at-in-loop-k.ensures.value in
-    so_far_step c.args.out.now _ _ (repeated c.in-Some.n 0 c.args.env x) _ _ _ c.loop-k.invariant (repeated_step _ _ _ _ c.loop-k-test.true)
-    (added_twice _ _ _ _ _ (c.in-Ok-write_separator.ensures {u = tt}).prints printed)
-
-pub print_expansion-returns : goal.print_expansion-returns
-print_expansion-returns t c =
-    let x = item (tree_at (forest c.args.arena.now) c.args.t) in
-    let all = repeated c.in-Some.n 0 c.args.env x in
-    let end = repeated_end c.in-Some.n c.loop-k.k c.args.env x (omega (arith, c.loop-k-test.false)) in
-    record {
-      prints = so_far_end c.args.out.now c.loop-k.out all _ c.loop-k.invariant end
-          ∙ ap (λ (o : Option ℕ). c.args.out.now ++ expansion_text c.args.env o x) (sym c.in-Some.is ∙ c.elements.ensures.value);
-    }
-
-pub left_declaration-returns-in-Ok-print_angles : goal.left_declaration-returns-in-Ok-print_angles
-unfolding print declaration_tree
-left_declaration-returns-in-Ok-print_angles t c =
-    let s = c.args.arena.now in
-    let r = c.write-in-TemplateParam-2.result in
-    let new = c.write-in-TemplateParam-2.new.out in
-    record {
-      prints = subst (λ (d : Declaration). Prints r c.args.out.now new ((print (declaration_tree s.held (forest s) d) c.args.env).text.left)) (sym c.in-TemplateParam.is)
-          (prints_three r c.args.out.now c.write-in-TemplateParam.new.out c.print_angles.new.out new (codes "template") _ (codes " typename ") c.in-Ok-write.ensures.prints
-          c.in-Ok-print_angles.ensures.prints c.write-in-TemplateParam-2.ensures.prints);
-    }
-
-pub right_array-returns : goal.right_array-returns
-right_array-returns t c =
-    let s = c.args.arena.now in
-    let r = c.print_right.result in
-    let new = c.print_right.new.out in
-    let element = (print (tree_at (forest s) c.args.element) c.args.env).text in
-    let dimension = (print_parts (parts_in s.held (forest s) c.args.dimension) c.args.env).text in
-    let behind = subst (Prints r c.write-2.new.out new) (ap (λ (l : List ℕ). l ++ element.right) (same-sides element.bracket [])) c.print_right.ensures.prints in
-    let bracket =
-    prints_three r c.write.new.out c.print_parts.new.out c.write-2.new.out new dimension (codes "]") element.right c.in-Ok-print_parts.ensures.prints c.in-Ok-write-2.ensures.prints behind in
-    record {
-      prints = prints_three r c.args.out.now c.write_blank_unless.new.out c.write.new.out new (blank_unless c.args.joined) (codes "[") _ c.in-Ok.ensures.prints c.in-Ok-write.ensures.prints bracket;
     }
