@@ -4,12 +4,13 @@ use Rattle.std.specs.List.{AllByRecursion}
 use Rattle.cxx_tree.specs.Stored.{forest, tree_at, trees_at, parts_of, list_at, tree_of, plain_tree, declaration_tree, IsPlainBelow, text_at, trees_in, parts_in, size, IsPartBelow}
 use Rattle.cxx_printer.specs.Asked.{item}
 use Rattle.cxx_printer.specs.declared.env.Env.{Env}
-use Rattle.cxx_printer.specs.Print.{items_of, print, print_parts, whole, sequence, separated, declared, head, repeated, expansion_text, blank_unless, angles, collapsed}
+use Rattle.cxx_printer.specs.Print.{items_of, print, print_parts, whole, sequence, separated, declared, head, repeated, expansion_text, blank_unless, angles, collapsed, operand, parenthesized}
+use Rattle.cxx_tree.specs.declared.kinds.Prec.TheVariants.{Comma}
 use Rattle.cxx_tree.specs.Tree.{named}
 use Rattle.cxx_tree.specs.Measure.{measure, measure_parts}
 use Rattle.cxx_tree.specs.declared.node.Declaration.{Declaration}
 use Rattle.cxx_printer.proofs.Heights.{items_height, plain_height, run_height, item_height, part_falls, phrase_height}
-use Rattle.cxx_printer.specs.Words.{cv_text, in_angle, mark}
+use Rattle.cxx_printer.specs.Words.{cv_text, enclosed, in_angle, mark}
 use Rattle.cxx_printer.proofs.Appended.{prints_then, prints_nothing}
 use Rattle.cxx_printer.proofs.Symbols.{prints_three}
 use Rattle.cxx_printer.proofs.Declarators.{same-sides, signature-alone, whole-plain-pointer, whole-cv-pointer, whole-plain-reference, whole-cv-reference}
@@ -300,4 +301,18 @@ print_reference-returns-in-Ok-print t c =
           (whole-cv-reference (tree_at ts c.args.i) (tree_at ts c.args.t) (tree_at ts c.in-Qualified.u) c.args.is_lvalue c.in-Qualified.cv c.args.env c.requires.tree
           (c.node_at.ensures.tree ∙ ap (tree_of h ts) c.in-Qualified.is) (c.is_plain.ensures.value c.if-is_plain.true))
           (prints_then c.write_cv_mark.result c.args.out.now _ c.write_cv_mark.new.out _ (cv_text c.in-Qualified.cv ++ mark c.args.is_lvalue) c.in-Ok-print.ensures.prints c.write_cv_mark.ensures.prints);
+    }
+
+pub print_argument-returns : goal.print_argument-returns
+print_argument-returns t c =
+    let x = item (tree_at (forest c.args.arena.now) c.args.t) in
+    let env = c.args.env in
+    let r = c.write-2.result in
+    let new = c.write-2.new.out in
+    let text =
+    prints_three r c.args.out.now c.write.new.out c.print_operand-2.new.out new (codes "(") (operand c.enclosed.result Comma false x) (codes ")") c.in-Ok.ensures.prints
+    c.in-Ok-print_operand.ensures.prints c.write-2.ensures.prints in
+    record {
+      prints = subst (λ (b : Bool). Prints r c.args.out.now new (if b then parenthesized (operand (enclosed env) Comma false x) else operand env Comma true x)) (sym c.if-not-is_llvm.false ∙ c.is_llvm.ensures.value)
+          (subst (λ (e : Env). Prints r c.args.out.now new (parenthesized (operand e Comma false x))) c.enclosed.ensures.value text);
     }
