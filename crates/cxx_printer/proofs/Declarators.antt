@@ -12,14 +12,14 @@ use Rattle.cxx_printer.specs.Asked.{IsLeft, OneSided}
 use Rattle.cxx_printer.specs.declared.env.Env.{Env}
 use Rattle.cxx_printer.specs.declared.words.Form.{Form}
 use Rattle.cxx_printer.specs.Heads.{protocol_of}
-use Rattle.cxx_printer.specs.Print.{Sides, Item, Run, parens, qualifiers, signature_right, print, whole, right_behind, blank_unless, with_cv, pointed, refers, reference_to, collapsed}
+use Rattle.cxx_printer.specs.Print.{Printed, Sides, Item, Run, parens, qualifiers, signature_right, print, whole, right_behind, with_cv, pointed, refers, reference_to, collapsed}
 use Rattle.cxx_printer.specs.Words.{is_llvm, cv_text, mark, opened, closed}
-use Rattle.cxx_printer.proofs.Packs.{closed_nothing, plain-one_sided, qualified-one_sided}
+use Rattle.cxx_printer.proofs.Packs.{closed_nothing, one-side, plain-joinable, plain-one_sided, qualified-one_sided}
 
-one-side : (x : Sides) (c : Bool) → IsLeft x → x.left ++ right_behind c x ≡ x.left
-one-side x c h =
-    ap (λ (b : Bool). x.left ++ ((if b then blank_unless c else []) ++ x.right)) h.1
-    ∙ ap (λ (l : List ℕ). x.left ++ l) h.0 ∙ append-nil x.left
+-- a tree with one side
+pub whole-left : (t : Tree) (env : Env) → OneSided t → whole (print t env) ≡ (print t env).text.left
+unfolding OneSided
+whole-left t env h = one-side (print t env).text (print t env).closed (h env).0
 
 declared-left : (x : Sides) (k : List ℕ) → IsLeft x → (x.left ++ (opened x.form ++ k)) ++ (closed x.form ++ right_behind false x) ≡ x.left ++ k
 unfolding opened
@@ -70,29 +70,11 @@ whole-cv-reference t u w l cv env e f os =
     (ap (λ (v : Tree). (print v env).base) f ∙ sym (ap (λ (v : Tree). (print v env).text) f)) (qualified-one_sided w cv u f os)
 
 -- a node with one side
-plain-itself : (h : Held) (ts : List Tree) (p : Plain) (env : Env) → ((print (plain_tree h ts p) env).kind ≡ None) × ((print (plain_tree h ts p) env).base ≡ (print (plain_tree h ts p) env).text)
-unfolding print plain_tree
-plain-itself h ts (plain.Name x) env = (refl, refl)
-plain-itself h ts (plain.Leaf a x y) env = (refl, refl)
-plain-itself h ts (plain.StdName k x) env = (refl, refl)
-plain-itself h ts (plain.Phrase a x) env = (refl, refl)
-plain-itself h ts (plain.Scoped true q n) env = (refl, refl)
-plain-itself h ts (plain.Scoped false q n) env = (refl, refl)
-plain-itself h ts (plain.ScopedName q x) env = (refl, refl)
-plain-itself h ts (plain.WithArgs n x) env = (refl, refl)
-plain-itself h ts (plain.AbiTag n x) env = (refl, refl)
-plain-itself h ts (plain.InModule n m) env = (refl, refl)
-plain-itself h ts (plain.Data n) env = (refl, refl)
-plain-itself h ts (plain.ObjcProtocol t x) env = (refl, refl)
-plain-itself h ts (plain.Several x) env = (refl, refl)
-plain-itself h ts (plain.Expansion t) env = (refl, refl)
-plain-itself h ts (plain.Param l i) env = (refl, refl)
-
 pub whole-plain-reference : (h : Held) (ts : List Tree) (p : Plain) (t u : Tree) (l : Bool) (env : Env) → t ≡ reference u l → u ≡ plain_tree h ts p → whole (print u env) ++ mark l ≡ whole (print t env)
 whole-plain-reference h ts p t u l env e f =
-    let i = plain-itself h ts p env in
-    whole-reference t u l env e (ap (λ (v : Tree). (print v env).kind) f ∙ i.0)
-    (ap (λ (v : Tree). (print v env).base) f ∙ i.1 ∙ sym (ap (λ (v : Tree). (print v env).text) f)) (plain-one_sided h ts p u f)
+    let q = ap (λ (v : Tree). print v env) f ∙ plain-joinable h ts p env in
+    whole-reference t u l env e (ap (λ (x : Printed). x.kind) q) (ap (λ (x : Printed). x.base) q ∙ sym (ap (λ (x : Printed). x.text) q))
+    (plain-one_sided h ts p u f)
 
 plain-no_protocol : (h : Held) (ts : List Tree) (p : Plain) → ((t : ℕ) (w : stored.NodeText) → p ≡ plain.ObjcProtocol t w → ⊥) → protocol_of (plain_tree h ts p) ≡ None
 unfolding protocol_of plain_tree
@@ -117,9 +99,11 @@ whole-plain-pointer h ts p t u env e f other =
     whole-pointer t u env e (ap protocol_of f ∙ plain-no_protocol h ts p other) (plain-one_sided h ts p u f)
 
 -- a function without its return type
-same-sides : (b : Bool) (l : List ℕ) → (if b then l else l) ≡ l
+pub same-sides : (b : Bool) (l : List ℕ) → (if b then l else l) ≡ l
 same-sides true l = refl
 same-sides false l = refl
 
 pub signature-alone : (env : Env) (params : List Item) (cv : Cv) (ref : RefQual) (rest : Run) → signature_right env [] params cv ref rest ≡ parens env params ++ qualifiers cv ref rest.text
 signature-alone env params cv ref rest = ap (λ (l : List ℕ). parens env params ++ l) (same-sides (is_llvm env) (qualifiers cv ref rest.text))
+
+pub ruleset one_sided = (whole-left, whole-qualified)

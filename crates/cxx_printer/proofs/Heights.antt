@@ -12,7 +12,7 @@ use Rattle.cxx_tree.specs.declared.node.Plain.{Plain}
 use Rattle.cxx_tree.specs.declared.node.Declaration.{Declaration}
 use Rattle.cxx_tree.specs.declared.node.Node.{Node}
 use Rattle.cxx_tree.specs.Tree.{Tree, Parts, no_parts, text, tree, trees}
-use Rattle.cxx_tree.specs.Measure.{Measure, measure, measure_each, measure_parts, part_measure}
+use Rattle.cxx_tree.specs.Measure.{Measure, measure, measure_parts, part_measure}
 use Rattle.cxx_tree.specs.Stored.{Store, forest, tree_at, trees_at, tree_of, plain_tree, declaration_tree, option_at, list_at, parts_at, parts_of, parts_in}
 use Rattle.cxx_printer.specs.Asked.{height, highest}
 
@@ -83,13 +83,13 @@ rest_height s (part.Tree m t) ps = omega arith
 rest_height s (part.Trees listing l) ps = omega arith
 
 -- a part is at most as high as its phrase
-pub in_run_height : (s : Store) (ps : List Part) (k : ℕ) (d : Part) → k < length ps → part_height s (get_or ps k d) ≤ run_height s ps
+in_run_height : (s : Store) (ps : List Part) (k : ℕ) (d : Part) → k < length ps → part_height s (get_or ps k d) ≤ run_height s ps
 in_run_height s [] k d h = absurd (omega arith)
 in_run_height s (p ∷ ps) zero d h = first_height s p ps
 in_run_height s (p ∷ ps) (suc k) d h = omega (arith, in_run_height s ps k d (omega arith), rest_height s p ps)
 
-pub part_falls : (s : Store) (ps : List Part) (k : ℕ) (d : Part) (t : ℕ) → k < length ps → t ≡ 64 * run_height s ps + 55 → 64 * part_height s (get_or ps k d) + 54 < t
-part_falls s ps k d t h e = omega (arith, in_run_height s ps k d h)
+pub part_falls : (s : Store) (ps : List Part) (k : ℕ) (d : Part) (t : ℕ) → k < length ps → 64 * run_height s ps + 54 < t → 64 * part_height s (get_or ps k d) + 54 < t
+part_falls s ps k d t h e = omega (arith, in_run_height s ps k d h, e)
 
 -- the order of its packs doesn't change the height of a phrase
 pub phrase_height : (reversed : Bool) (ps : Parts) → (measure_parts reversed ps).height ≡ (measure_parts false ps).height

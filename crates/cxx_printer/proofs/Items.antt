@@ -130,17 +130,17 @@ still_first out new (b ∷ bs) start h e =
     (grind (arith, n, h), omega (arith, n, h))
 
 -- what is printed of a list so far, and what is left
-pub items_step : (ts : List Tree) (is : List ℕ) (env : Env) (old out new all : List ℕ) (start k d : ℕ) → start ≡ length old → k < length is
+pub items_step : (ts : List Tree) (is : List ℕ) (env : Env) (old out new all : List ℕ) (first : Bool) (k d : ℕ) → first ≡ nat_eq (length out) (length old) → k < length is
     → (old ++ all ≡ out ++ list_from (nat_eq (length out) (length old)) env (items_of (trees_at ts (drop k is)))) × (length old ≤ length out)
-    → new ≡ out ++ item_behind (nat_eq (length out) start) (item_text env (item (tree_at ts (get_or is k d))))
+    → new ≡ out ++ item_behind first (item_text env (item (tree_at ts (get_or is k d))))
     → (old ++ all ≡ new ++ list_from (nat_eq (length new) (length old)) env (items_of (trees_at ts (drop (k + 1) is)))) × (length old ≤ length new)
-items_step ts is env old out new all start k d s h inv e =
+items_step ts is env old out new all first k d s h inv e =
     let text = item_text env (item (tree_at ts (get_or is k d))) in
-    let first = nat_eq (length out) (length old) in
+    let same = nat_eq (length out) (length old) in
     let more = items_of (trees_at ts (drop (k + 1) is)) in
-    let f : new ≡ out ++ item_behind first text = e ∙ ap (λ (n : ℕ). out ++ item_behind (nat_eq (length out) n) text) s in
+    let f : new ≡ out ++ item_behind same text = e ∙ ap (λ (b : Bool). out ++ item_behind b text) s in
     let next = still_first out new text (length old) inv.1 f in (
-      so_far_step old out new all (list_from first env (items_of (trees_at ts (drop k is)))) (item_behind first text) (list_from (is_still_first first text) env more) inv.0
-          (list_step ts is env first k d h) f ∙ ap (λ (b : Bool). new ++ list_from b env more) next.0,
+      so_far_step old out new all (list_from same env (items_of (trees_at ts (drop k is)))) (item_behind same text) (list_from (is_still_first same text) env more) inv.0
+          (list_step ts is env same k d h) f ∙ ap (λ (b : Bool). new ++ list_from b env more) next.0,
       next.1,
     )

@@ -2,26 +2,22 @@ use Rattle.std.proofs.Common.{ℕ, ◌≡◌, ◌<◌, ◌≤◌, Bool, true, fa
 use Rattle.std.proofs.Math.ListN.{get_or}
 use Rattle.std.proofs.lemmas.List.{append-nil}
 use Rattle.std.specs.List.{AllByRecursion}
-use Rattle.std.specs.Prelude.{is_some, unwrap_or, if◌then◌else◌}
-use Rattle.std.specs.Option.{option_map_or}
+use Rattle.std.specs.Prelude.{is_some, if◌then◌else◌}
 use mathlib.Core.Bool.{true≢false}
 use Rattle.cxx_tree.specs.declared.node.Part.{Part}
 use Rattle.cxx_tree.specs.declared.node.Part.TheVariants as part
 use Rattle.cxx_tree.specs.declared.node.Plain.{Plain}
 use Rattle.cxx_tree.specs.declared.node.Plain.TheVariants as plain
-use Rattle.cxx_tree.specs.declared.node.Declaration.{Declaration}
-use Rattle.cxx_tree.specs.declared.node.Declaration.TheVariants as declaration
 use Rattle.cxx_tree.specs.Tree.{Tree, Trees, pack, qualified, pointer, reference}
-use Rattle.cxx_tree.specs.Stored.{Held, tree_at, trees_at, plain_tree, declaration_tree, parts_of, IsPartBelow}
+use Rattle.cxx_tree.specs.Stored.{Held, tree_at, trees_at, plain_tree, parts_of, IsPartBelow}
 use Rattle.cxx_printer.specs.Asked.{Refers, IsLeft, OneSided, ends_of_part, run_ends}
 use Rattle.cxx_printer.specs.declared.env.Env.{Env}
 use Rattle.cxx_printer.specs.Words.{ending, ending_of_byte, opened, closed}
 use Rattle.cxx_printer.specs.declared.words.Form.{Form}
 use Rattle.cxx_printer.specs.Heads.{protocol_of}
 use Rattle.cxx_tree.specs.declared.kinds.Cv.{Cv}
-use Rattle.cxx_printer.specs.Print.{Printed, FunctionTexts, Sides, simple, print, print_parts, whole, right_behind, blank_unless, in_scope, without_return, head, declared_name, pointed, items_of, printed_at, nothing, element_of, last_ends}
+use Rattle.cxx_printer.specs.Print.{Printed, Sides, simple, joinable, print, print_parts, whole, right_behind, blank_unless, without_return, head, declared_name, pointed, items_of, printed_at, nothing, element_of, last_ends}
 use Rattle.cxx_printer.specs.declared.shapes.Ending.TheVariants.{Other}
-use Rattle.cxx_printer.specs.declared.shapes.Ending.{Ending}
 
 -- the element of a pack
 pub printed_at-item : (ts : List Tree) (is : List ℕ) (env : Env) (k d : ℕ) → k < length is → printed_at (items_of (trees_at ts is)) k env ≡ print (tree_at ts (get_or is k d)) env
@@ -84,34 +80,17 @@ pack-past ts is us env k e f h =
     ∙ ap element_of (printed_at-past ts is env k h)
 
 -- how parts end
-abbrev last_of : Ending → Option Ending → Option Ending
-last_of ends rest = Some (unwrap_or rest ends)
-
-last_of-some : (e : Ending) (o : Option Ending) → (x : Ending) × (last_of e o ≡ Some x)
-last_of-some e None = (e, refl)
-last_of-some e (Some x) = (x, refl)
-
-ends-some : (h : Held) (ts : List Tree) (env : Env) (p : Part) (ps : List Part) → (x : Ending) × ((print_parts (parts_of h ts (p ∷ ps)) env).ends ≡ Some x)
-unfolding print
-ends-some h ts env (part.Text a b) ps = last_of-some _ (print_parts (parts_of h ts ps) env).ends
-ends-some h ts env (part.Tree manner t) ps = last_of-some _ (print_parts (parts_of h ts ps) env).ends
-ends-some h ts env (part.Trees listing l) ps = last_of-some _ (print_parts (parts_of h ts ps) env).ends
-
-none-some : (x : Ending) → None ≡ Some x → ⊥
-none-some x h = true≢false (sym (ap is_some h))
-
-last_of-rest : (e : Ending) (o : Option Ending) (x : Ending) → o ≡ Some x → last_of e o ≡ o
-last_of-rest e None x h = absurd (none-some x h)
-last_of-rest e (Some y) x h = refl
-
 ends-rest : (h : Held) (ts : List Tree) (env : Env) (p q : Part) (ps : List Part) → (print_parts (parts_of h ts (p ∷ q ∷ ps)) env).ends ≡ (print_parts (parts_of h ts (q ∷ ps)) env).ends
 unfolding print
-ends-rest h ts env (part.Text a b) q ps =
-    let some = ends-some h ts env q ps in last_of-rest _ (print_parts (parts_of h ts (q ∷ ps)) env).ends some.0 some.1
-ends-rest h ts env (part.Tree manner t) q ps =
-    let some = ends-some h ts env q ps in last_of-rest _ (print_parts (parts_of h ts (q ∷ ps)) env).ends some.0 some.1
-ends-rest h ts env (part.Trees listing l) q ps =
-    let some = ends-some h ts env q ps in last_of-rest _ (print_parts (parts_of h ts (q ∷ ps)) env).ends some.0 some.1
+ends-rest h ts env (part.Text a b) (part.Text x y) ps = refl
+ends-rest h ts env (part.Text a b) (part.Tree m u) ps = refl
+ends-rest h ts env (part.Text a b) (part.Trees k v) ps = refl
+ends-rest h ts env (part.Tree manner t) (part.Text x y) ps = refl
+ends-rest h ts env (part.Tree manner t) (part.Tree m u) ps = refl
+ends-rest h ts env (part.Tree manner t) (part.Trees k v) ps = refl
+ends-rest h ts env (part.Trees listing l) (part.Text x y) ps = refl
+ends-rest h ts env (part.Trees listing l) (part.Tree m u) ps = refl
+ends-rest h ts env (part.Trees listing l) (part.Trees k v) ps = refl
 
 pub parts-end-at : (h : Held) (ts : List Tree) (env : Env) (ps : List Part) (k : ℕ) (d : Part) → length ps ≡ suc k → run_ends (print_parts (parts_of h ts ps) env).ends ≡ ends_of_part h ts env (get_or ps k d)
 unfolding print ends_of_part
@@ -141,82 +120,56 @@ closed_nothing t e =
     ap (λ (f : Form). closed f ++ right_behind false t) e.2
     ∙ ap (λ (b : Bool). (if b then blank_unless false else []) ++ t.right) e.1 ∙ e.0
 
+pub one-side : (x : Sides) (c : Bool) → IsLeft x → x.left ++ right_behind c x ≡ x.left
+one-side x c h =
+    ap (λ (b : Bool). x.left ++ ((if b then blank_unless c else []) ++ x.right)) h.1
+    ∙ ap (λ (l : List ℕ). x.left ++ l) h.0 ∙ append-nil x.left
+
+-- a node with one side has a text, and nothing else but how the text ends
+pub plain-joinable : (h : Held) (ts : List Tree) (p : Plain) (env : Env) → let q = print (plain_tree h ts p) env in q ≡ joinable q.text.left q.closed q.ends
+unfolding print plain_tree
+plain-joinable h ts (plain.Name x) env = refl
+plain-joinable h ts (plain.Leaf a x y) env = refl
+plain-joinable h ts (plain.StdName k x) env = refl
+plain-joinable h ts (plain.Phrase a x) env = refl
+plain-joinable h ts (plain.Scoped true q n) env = refl
+plain-joinable h ts (plain.Scoped false q n) env = refl
+plain-joinable h ts (plain.ScopedName q x) env = refl
+plain-joinable h ts (plain.WithArgs n x) env = refl
+plain-joinable h ts (plain.AbiTag n x) env = refl
+plain-joinable h ts (plain.InModule n m) env = refl
+plain-joinable h ts (plain.Data n) env = refl
+plain-joinable h ts (plain.ObjcProtocol t x) env = refl
+plain-joinable h ts (plain.Several x) env = refl
+plain-joinable h ts (plain.Expansion t) env = refl
+plain-joinable h ts (plain.Param l i) env = refl
+
 plain-left : (h : Held) (ts : List Tree) (p : Plain) (env : Env) → IsLeft (print (plain_tree h ts p) env).text × IsLeft (print (plain_tree h ts p) env).base
-unfolding print plain_tree
-plain-left h ts (plain.Name x) env = ((refl, refl, refl), (refl, refl, refl))
-plain-left h ts (plain.Leaf a x y) env = ((refl, refl, refl), (refl, refl, refl))
-plain-left h ts (plain.StdName k x) env = ((refl, refl, refl), (refl, refl, refl))
-plain-left h ts (plain.Phrase a x) env = ((refl, refl, refl), (refl, refl, refl))
-plain-left h ts (plain.Scoped true q n) env = ((refl, refl, refl), (refl, refl, refl))
-plain-left h ts (plain.Scoped false q n) env = ((refl, refl, refl), (refl, refl, refl))
-plain-left h ts (plain.ScopedName q x) env = ((refl, refl, refl), (refl, refl, refl))
-plain-left h ts (plain.WithArgs n x) env = ((refl, refl, refl), (refl, refl, refl))
-plain-left h ts (plain.AbiTag n x) env = ((refl, refl, refl), (refl, refl, refl))
-plain-left h ts (plain.InModule n m) env = ((refl, refl, refl), (refl, refl, refl))
-plain-left h ts (plain.Data n) env = ((refl, refl, refl), (refl, refl, refl))
-plain-left h ts (plain.ObjcProtocol t x) env = ((refl, refl, refl), (refl, refl, refl))
-plain-left h ts (plain.Several x) env = ((refl, refl, refl), (refl, refl, refl))
-plain-left h ts (plain.Expansion t) env = ((refl, refl, refl), (refl, refl, refl))
-plain-left h ts (plain.Param l i) env = ((refl, refl, refl), (refl, refl, refl))
+plain-left h ts p env =
+    let e = plain-joinable h ts p env in
+    let text = ap (λ (q : Printed). q.text) e in
+    let base = ap (λ (q : Printed). q.base) e in (
+      (ap (λ (x : Sides). x.right) text, ap (λ (x : Sides). x.bracket) text, ap (λ (x : Sides). x.form) text),
+      (ap (λ (x : Sides). x.right) base, ap (λ (x : Sides). x.bracket) base, ap (λ (x : Sides). x.form) base),
+    )
 
--- a tree with one side has no other texts, as a function or a declaration has
-pub plain-asked : (h : Held) (ts : List Tree) (p : Plain) (env : Env) → ((print (plain_tree h ts p) env).function ≡ None) × ((print (plain_tree h ts p) env).declaration ≡ None)
-unfolding print plain_tree
-plain-asked h ts (plain.Name x) env = (refl, refl)
-plain-asked h ts (plain.Leaf a x y) env = (refl, refl)
-plain-asked h ts (plain.StdName k x) env = (refl, refl)
-plain-asked h ts (plain.Phrase a x) env = (refl, refl)
-plain-asked h ts (plain.Scoped true q n) env = (refl, refl)
-plain-asked h ts (plain.Scoped false q n) env = (refl, refl)
-plain-asked h ts (plain.ScopedName q x) env = (refl, refl)
-plain-asked h ts (plain.WithArgs n x) env = (refl, refl)
-plain-asked h ts (plain.AbiTag n x) env = (refl, refl)
-plain-asked h ts (plain.InModule n m) env = (refl, refl)
-plain-asked h ts (plain.Data n) env = (refl, refl)
-plain-asked h ts (plain.ObjcProtocol t x) env = (refl, refl)
-plain-asked h ts (plain.Several x) env = (refl, refl)
-plain-asked h ts (plain.Expansion t) env = (refl, refl)
-plain-asked h ts (plain.Param l i) env = (refl, refl)
+-- a node with one side is no function, and no declaration
+plain-printed : (h : Held) (ts : List Tree) (p : Plain) (t : Tree) (env : Env) → t ≡ plain_tree h ts p → let q = print (plain_tree h ts p) env in print t env ≡ joinable q.text.left q.closed q.ends
+plain-printed h ts p t env e = ap (λ (v : Tree). print v env) e ∙ plain-joinable h ts p env
 
-pub plain-whole : (h : Held) (ts : List Tree) (p : Plain) (t : Tree) (env : Env) → t ≡ plain_tree h ts p → (print (plain_tree h ts p) env).text.left ≡ whole (print t env)
-plain-whole h ts p t env e =
-    let q = print (plain_tree h ts p) env in
-    let l = (plain-left h ts p env).0 in
-    sym (ap (λ (b : Bool). q.text.left ++ ((if b then blank_unless q.closed else []) ++ q.text.right)) l.1 ∙ ap (λ (r : List ℕ). q.text.left ++ r) l.0 ∙ append-nil q.text.left)
-    ∙ sym (ap (λ (v : Tree). whole (print v env)) e)
-
-pub plain-scope : (h : Held) (ts : List Tree) (p : Plain) (t : Tree) (env : Env) → t ≡ plain_tree h ts p → (print (plain_tree h ts p) env).text.left ≡ without_return (print t env)
+pub plain-scope : (h : Held) (ts : List Tree) (p : Plain) (t : Tree) (env : Env) → t ≡ plain_tree h ts p → whole (print t env) ≡ without_return (print t env)
 plain-scope h ts p t env e =
-    plain-whole h ts p (plain_tree h ts p) env refl
-    ∙ sym (ap (λ (o : Option FunctionTexts). option_map_or (λ f. f.scope) o (whole (print (plain_tree h ts p) env))) (plain-asked h ts p env).0)
-    ∙ sym (ap (λ (v : Tree). without_return (print v env)) e)
+    let q = plain-printed h ts p t env e in ap whole q ∙ sym (ap without_return q)
 
-pub plain-head : (h : Held) (ts : List Tree) (p : Plain) (t : Tree) (env : Env) → t ≡ plain_tree h ts p → (print (plain_tree h ts p) env).text.left ≡ head (print t env)
+pub plain-head : (h : Held) (ts : List Tree) (p : Plain) (t : Tree) (env : Env) → t ≡ plain_tree h ts p → whole (print t env) ≡ head (print t env)
 plain-head h ts p t env e =
-    plain-whole h ts p (plain_tree h ts p) env refl
-    ∙ sym (ap (λ (o : Option (record { head : List ℕ; name : List ℕ })). option_map_or (λ d. d.head) o (whole (print (plain_tree h ts p) env))) (plain-asked h ts p env).1)
-    ∙ sym (ap (λ (v : Tree). head (print v env)) e)
+    let q = plain-printed h ts p t env e in ap whole q ∙ sym (ap head q)
 
 pub plain-declares : (h : Held) (ts : List Tree) (p : Plain) (t : Tree) (env : Env) → t ≡ plain_tree h ts p → declared_name (print t env) ≡ []
-plain-declares h ts p t env e =
-    ap (λ (v : Tree). declared_name (print v env)) e
-    ∙ ap (λ (o : Option (record { head : List ℕ; name : List ℕ })). option_map_or (λ d. d.name) o []) (plain-asked h ts p env).1
+plain-declares h ts p t env e = ap declared_name (plain-printed h ts p t env e)
 
 pub plain-right : (h : Held) (ts : List Tree) (p : Plain) (t : Tree) (env : Env) (joined : Bool) → t ≡ plain_tree h ts p → right_behind joined (print t env).text ≡ []
-plain-right h ts p t env joined e =
-    let q = print (plain_tree h ts p) env in
-    let l = (plain-left h ts p env).0 in
-    ap (λ (v : Tree). right_behind joined (print v env).text) e
-    ∙ ap (λ (b : Bool). (if b then blank_unless joined else []) ++ q.text.right) l.1 ∙ l.0
-
--- a name in a scope ends as the name does
-pub in_scope-closed : (friend : Bool) (env : Env) (q n : Printed) → n.closed ≡ (in_scope friend env q n).closed
-in_scope-closed true env q n = refl
-in_scope-closed false env q n = refl
-
-pub in_scope-ends : (friend : Bool) (env : Env) (q n : Printed) → n.ends ≡ (in_scope friend env q n).ends
-in_scope-ends true env q n = refl
-in_scope-ends false env q n = refl
+plain-right h ts p t env joined e = ap (λ (q : Printed). right_behind joined q.text) (plain-printed h ts p t env e)
 
 pub plain-one_sided : (h : Held) (ts : List Tree) (p : Plain) (t : Tree) → t ≡ plain_tree h ts p → OneSided t
 unfolding OneSided
@@ -257,3 +210,5 @@ unfolding closed
 right-none b e = ap (λ (t : Sides). closed t.form ++ right_behind false t) e
 
 pub ruleset packs = (below_at, ending-at, ending-none, last_ends-at, last_ends-none, parts-end-at, parts-end-none, in_parts)
+
+pub ruleset plains = (plain-scope, plain-head, plain-declares, plain-right)

@@ -38,11 +38,6 @@ pieces_text-some [] h = absurd (omega arith)
 pieces_text-some (b ∷ bs) h = refl
 
 -- what is appended so far, and what is left
-pub so_far-step : (a b c all rest x more : List ℕ) → a ++ all ≡ b ++ rest → rest ≡ x ++ more → c ≡ b ++ x
-    → a ++ all ≡ c ++ more
-so_far-step a b c all rest x more h e k =
-    h ∙ ap (λ (l : List ℕ). b ++ l) e ∙ sym (append_assoc b x more) ∙ ap (λ (l : List ℕ). l ++ more) (sym k)
-
 pub so_far-end : (r : Result (Unit {0}) AllocError) (a b c all rest x : List ℕ) → a ++ all ≡ b ++ rest
     → rest ≡ x → Prints r b c x → Prints r a c all
 so_far-end (Ok u) a b c all rest x h e k = k ∙ ap (λ (l : List ℕ). b ++ l) (sym e) ∙ sym h

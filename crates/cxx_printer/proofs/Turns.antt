@@ -1,5 +1,5 @@
 -- What the turns of the printer's loops append.
-use Rattle.std.proofs.Common.{ℕ, ◌≡◌, ◌+◌, ◌-◌, ◌<◌, ◌≤◌, Bool, false, List, [], ◌∷◌, ◌++◌, length, drop, refl, sym, ap, ◌∙◌, arith, append_assoc, zero, suc, nat_eq, if◌then◌else◌}
+use Rattle.std.proofs.Common.{ℕ, ◌≡◌, ◌+◌, ◌-◌, ◌<◌, ◌≤◌, Bool, false, List, [], ◌∷◌, ◌++◌, length, drop, refl, sym, ap, ◌∙◌, arith, append_assoc, zero, suc, nat_eq}
 use Rattle.std.proofs.Math.ListN.{get_or}
 use Rattle.std.proofs.lemmas.List.{append-nil}
 use Rattle.cxx_tree.specs.declared.node.Part.{Part}
@@ -8,8 +8,8 @@ use Rattle.cxx_tree.specs.Tree.{Tree}
 use Rattle.cxx_tree.specs.Stored.{Held, tree_at, trees_at, parts_of}
 use Rattle.cxx_printer.specs.declared.env.Env.{Env}
 use Rattle.cxx_printer.specs.Words.{at}
-use Rattle.cxx_printer.specs.Print.{Printed, Item, items_of, print, print_parts, whole, separator, item_behind, is_still_first, item_text, list_from, sequence, separated, repeated, blank_unless}
-use Rattle.cxx_printer.specs.Asked.{OneSided, item, text_of_part}
+use Rattle.cxx_printer.specs.Print.{Printed, Item, items_of, print, print_parts, whole, separator, item_behind, is_still_first, item_text, list_from, sequence, separated, repeated}
+use Rattle.cxx_printer.specs.Asked.{item, text_of_part}
 
 -- what is printed so far and what is left make the whole
 pub so_far_step : (a b new all rest x more : List ℕ) → a ++ all ≡ b ++ rest → rest ≡ x ++ more → new ≡ b ++ x → a ++ all ≡ new ++ more
@@ -96,10 +96,3 @@ parts_step h ts (p ∷ ps) env (suc k) d b =
     let e : suc k + 1 ≡ suc (k + 1) = omega arith in
     parts_step h ts ps env k d (omega arith)
     ∙ ap (λ (j : ℕ). text_of_part h ts env (get_or ps k d) ++ (print_parts (parts_of h ts (drop j (p ∷ ps))) env).text) (sym e)
-
--- a tree with one side
-pub whole-left : (t : Tree) (env : Env) → OneSided t → whole (print t env) ≡ (print t env).text.left
-unfolding OneSided
-whole-left t env h =
-    ap (λ (b : Bool). (print t env).text.left ++ ((if b then blank_unless (print t env).closed else []) ++ (print t env).text.right)) (h env).0.1
-    ∙ ap (λ (l : List ℕ). (print t env).text.left ++ l) (h env).0.0 ∙ append-nil (print t env).text.left

@@ -60,45 +60,14 @@ pub fn is_simple(arena: &Arena, i: u32) -> bool
     ensures value { result ≡ spec.is_simple (tree_at (forest arena.now) i) }
 {
     match *arena.node(i) {
-        Node::Plain(ref plain) => match *plain {
-            Plain::Name(_) => true,
-            Plain::Leaf(is_simple, _, _) => is_simple,
-            Plain::Phrase(phrase, _) => is_simple_role(phrase.role),
-            Plain::Scoped(is_friend, _, name) => !is_friend && !has_args(arena, name),
-            Plain::ScopedName(_, _) => true,
-            Plain::Data(name) => is_simple(arena, name),
-            _ => false,
-        },
+        Node::Plain(Plain::Name(_)) | Node::Plain(Plain::ScopedName(_, _)) => true,
+        Node::Plain(Plain::Leaf(is_simple, _, _)) => is_simple,
+        Node::Plain(Plain::Phrase(phrase, _)) => matches!(phrase.role, Role::Simple),
+        Node::Plain(Plain::Scoped(is_friend, _, name)) => {
+            !is_friend && !matches!(*arena.node(name), Node::Plain(Plain::WithArgs(_, _)))
+        }
+        Node::Plain(Plain::Data(name)) => is_simple(arena, name),
         _ => false,
-    }
-}
-
-fn is_simple_role(role: Role) -> bool
-    ensures value { result ≡ spec.is_simple_role role }
-{
-    match role {
-        Role::Simple => true,
-        Role::Ordinary | Role::Designator | Role::Module => false,
-    }
-}
-
-// Whether a node is a name with template arguments.
-fn has_args(arena: &Arena, i: u32) -> bool
-    requires within { i < size arena.now }
-    ensures value { result ≡ spec.has_args (tree_at (forest arena.now) i) }
-{
-    match *arena.node(i) {
-        Node::Plain(Plain::WithArgs(_, _)) => true,
-        _ => false,
-    }
-}
-
-fn is_designator_role(role: Role) -> bool
-    ensures value { result ≡ spec.is_designator_role role }
-{
-    match role {
-        Role::Designator => true,
-        Role::Ordinary | Role::Simple | Role::Module => false,
     }
 }
 
@@ -108,7 +77,7 @@ pub fn is_designator(arena: &Arena, i: u32) -> bool
     ensures value { result ≡ spec.is_designator (tree_at (forest arena.now) i) }
 {
     match *arena.node(i) {
-        Node::Plain(Plain::Phrase(phrase, _)) => is_designator_role(phrase.role),
+        Node::Plain(Plain::Phrase(phrase, _)) => matches!(phrase.role, Role::Designator),
         _ => false,
     }
 }
@@ -119,16 +88,8 @@ pub fn is_named_address(arena: &Arena, i: u32, cv: Cv, ref_qual: RefQual) -> boo
     requires within { i < size arena.now }
     ensures value { result ≡ spec.is_named_address (tree_at (forest arena.now) i) cv ref_qual }
 {
-    is_unqualified(cv, ref_qual) && is_scoped(arena, i) && is_simple(arena, i)
-}
-
-fn is_unqualified(cv: Cv, ref_qual: RefQual) -> bool
-    ensures value { result ≡ spec.is_unqualified cv ref_qual }
-{
-    match ref_qual {
-        RefQual::None => !cv.is_const && !cv.is_volatile && !cv.is_restrict,
-        RefQual::Lvalue | RefQual::Rvalue => false,
-    }
+    let is_qualified = cv.is_const || cv.is_volatile || cv.is_restrict;
+    !is_qualified && matches!(ref_qual, RefQual::None) && is_scoped(arena, i) && is_simple(arena, i)
 }
 
 // Whether a node is a name in a scope, and not a friend's.
@@ -149,21 +110,12 @@ pub fn count_of(arena: &Arena, i: u32) -> Option<u64>
     ensures value { result ≡ spec.count_of (tree_at (forest arena.now) i) }
 {
     match *arena.node(i) {
-        Node::Plain(ref plain) => match *plain {
-            Plain::Expansion(t) => widened(arena.elements(t)),
-            Plain::Several(items) => Some(count_of_list(arena, items)),
-            _ => None,
+        Node::Plain(Plain::Expansion(t)) => match arena.elements(t) {
+            None => None,
+            Some(n) => Some(n as u64),
         },
+        Node::Plain(Plain::Several(items)) => Some(count_of_list(arena, items)),
         _ => None,
-    }
-}
-
-fn widened(n: Option<u32>) -> Option<u64>
-    ensures value { result ≡ n }
-{
-    match n {
-        None => None,
-        Some(n) => Some(n as u64),
     }
 }
 
@@ -173,34 +125,12 @@ fn count_of_list(arena: &Arena, items: List) -> u64
 {
     let mut sum = 0;
     for t in arena.items(items) {
-        sum += count_of_item(arena, *t);
+        sum += match *arena.node(*t) {
+            Node::Plain(Plain::Expansion(t)) => arena.elements(t).unwrap_or(0) as u64,
+            _ => 1,
+        };
     }
     sum
-}
-
-fn count_of_item(arena: &Arena, i: u32) -> u64
-    requires within { i < size arena.now }
-    ensures value { result ≡ spec.count_item (tree_at (forest arena.now) i) }
-    ensures small { result ≤ 4294967295 }
-{
-    match *arena.node(i) {
-        Node::Plain(Plain::Expansion(t)) => match arena.elements(t) {
-            Some(n) => n as u64,
-            None => 0,
-        },
-        _ => 1,
-    }
-}
-
-// Whether a node is the name `objc_object`.
-fn is_objc_object(arena: &Arena, i: u32) -> bool
-    requires within { i < size arena.now }
-    ensures value { result ≡ spec.is_objc_object (tree_at (forest arena.now) i) }
-{
-    match *arena.node(i) {
-        Node::Plain(Plain::Name(name)) => arena.bytes(name) == b"objc_object".as_slice(),
-        _ => false,
-    }
 }
 
 /// Returns the protocol of a type, if a pointer to the type is an `id`.
@@ -210,12 +140,12 @@ pub fn protocol_of(arena: &Arena, i: u32) -> Option<&[u8]>
         (λ w. spec.protocol_of (tree_at (forest arena.now) i) ≡ Some w.now) }
 {
     match *arena.node(i) {
-        Node::Plain(Plain::ObjcProtocol(name, protocol)) => {
-            if !is_objc_object(arena, name) {
-                return None;
+        Node::Plain(Plain::ObjcProtocol(name, protocol)) => match *arena.node(name) {
+            Node::Plain(Plain::Name(name)) if arena.bytes(name) == b"objc_object".as_slice() => {
+                Some(arena.bytes(protocol))
             }
-            Some(arena.bytes(protocol))
-        }
+            _ => None,
+        },
         _ => None,
     }
 }

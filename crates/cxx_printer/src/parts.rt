@@ -2,11 +2,11 @@
 //! return type. Any other symbol has none, and then nothing is appended.
 #![tactic(auto, using(crate::proofs::Appended::prints), unfolding(cxx_tree::specs::Stored::tree_of, cxx_tree::specs::Stored::plain_tree, cxx_tree::specs::Stored::declaration_tree, cxx_tree::specs::Stored::IsBelow, cxx_tree::specs::Stored::IsPlainBelow, crate::specs::Parts::named_of, crate::specs::Parts::split, crate::specs::Parts::colons, crate::specs::Parts::joined, crate::specs::Print::print, crate::specs::Parts::return_type_text, crate::specs::Parts::parameters_text, cxx_tree::specs::Measure::measure))]
 
-ghost use Rattle.std.specs.Prelude.{◌≡◌, ◌<◌, ◌≤◌, [], ◌∷◌, Some, None, MatchOption, IfSome};
-ghost use Rattle.cxx_tree.specs.Stored.{forest, size, tree_at, option_at, plain_tree, IsOptionBelow, IsPlainBelow};
+ghost use Rattle.std.specs.Prelude.{◌≡◌, ◌<◌, ◌++◌, Some, None, MatchOption, IfSome};
+ghost use Rattle.cxx_tree.specs.Stored.{forest, size, tree_at};
 ghost use Rattle.cxx_printer.specs.Prints.{Prints};
 ghost use Rattle.cxx_printer.specs.Words.{top};
-ghost use Rattle.cxx_printer.specs.Print.{whole, items_of, of_return};
+ghost use Rattle.cxx_printer.specs.Print.{whole, scope_text};
 ghost use Rattle.cxx_printer.specs.Print as printing;
 ghost use Rattle.cxx_printer.specs.Parts as spec;
 
@@ -74,18 +74,11 @@ pub fn print_return_type(
     ensures prints { Prints result out.old out.new (spec.return_type_text (top style) (tree_at (forest arena.now) i)) }
 {
     match *arena.node(i) {
-        Node::Encoding(ref encoding) => print_ret(arena, Env::top(style), encoding.ret, out),
+        Node::Encoding(ref encoding) => match encoding.ret {
+            None => Ok(()),
+            Some(t) => print(arena, Env::top(style), t, out),
+        },
         _ => Ok(()),
-    }
-}
-
-fn print_ret(arena: &Arena, env: Env, ret: Option<u32>, out: &mut Text) -> Result<(), AllocError>
-    requires below { IsOptionBelow (size arena.now) ret }
-    ensures prints { Prints result out.old out.new (of_return whole env (items_of (option_at (forest arena.now) ret))) }
-{
-    match ret {
-        None => Ok(()),
-        Some(t) => print(arena, env, t, out),
     }
 }
 
@@ -110,20 +103,16 @@ fn print_base(arena: &Arena, env: Env, i: u32, out: &mut Text) -> Result<(), All
         (whole (printing.print (spec.split (tree_at (forest arena.now) i)).1 env)) }
 {
     match *arena.node(i) {
-        Node::Plain(ref plain) => match *plain {
-            Plain::AbiTag(name, _) => print_base(arena, env, name, out),
-            Plain::InModule(name, _) => print_base(arena, env, name, out),
-            Plain::WithArgs(name, _) => print_base(arena, env, name, out),
-            Plain::Scoped(_, _, name) => print_base(arena, env, name, out),
-            Plain::ScopedName(_, ref name) => write_text(arena, name, out),
-            _ => print(arena, env, i, out),
-        },
+        Node::Plain(Plain::AbiTag(name, _))
+        | Node::Plain(Plain::InModule(name, _))
+        | Node::Plain(Plain::WithArgs(name, _))
+        | Node::Plain(Plain::Scoped(_, _, name)) => print_base(arena, env, name, out),
+        Node::Plain(Plain::ScopedName(_, ref name)) => write_text(arena, name, out),
         _ => print(arena, env, i, out),
     }
 }
 
 // Appends the scopes around the base of a name, with `::` between.
-#[cycle(scopes)]
 fn print_scopes(
     arena: &Arena,
     env: Env,
@@ -135,36 +124,21 @@ fn print_scopes(
     ensures prints { Prints result out.old out.new
         (spec.joined is_first env (spec.split (tree_at (forest arena.now) i)).0) }
 {
-    match *node_at(arena, i) {
-        Node::Plain(ref plain) => scopes_of_plain(arena, env, is_first, plain, out),
+    match *arena.node(i) {
+        Node::Plain(Plain::AbiTag(name, _))
+        | Node::Plain(Plain::InModule(name, _))
+        | Node::Plain(Plain::WithArgs(name, _)) => print_scopes(arena, env, is_first, name, out),
+        Node::Plain(Plain::Scoped(_, scope, name)) => {
+            tri!(print_next(arena, env, is_first, scope, out));
+            print_scopes(arena, env, false, name, out)
+        }
+        Node::Plain(Plain::ScopedName(scope, _)) => print_next(arena, env, is_first, scope, out),
         _ => Ok(()),
     }
 }
 
-#[cycle(scopes)]
-fn scopes_of_plain(
-    arena: &Arena,
-    env: Env,
-    is_first: bool,
-    plain: &Plain,
-    out: &mut Text,
-) -> Result<(), AllocError>
-    requires below { IsPlainBelow arena.now.held (size arena.now) plain.now }
-    ensures prints { Prints result out.old out.new
-        (spec.joined is_first env (spec.split (plain_tree arena.now.held (forest arena.now) plain.now)).0) }
-{
-    match *plain {
-        Plain::AbiTag(name, _) => print_scopes(arena, env, is_first, name, out),
-        Plain::InModule(name, _) => print_scopes(arena, env, is_first, name, out),
-        Plain::WithArgs(name, _) => print_scopes(arena, env, is_first, name, out),
-        Plain::Scoped(_, scope, name) => print_from_scope(arena, env, is_first, scope, name, out),
-        Plain::ScopedName(scope, _) => print_last_scope(arena, env, is_first, scope, out),
-        _ => Ok(()),
-    }
-}
-
-// Appends a scope.
-fn print_last_scope(
+// Appends the next scope, after `::` if it isn't the first.
+fn print_next(
     arena: &Arena,
     env: Env,
     is_first: bool,
@@ -173,38 +147,11 @@ fn print_last_scope(
 ) -> Result<(), AllocError>
     requires scope { scope < size arena.now }
     ensures prints { Prints result out.old out.new
-        (spec.joined is_first env (tree_at (forest arena.now) scope ∷ [])) }
-{
-    tri!(write_colons(is_first, out));
-    print_scope(arena, env, scope, out)
-}
-
-// Appends a scope, and those that are passed in the name.
-#[cycle(scopes)]
-fn print_from_scope(
-    arena: &Arena,
-    env: Env,
-    is_first: bool,
-    scope: u32,
-    name: u32,
-    out: &mut Text,
-) -> Result<(), AllocError>
-    requires scope { scope < size arena.now }
-    requires name { name < size arena.now }
-    ensures prints { Prints result out.old out.new (spec.joined is_first env
-        (tree_at (forest arena.now) scope ∷ (spec.split (tree_at (forest arena.now) name)).0)) }
-{
-    tri!(write_colons(is_first, out));
-    tri!(print_scope(arena, env, scope, out));
-    print_scopes(arena, env, false, name, out)
-}
-
-// Appends what stands before a scope.
-fn write_colons(is_first: bool, out: &mut Text) -> Result<(), AllocError>
-    ensures prints { Prints result out.old out.new (spec.colons is_first) }
+        (spec.colons is_first ++ scope_text env (printing.print (tree_at (forest arena.now) scope) env)) }
 {
     if is_first {
-        return Ok(());
+        return print_scope(arena, env, scope, out);
     }
-    write(out, b"::")
+    tri!(write(out, b"::"));
+    print_scope(arena, env, scope, out)
 }

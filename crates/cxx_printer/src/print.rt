@@ -2,15 +2,15 @@
 //!
 //! A function that looks at the kind of a node calls the function for that kind last. That call is a jump, so the first
 //! function takes no stack. `#[inline(never)]` keeps the two apart.
-#![tactic(auto, using(crate::proofs::Appended::prints), unfolding(cxx_tree::specs::Stored::tree_of, cxx_tree::specs::Stored::plain_tree, cxx_tree::specs::Stored::declaration_tree, cxx_tree::specs::Stored::IsBelow, cxx_tree::specs::Stored::IsPlainBelow, cxx_tree::specs::Stored::IsDeclarationBelow, crate::specs::Print::print, crate::specs::Asked::text_of_part, cxx_tree::specs::Measure::measure))]
+#![tactic(auto, using(crate::proofs::Appended::prints, crate::proofs::Items::args_item, crate::proofs::Packs::plains, crate::proofs::Declarators::one_sided), unfolding(cxx_tree::specs::Stored::tree_of, cxx_tree::specs::Stored::plain_tree, cxx_tree::specs::Stored::declaration_tree, cxx_tree::specs::Stored::IsBelow, cxx_tree::specs::Stored::IsPlainBelow, cxx_tree::specs::Stored::IsDeclarationBelow, crate::specs::Print::print, crate::specs::Asked::text_of_part, cxx_tree::specs::Measure::measure))]
 
-ghost use Rattle.std.specs.Prelude.{◌≡◌, ℕ, nat_eq, ◌+◌, ◌<◌, ◌≤◌, Bool, true, false, List, [], ◌∷◌, ◌++◌, codes, length, Option, Some, None, if◌then◌else◌, IfOk};
+ghost use Rattle.std.specs.Prelude.{◌≡◌, ℕ, ◌+◌, ◌<◌, ◌≤◌, Bool, true, false, List, [], ◌++◌, codes, Option, Some, None};
 ghost use Rattle.std.specs.List.{AllByRecursion};
 ghost use Rattle.cxx_tree.specs.declared.kinds.Listing.TheVariants as listing;
 ghost use Rattle.cxx_tree.specs.declared.kinds.Manner.TheVariants as manner;
 ghost use Rattle.cxx_tree.specs.declared.kinds.Prec.TheVariants as prec;
 ghost use Rattle.cxx_tree.specs.declared.node.Node.TheVariants as node;
-ghost use Rattle.cxx_tree.specs.Tree.{Tree, named, pack, pointer, qualified, reference, scoped, with_args};
+ghost use Rattle.cxx_tree.specs.Tree.{Tree, named, pack, pointer, qualified, reference};
 ghost use Rattle.cxx_tree.specs.Measure.{measure};
 ghost use Rattle.cxx_tree.specs.Stored.{forest, size, tree_of, IsBelow, tree_at, trees_at, trees_in, option_at, plain_tree, declaration_tree, parts_in, text_at, IsText, IsListBelow, IsOptionBelow, IsPlainBelow, IsDeclarationBelow, IsPartsBelow, IsPartBelow};
 ghost use Rattle.cxx_printer.specs.declared.shapes.Ending.TheVariants as ending;
@@ -36,8 +36,8 @@ use crate::writing::{
     write_styled, write_text,
 };
 use cxx_tree::{
-    Arena, Cv, Declaration, Encoding, Function, List, Listing, Manner, Node, Part, Parts, Phrase,
-    Plain, Prec,
+    Arena, Cv, Declaration, Encoding, Function, List, Listing, Manner, Node, NodeText, Part, Parts,
+    Phrase, Plain, Prec,
 };
 use growing_text::Text;
 use std::alloc::AllocError;
@@ -69,18 +69,6 @@ fn print_node(arena: &Arena, env: Env, i: u32, out: &mut Text) -> Result<(), All
         Node::Plain(Plain::WithArgs(name, args)) => print_with_args(arena, env, name, args, out),
         Node::Plain(Plain::Name(ref text)) => write_text(arena, text, out),
         Node::Plain(ref plain) => print_plain(arena, env, plain, out),
-        _ => print_type(arena, env, i, out),
-    }
-}
-
-// Appends what a tree prints that may have two sides.
-#[inline(always)]
-#[cycle(printer)]
-fn print_type(arena: &Arena, env: Env, i: u32, out: &mut Text) -> Result<(), AllocError>
-    requires within { i < size arena.now }
-    ensures prints { Prints result out.old out.new (spec.whole (spec.print (tree_at (forest arena.now) i) env)) }
-{
-    match *node_at(arena, i) {
         Node::Encoding(ref encoding) => print_encoding(arena, env, encoding, out),
         Node::Qualified(t, cv) => print_qualified(arena, env, i, t, cv, out),
         Node::Pointer(t) => print_pointer(arena, env, i, t, out),
@@ -130,11 +118,8 @@ fn print_pointer(arena: &Arena, env: Env, i: u32, t: u32, out: &mut Text) -> Res
                 tri!(print(arena, env, t, out));
                 write_byte(out, b'*')
             }
-        }
-        Node::Qualified(u, cv) => {
-            if !is_plain(arena, u) {
-                return print_sides(arena, env, i, out);
-            }
+        },
+        Node::Qualified(u, cv) if is_plain(arena, u) => {
             tri!(print(arena, env, u, out));
             write_star(cv, out)
         }
@@ -165,10 +150,7 @@ fn print_reference(
             tri!(print(arena, env, t, out));
             write_mark(is_lvalue, out)
         }
-        Node::Qualified(u, cv) => {
-            if !is_plain(arena, u) {
-                return print_sides(arena, env, i, out);
-            }
+        Node::Qualified(u, cv) if is_plain(arena, u) => {
             tri!(print(arena, env, u, out));
             write_cv_mark(cv, is_lvalue, out)
         }
@@ -224,7 +206,10 @@ pub fn print_left(arena: &Arena, env: Env, i: u32, out: &mut Text) -> Result<(),
         Node::Array(element, _) => print_left(arena, env, element, out),
         Node::Function(ref function) => left_function(arena, env, function.ret, out),
         Node::Encoding(ref encoding) => left_encoding(arena, env, encoding, out),
-        Node::Pack(items) => left_pack(arena, env, items, out),
+        Node::Pack(items) => match element(arena, env, items) {
+            None => Ok(()),
+            Some(t) => print_left(arena, env, t, out),
+        },
     }
 }
 
@@ -252,7 +237,10 @@ pub fn print_right(
         Node::Array(element, dimension) => right_array(arena, env, element, dimension, joined, out),
         Node::Function(ref function) => right_function(arena, env, function, out),
         Node::Encoding(ref encoding) => right_encoding(arena, env, encoding, out),
-        Node::Pack(items) => right_pack(arena, env, items, joined, out),
+        Node::Pack(items) => match element(arena, env, items) {
+            None => Ok(()),
+            Some(t) => print_right(arena, env, t, joined, out),
+        },
     }
 }
 
@@ -292,7 +280,7 @@ fn print_scoped_name(
     arena: &Arena,
     env: Env,
     scope: u32,
-    name: &cxx_tree::NodeText,
+    name: &NodeText,
     out: &mut Text,
 ) -> Result<(), AllocError>
     requires scope { scope < size arena.now }
@@ -358,7 +346,6 @@ fn print_gnu_scope(arena: &Arena, env: Env, i: u32, out: &mut Text) -> Result<()
 {
     match *node_at(arena, i) {
         Node::Encoding(ref encoding) => print_signature(arena, env, encoding, out),
-        Node::Plain(ref plain) => print_plain(arena, env, plain, out),
         _ => print(arena, env, i, out),
     }
 }
@@ -424,7 +411,7 @@ fn print_abi_tag(
     arena: &Arena,
     env: Env,
     name: u32,
-    tag: &cxx_tree::NodeText,
+    tag: &NodeText,
     out: &mut Text,
 ) -> Result<(), AllocError>
     requires name { name < size arena.now }
@@ -463,7 +450,7 @@ fn print_protocol(
     arena: &Arena,
     env: Env,
     t: u32,
-    protocol: &cxx_tree::NodeText,
+    protocol: &NodeText,
     out: &mut Text,
 ) -> Result<(), AllocError>
     requires within { t < size arena.now }
@@ -477,7 +464,8 @@ fn print_protocol(
     write(out, b">")
 }
 
-/// Appends an expansion: its pattern for each element of the packs in it, or the pattern and an ellipsis.
+// Appends an expansion: its pattern for each element of the packs in it, with commas between, or the pattern and an
+// ellipsis.
 #[inline(never)]
 #[cycle(printer)]
 fn print_expansion(arena: &Arena, env: Env, t: u32, out: &mut Text) -> Result<(), AllocError>
@@ -485,40 +473,18 @@ fn print_expansion(arena: &Arena, env: Env, t: u32, out: &mut Text) -> Result<()
     ensures prints { Prints result out.old out.new (spec.expansion_text env (measure (tree_at (forest arena.now)
         t)).elements (item (tree_at (forest arena.now) t))) }
 {
-    match arena.elements(t) {
-        None => {
-            tri!(print_operand(arena, env.at(0), Prec::Comma, true, t, out));
-            write(out, b"...")
-        }
-        Some(n) => print_repeated(arena, env, n, t, out),
-    }
-}
-
-/// Appends a pattern for each index of a pack, with commas between.
-#[cycle(printer)]
-fn print_repeated(arena: &Arena, env: Env, n: u32, t: u32, out: &mut Text) -> Result<(), AllocError>
-    requires within { t < size arena.now }
-    ensures prints { Prints result out.old out.new (spec.repeated n 0 env (item (tree_at (forest arena.now) t))) }
-{
+    let Some(n) = arena.elements(t) else {
+        tri!(print_operand(arena, env.at(0), Prec::Comma, true, t, out));
+        return write(out, b"...");
+    };
     for k in 0..n {
-        tri!(print_element(arena, env, k, t, out));
+        tri!(write_separator(k == 0, out));
+        tri!(print(arena, env.at(k), t, out));
     }
     Ok(())
 }
 
-/// Appends a pattern at an index of its packs, with a comma before it if it isn't the first.
-#[inline(never)]
-#[cycle(printer)]
-fn print_element(arena: &Arena, env: Env, k: u32, t: u32, out: &mut Text) -> Result<(), AllocError>
-    requires within { t < size arena.now }
-    ensures prints { Prints result out.old out.new (spec.separator (nat_eq k 0) ++ spec.whole (spec.print (tree_at
-        (forest arena.now) t) (words.at env k))) }
-{
-    tri!(write_separator(k == 0, out));
-    print(arena, env.at(k), t, out)
-}
-
-/// Appends a list. What prints nothing has no comma.
+// Appends a list. What prints nothing has no comma.
 #[inline(always)]
 #[cycle(printer)]
 fn print_list(arena: &Arena, env: Env, items: &[u32], out: &mut Text) -> Result<(), AllocError>
@@ -528,193 +494,45 @@ fn print_list(arena: &Arena, env: Env, items: &[u32], out: &mut Text) -> Result<
 {
     let start = out.len();
     for t in items {
-        tri!(print_item(arena, env, start, *t, out));
+        tri!(print_item(arena, env, out.len() == start, *t, out));
     }
     Ok(())
 }
 
-/// Appends an item of a list that begins at a place, with a comma before it if something of the list stands there.
+// Appends an item of a list, with a comma before it if it isn't the first that prints something.
 #[inline(never)]
 #[cycle(printer)]
 fn print_item(
     arena: &Arena,
     env: Env,
-    start: usize,
-    t: u32,
-    out: &mut Text,
-) -> Result<(), AllocError>
-    requires within { t < size arena.now }
-    ensures prints { Prints result out.old out.new (spec.item_behind (nat_eq (length out.old) start) (spec.item_text env
-        (item (tree_at (forest arena.now) t)))) }
-{
-    let is_first = out.len() == start;
-    match *node_at(arena, t) {
-        Node::Plain(Plain::ScopedName(scope, ref name)) => print_scoped_item(
-            arena, env, is_first, t, scope, name, out,
-        ),
-        Node::Plain(Plain::WithArgs(name, args)) => print_args_item(
-            arena, env, is_first, t, name, args, out,
-        ),
-        Node::Plain(ref plain) => print_plain_item(arena, env, is_first, t, plain, out),
-        _ => print_type_item(arena, env, is_first, t, out),
-    }
-}
-
-#[inline(always)]
-#[cycle(printer)]
-fn print_plain_item(
-    arena: &Arena,
-    env: Env,
     is_first: bool,
     t: u32,
-    plain: &Plain,
     out: &mut Text,
 ) -> Result<(), AllocError>
     requires within { t < size arena.now }
-    requires below { IsPlainBelow arena.now.held (size arena.now) plain.now }
-    requires tree { tree_at (forest arena.now) t ≡ plain_tree arena.now.held (forest arena.now) plain.now }
     ensures prints { Prints result out.old out.new (spec.item_behind is_first (spec.item_text env (item (tree_at
         (forest arena.now) t)))) }
 {
-    match *plain {
-        Plain::Name(text) => write_item(is_first, arena.bytes(text), out),
-        Plain::Leaf(_, ref llvm, ref gnu) => write_leaf_item(
+    match *node_at(arena, t) {
+        Node::Plain(Plain::Name(text)) => write_item(is_first, arena.bytes(text), out),
+        Node::Plain(Plain::Leaf(_, ref llvm, ref gnu)) => write_item(
             is_first,
             styled_bytes(arena, env, llvm, gnu),
             out,
         ),
+        // These print something.
+        Node::Plain(Plain::ScopedName(scope, ref name)) if try_separator(is_first, out) => {
+            print_scoped_name(arena, env, scope, name, out)
+        }
+        Node::Plain(Plain::WithArgs(name, args)) if try_separator(is_first, out) => {
+            print_with_args(arena, env, name, args, out)
+        }
+        Node::Pointer(u) if try_separator(is_first, out) => print_pointer(arena, env, t, u, out),
+        Node::Reference(u, is_lvalue) if try_separator(is_first, out) => {
+            print_reference(arena, env, t, is_lvalue, u, out)
+        }
         _ => print_any_item(arena, env, is_first, t, out),
     }
-}
-
-#[inline(never)]
-fn write_leaf_item(is_first: bool, text: &[u8], out: &mut Text) -> Result<(), AllocError>
-    ensures prints { Prints result out.old out.new (spec.item_behind is_first text.now) }
-{
-    write_item(is_first, text, out)
-}
-
-#[inline(always)]
-#[cycle(printer)]
-fn print_type_item(
-    arena: &Arena,
-    env: Env,
-    is_first: bool,
-    t: u32,
-    out: &mut Text,
-) -> Result<(), AllocError>
-    requires within { t < size arena.now }
-    ensures prints { Prints result out.old out.new (spec.item_behind is_first (spec.item_text env (item (tree_at
-        (forest arena.now) t)))) }
-{
-    match *node_at(arena, t) {
-        Node::Pointer(u) => print_pointer_item(arena, env, is_first, t, u, out),
-        Node::Reference(u, is_lvalue) => print_reference_item(
-            arena, env, is_first, t, is_lvalue, u, out,
-        ),
-        _ => print_any_item(arena, env, is_first, t, out),
-    }
-}
-
-#[inline(always)]
-#[cycle(printer)]
-fn print_scoped_item(
-    arena: &Arena,
-    env: Env,
-    is_first: bool,
-    t: u32,
-    scope: u32,
-    name: &cxx_tree::NodeText,
-    out: &mut Text,
-) -> Result<(), AllocError>
-    requires within { t < size arena.now }
-    requires scope { scope < size arena.now }
-    requires lower { height (tree_at (forest arena.now) scope) < height (tree_at (forest arena.now) t) }
-    requires name { IsText arena.now.held name.now }
-    requires tree { tree_at (forest arena.now) t ≡ scoped false (tree_at (forest arena.now) scope)
-        (named (text_at arena.now.held name.now)) }
-    ensures prints { Prints result out.old out.new (spec.item_behind is_first (spec.item_text env (item (tree_at
-        (forest arena.now) t)))) }
-{
-    if !try_separator(is_first, out) {
-        return print_any_item(arena, env, is_first, t, out);
-    }
-    print_scoped_name(arena, env, scope, name, out)
-}
-
-#[inline(always)]
-#[cycle(printer)]
-fn print_args_item(
-    arena: &Arena,
-    env: Env,
-    is_first: bool,
-    t: u32,
-    name: u32,
-    args: List,
-    out: &mut Text,
-) -> Result<(), AllocError>
-    requires within { t < size arena.now }
-    requires name { name < size arena.now }
-    requires args { IsListBelow arena.now.held (size arena.now) args }
-    requires height { height (tree_at (forest arena.now) t) ≡ height (with_args (tree_at (forest arena.now) name)
-        (trees_in arena.now.held (forest arena.now) args)) }
-    requires tree { tree_at (forest arena.now) t ≡ with_args (tree_at (forest arena.now) name) (trees_in arena.now.held
-        (forest arena.now) args) }
-    ensures prints { Prints result out.old out.new (spec.item_behind is_first (spec.item_text env (item (tree_at
-        (forest arena.now) t)))) }
-{
-    if !try_separator(is_first, out) {
-        return print_any_item(arena, env, is_first, t, out);
-    }
-    print_with_args(arena, env, name, args, out)
-}
-
-#[inline(always)]
-#[cycle(printer)]
-fn print_pointer_item(
-    arena: &Arena,
-    env: Env,
-    is_first: bool,
-    t: u32,
-    u: u32,
-    out: &mut Text,
-) -> Result<(), AllocError>
-    requires within { t < size arena.now }
-    requires child { u < size arena.now }
-    requires height { height (tree_at (forest arena.now) t) ≡ height (pointer (tree_at (forest arena.now) u)) }
-    requires tree { tree_at (forest arena.now) t ≡ pointer (tree_at (forest arena.now) u) }
-    ensures prints { Prints result out.old out.new (spec.item_behind is_first (spec.item_text env (item (tree_at
-        (forest arena.now) t)))) }
-{
-    if !try_separator(is_first, out) {
-        return print_any_item(arena, env, is_first, t, out);
-    }
-    print_pointer(arena, env, t, u, out)
-}
-
-#[inline(always)]
-#[cycle(printer)]
-fn print_reference_item(
-    arena: &Arena,
-    env: Env,
-    is_first: bool,
-    t: u32,
-    is_lvalue: bool,
-    u: u32,
-    out: &mut Text,
-) -> Result<(), AllocError>
-    requires within { t < size arena.now }
-    requires child { u < size arena.now }
-    requires height { height (tree_at (forest arena.now) t) ≡ height (reference (tree_at (forest arena.now) u)
-        is_lvalue) }
-    requires tree { tree_at (forest arena.now) t ≡ reference (tree_at (forest arena.now) u) is_lvalue }
-    ensures prints { Prints result out.old out.new (spec.item_behind is_first (spec.item_text env (item (tree_at
-        (forest arena.now) t)))) }
-{
-    if !try_separator(is_first, out) {
-        return print_any_item(arena, env, is_first, t, out);
-    }
-    print_reference(arena, env, t, is_lvalue, u, out)
 }
 
 // Appends an item of a list that may print nothing.
@@ -731,33 +549,22 @@ fn print_any_item(
     ensures prints { Prints result out.old out.new (spec.item_behind is_first (spec.item_text env (item (tree_at
         (forest arena.now) t)))) }
 {
-    if is_first {
-        return print_item_text(arena, env, t, out);
-    }
     let before = out.len();
-    tri!(write(out, b", "));
+    tri!(write_separator(is_first, out));
     let start = out.len();
-    tri!(print_item_text(arena, env, t, out));
+    if env.is_llvm() {
+        tri!(print_operand(arena, env, Prec::Comma, false, t, out));
+    } else {
+        tri!(print(arena, env, t, out));
+    }
     if out.len() == start {
         out.truncate(before);
     }
     Ok(())
 }
 
-#[inline(never)]
-#[cycle(printer)]
-fn print_item_text(arena: &Arena, env: Env, t: u32, out: &mut Text) -> Result<(), AllocError>
-    requires within { t < size arena.now }
-    ensures prints { Prints result out.old out.new (spec.item_text env (item (tree_at (forest arena.now) t))) }
-{
-    if env.is_llvm() {
-        return print_operand(arena, env, Prec::Comma, false, t, out);
-    }
-    print(arena, env, t, out)
-}
-
-/// Appends an operand: the tree, in parentheses if it is looser than the precedence, or as loose and `loose` is false.
-/// In GNU's style it is in parentheses if it isn't a name.
+// Appends an operand: the tree, in parentheses if it is looser than the precedence, or as loose and `loose` is false.
+// In GNU's style it is in parentheses if it isn't a name.
 #[inline(always)]
 #[cycle(printer)]
 fn print_operand(
@@ -790,7 +597,7 @@ fn is_bare(arena: &Arena, env: Env, prec: Prec, loose: bool, t: u32) -> bool
     is_simple(arena, t)
 }
 
-/// Appends a tree in parentheses.
+// Appends a tree in parentheses.
 #[inline(never)]
 #[cycle(printer)]
 fn print_enclosed(arena: &Arena, env: Env, t: u32, out: &mut Text) -> Result<(), AllocError>
@@ -876,7 +683,7 @@ fn print_tree(
     }
 }
 
-/// Appends a function that is called. In GNU's style it has no parameters.
+// Appends a function that is called. In GNU's style it has no parameters.
 #[inline(never)]
 #[cycle(printer)]
 fn print_callee(arena: &Arena, env: Env, t: u32, out: &mut Text) -> Result<(), AllocError>
@@ -900,7 +707,7 @@ fn print_callee(arena: &Arena, env: Env, t: u32, out: &mut Text) -> Result<(), A
     }
 }
 
-/// Appends the operand of an `&`. In GNU's style some functions have no parameters.
+// Appends the operand of an `&`. In GNU's style some functions have no parameters.
 #[inline(never)]
 #[cycle(printer)]
 fn print_address(
@@ -914,21 +721,17 @@ fn print_address(
     ensures prints { Prints result out.old out.new (spec.part_text (manner.Address prec) env (item (tree_at (forest
         arena.now) t))) }
 {
-    if env.is_llvm() {
-        return print_operand(arena, env, prec, false, t, out);
-    }
     match *node_at(arena, t) {
-        Node::Encoding(ref encoding) => {
-            if is_named_address(arena, encoding.name, encoding.cv, encoding.ref_qual) {
-                return print(arena, env, encoding.name, out);
-            }
-            print_operand(arena, env, prec, false, t, out)
+        Node::Encoding(ref encoding)
+            if !env.is_llvm()
+                && is_named_address(arena, encoding.name, encoding.cv, encoding.ref_qual) => {
+            print(arena, env, encoding.name, out)
         }
         _ => print_operand(arena, env, prec, false, t, out),
     }
 }
 
-/// Appends a value after a designator.
+// Appends a value after a designator.
 #[inline(never)]
 #[cycle(printer)]
 fn print_value(arena: &Arena, env: Env, t: u32, out: &mut Text) -> Result<(), AllocError>
@@ -943,7 +746,7 @@ fn print_value(arena: &Arena, env: Env, t: u32, out: &mut Text) -> Result<(), Al
     print_operand(arena, env, Prec::Comma, true, t, out)
 }
 
-/// Appends the only argument of a conversion.
+// Appends the only argument of a conversion.
 #[inline(never)]
 #[cycle(printer)]
 fn print_argument(arena: &Arena, env: Env, t: u32, out: &mut Text) -> Result<(), AllocError>
@@ -959,7 +762,7 @@ fn print_argument(arena: &Arena, env: Env, t: u32, out: &mut Text) -> Result<(),
     write(out, b")")
 }
 
-/// Appends `sizeof...` and a pack, in GNU's style the number of its elements if it is known.
+// Appends `sizeof...` and a pack, in GNU's style the number of its elements if it is known.
 #[inline(never)]
 #[cycle(printer)]
 fn print_count(
@@ -973,32 +776,16 @@ fn print_count(
     ensures prints { Prints result out.old out.new (spec.part_text (manner.Count has_blank) env (item (tree_at
         (forest arena.now) t))) }
 {
-    if env.is_llvm() {
-        return print_sizeof(arena, env, has_blank, t, out);
-    }
     match count_of(arena, t) {
-        None => print_sizeof(arena, env, has_blank, t, out),
-        Some(n) => write_number(n, out),
+        Some(n) if !env.is_llvm() => write_number(n, out),
+        _ => {
+            tri!(write_sizeof(has_blank, out));
+            print_enclosed(arena, env, t, out)
+        }
     }
 }
 
-#[cycle(printer)]
-fn print_sizeof(
-    arena: &Arena,
-    env: Env,
-    has_blank: bool,
-    t: u32,
-    out: &mut Text,
-) -> Result<(), AllocError>
-    requires within { t < size arena.now }
-    ensures prints { Prints result out.old out.new (spec.sizeof_text has_blank env (item (tree_at (forest
-        arena.now) t))) }
-{
-    tri!(write_sizeof(has_blank, out));
-    print_enclosed(arena, env, t, out)
-}
-
-/// Appends a pack that a fold expression folds.
+// Appends a pack that a fold expression folds.
 #[inline(never)]
 #[cycle(printer)]
 fn print_folded(arena: &Arena, env: Env, t: u32, out: &mut Text) -> Result<(), AllocError>
@@ -1006,10 +793,8 @@ fn print_folded(arena: &Arena, env: Env, t: u32, out: &mut Text) -> Result<(), A
     ensures prints { Prints result out.old out.new (spec.folded_text env (measure (tree_at (forest arena.now)
         t)).elements (item (tree_at (forest arena.now) t))) }
 {
-    if !env.is_llvm() {
-        if arena.elements(t).is_none() {
-            return print_operand(arena, env, Prec::Comma, true, t, out);
-        }
+    if !env.is_llvm() && arena.elements(t).is_none() {
+        return print_operand(arena, env, Prec::Comma, true, t, out);
     }
     tri!(write(out, b"("));
     tri!(print_expansion(arena, env, t, out));
@@ -1052,7 +837,7 @@ pub fn print_parens(arena: &Arena, env: Env, list: List, out: &mut Text) -> Resu
     write_byte(out, b')')
 }
 
-/// Appends a list in angle brackets.
+// Appends a list in angle brackets.
 #[inline(always)]
 #[cycle(printer)]
 fn print_angles(arena: &Arena, env: Env, list: List, out: &mut Text) -> Result<(), AllocError>
@@ -1099,7 +884,7 @@ fn print_sequence(arena: &Arena, env: Env, items: &[u32], out: &mut Text) -> Res
     Ok(())
 }
 
-/// Appends the declarations of a closure's template parameters.
+// Appends the declarations of a closure's template parameters.
 #[inline(never)]
 #[cycle(printer)]
 fn print_declarations(arena: &Arena, env: Env, list: List, out: &mut Text) -> Result<(), AllocError>
@@ -1111,29 +896,13 @@ fn print_declarations(arena: &Arena, env: Env, list: List, out: &mut Text) -> Re
         return print_angles(arena, env, list, out);
     }
     tri!(write(out, b"<"));
-    tri!(print_declared_list(arena, env.in_angle(), arena.items(list), out));
-    write(out, b">")
-}
-
-#[cycle(printer)]
-fn print_declared_list(
-    arena: &Arena,
-    env: Env,
-    items: &[u32],
-    out: &mut Text,
-) -> Result<(), AllocError>
-    requires below { AllByRecursion (λ t. t < size arena.now) items.now }
-    ensures prints { Prints result out.old out.new (spec.separated spec.declared true env (spec.items_of (trees_at
-        (forest
-        arena.now) items.now))) }
-{
     let mut is_first = true;
-    for t in items {
+    for t in arena.items(list) {
         tri!(write_separator(is_first, out));
-        tri!(print_declared(arena, env, *t, out));
+        tri!(print_declared(arena, env.in_angle(), *t, out));
         is_first = false;
     }
-    Ok(())
+    write(out, b">")
 }
 
 #[cycle(printer)]
@@ -1146,43 +915,28 @@ fn print_declared(arena: &Arena, env: Env, t: u32, out: &mut Text) -> Result<(),
     print_declared_name(arena, env, t, out)
 }
 
-/// Appends a declaration of a template parameter without its name, as GNU's style has it.
+// Appends a declaration of a template parameter without its name, as GNU's style has it.
 #[cycle(printer)]
 fn print_head(arena: &Arena, env: Env, t: u32, out: &mut Text) -> Result<(), AllocError>
     requires within { t < size arena.now }
     ensures prints { Prints result out.old out.new (spec.head (spec.print (tree_at (forest arena.now) t) env)) }
 {
     match *node_at(arena, t) {
-        Node::Declaration(ref declaration) => head_of_declaration(arena, env, declaration, out),
-        Node::Plain(ref plain) => print_plain(arena, env, plain, out),
-        _ => print(arena, env, t, out),
-    }
-}
-
-#[cycle(printer)]
-fn head_of_declaration(
-    arena: &Arena,
-    env: Env,
-    declaration: &Declaration,
-    out: &mut Text,
-) -> Result<(), AllocError>
-    requires below { IsDeclarationBelow arena.now.held (size arena.now) declaration.now }
-    ensures prints { Prints result out.old out.new (spec.head (spec.print (declaration_tree arena.now.held (forest
-        arena.now) declaration.now) env)) }
-{
-    match *declaration {
-        Declaration::TypeParam(constraint, _) => print(arena, env, constraint, out),
-        Declaration::NonTypeParam(_, t) => print(arena, env, t, out),
-        Declaration::TemplateParam(_, declarations, _) => print_template_head(
+        Node::Declaration(Declaration::TypeParam(constraint, _)) => print(
+            arena, env, constraint, out,
+        ),
+        Node::Declaration(Declaration::NonTypeParam(_, t)) => print(arena, env, t, out),
+        Node::Declaration(Declaration::TemplateParam(_, declarations, _)) => print_template_head(
             arena,
             env,
             arena.items(declarations),
             out,
         ),
-        Declaration::PackParam(d) => {
+        Node::Declaration(Declaration::PackParam(d)) => {
             tri!(print_head(arena, env, d, out));
             write(out, b"...")
         }
+        _ => print(arena, env, t, out),
     }
 }
 
@@ -1199,27 +953,16 @@ fn print_template_head(
         (trees_at (forest arena.now) items.now)) ++ codes "> class")) }
 {
     tri!(write(out, b"template<"));
-    tri!(print_heads(arena, env, items, out));
-    write(out, b"> class")
-}
-
-#[cycle(printer)]
-fn print_heads(arena: &Arena, env: Env, items: &[u32], out: &mut Text) -> Result<(), AllocError>
-    requires below { AllByRecursion (λ t. t < size arena.now) items.now }
-    ensures prints { Prints result out.old out.new (spec.separated spec.head true env (spec.items_of (trees_at
-        (forest arena.now)
-        items.now))) }
-{
     let mut is_first = true;
     for t in items {
         tri!(write_separator(is_first, out));
         tri!(print_head(arena, env, *t, out));
         is_first = false;
     }
-    Ok(())
+    write(out, b"> class")
 }
 
-/// Appends the name that a declaration declares.
+// Appends the name that a declaration declares.
 #[cycle(printer)]
 fn print_declared_name(arena: &Arena, env: Env, t: u32, out: &mut Text) -> Result<(), AllocError>
     requires within { t < size arena.now }
@@ -1227,28 +970,11 @@ fn print_declared_name(arena: &Arena, env: Env, t: u32, out: &mut Text) -> Resul
         env)) }
 {
     match *node_at(arena, t) {
-        Node::Declaration(ref declaration) => name_of_declaration(arena, env, declaration, out),
-        Node::Plain(_) => Ok(()),
+        Node::Declaration(Declaration::TypeParam(_, name)) => print(arena, env, name, out),
+        Node::Declaration(Declaration::NonTypeParam(name, _)) => print(arena, env, name, out),
+        Node::Declaration(Declaration::TemplateParam(name, _, _)) => print(arena, env, name, out),
+        Node::Declaration(Declaration::PackParam(d)) => print_declared_name(arena, env, d, out),
         _ => Ok(()),
-    }
-}
-
-#[cycle(printer)]
-fn name_of_declaration(
-    arena: &Arena,
-    env: Env,
-    declaration: &Declaration,
-    out: &mut Text,
-) -> Result<(), AllocError>
-    requires below { IsDeclarationBelow arena.now.held (size arena.now) declaration.now }
-    ensures prints { Prints result out.old out.new (spec.declared_name (spec.print (declaration_tree arena.now.held
-        (forest arena.now) declaration.now) env)) }
-{
-    match *declaration {
-        Declaration::TypeParam(_, name) => print(arena, env, name, out),
-        Declaration::NonTypeParam(name, _) => print(arena, env, name, out),
-        Declaration::TemplateParam(name, _, _) => print(arena, env, name, out),
-        Declaration::PackParam(d) => print_declared_name(arena, env, d, out),
     }
 }
 
@@ -1270,12 +996,11 @@ fn left_declaration(
             write(out, b" ")
         }
         Declaration::NonTypeParam(_, t) => left_non_type(arena, env, t, out),
-        Declaration::TemplateParam(_, declarations, _) => left_template(
-            arena,
-            env,
-            declarations,
-            out,
-        ),
+        Declaration::TemplateParam(_, declarations, _) => {
+            tri!(write(out, b"template"));
+            tri!(print_angles(arena, env, declarations, out));
+            write(out, b" typename ")
+        }
         Declaration::PackParam(d) => {
             tri!(print_left(arena, env, d, out));
             write(out, b"...")
@@ -1283,7 +1008,7 @@ fn left_declaration(
     }
 }
 
-/// Appends the left side of a type, and a blank unless it has a right one.
+// Appends the left side of a type, and a blank unless it has a right one.
 #[inline(never)]
 #[cycle(printer)]
 fn left_non_type(arena: &Arena, env: Env, t: u32, out: &mut Text) -> Result<(), AllocError>
@@ -1293,17 +1018,6 @@ fn left_non_type(arena: &Arena, env: Env, t: u32, out: &mut Text) -> Result<(), 
 {
     tri!(print_left(arena, env, t, out));
     write_blank_unless(has_right(arena, env, t), out)
-}
-
-#[cycle(printer)]
-fn left_template(arena: &Arena, env: Env, list: List, out: &mut Text) -> Result<(), AllocError>
-    requires below { IsListBelow arena.now.held (size arena.now) list }
-    ensures prints { Prints result out.old out.new (codes "template" ++ (spec.angles env (spec.items_of (trees_in
-        arena.now.held (forest arena.now) list)) ++ codes " typename ")) }
-{
-    tri!(write(out, b"template"));
-    tri!(print_angles(arena, env, list, out));
-    write(out, b" typename ")
 }
 
 #[inline(never)]
@@ -1351,21 +1065,13 @@ fn left_pointer(arena: &Arena, env: Env, t: u32, out: &mut Text) -> Result<(), A
         t)) (spec.print (tree_at (forest arena.now) t) env)).text.left) }
 {
     match protocol_of(arena, t) {
-        None => left_plain_pointer(arena, env, t, out),
+        None => {
+            tri!(print_left(arena, env, t, out));
+            tri!(write_opened(form_of(arena, env, t), out));
+            write(out, b"*")
+        }
         Some(protocol) => write_id(protocol, out),
     }
-}
-
-#[inline(never)]
-#[cycle(printer)]
-fn left_plain_pointer(arena: &Arena, env: Env, t: u32, out: &mut Text) -> Result<(), AllocError>
-    requires within { t < size arena.now }
-    ensures prints { Prints result out.old out.new ((spec.print (tree_at (forest arena.now) t) env).text.left ++
-        (words.opened (spec.print (tree_at (forest arena.now) t) env).text.form ++ codes "*")) }
-{
-    tri!(print_left(arena, env, t, out));
-    tri!(write_opened(form_of(arena, env, t), out));
-    write(out, b"*")
 }
 
 #[inline(never)]
@@ -1381,7 +1087,7 @@ fn right_pointer(arena: &Arena, env: Env, t: u32, out: &mut Text) -> Result<(), 
     }
 }
 
-/// Appends the right side of a type after a pointer to it.
+// Appends the right side of a type after a pointer to it.
 #[inline(never)]
 #[cycle(printer)]
 fn right_behind(arena: &Arena, env: Env, t: u32, out: &mut Text) -> Result<(), AllocError>
@@ -1409,26 +1115,12 @@ fn left_reference(
     let referent = referent_of(arena, env, is_lvalue, t);
     match referent.base {
         None => write_mark(referent.is_lvalue, out),
-        Some(base) => left_base(arena, env, referent.is_lvalue, base, out),
+        Some(base) => {
+            tri!(print_left(arena, env, base, out));
+            tri!(write_opened(form_of(arena, env, base), out));
+            write_mark(referent.is_lvalue, out)
+        }
     }
-}
-
-#[inline(never)]
-#[cycle(printer)]
-fn left_base(
-    arena: &Arena,
-    env: Env,
-    is_lvalue: bool,
-    t: u32,
-    out: &mut Text,
-) -> Result<(), AllocError>
-    requires within { t < size arena.now }
-    ensures prints { Prints result out.old out.new ((spec.refers is_lvalue (spec.print (tree_at (forest arena.now)
-        t) env).text).left) }
-{
-    tri!(print_left(arena, env, t, out));
-    tri!(write_opened(form_of(arena, env, t), out));
-    write_mark(is_lvalue, out)
 }
 
 #[inline(never)]
@@ -1486,37 +1178,10 @@ fn right_array(
         env)).text) }
 {
     tri!(write_blank_unless(joined, out));
-    right_bracket(arena, env, element, dimension, out)
-}
-
-#[inline(never)]
-#[cycle(printer)]
-fn right_bracket(
-    arena: &Arena,
-    env: Env,
-    element: u32,
-    dimension: Parts,
-    out: &mut Text,
-) -> Result<(), AllocError>
-    requires element { element < size arena.now }
-    requires dimension { IsPartsBelow arena.now.held (size arena.now) dimension }
-    ensures prints { Prints result out.old out.new (codes "[" ++ ((spec.print_parts (parts_in arena.now.held
-        (forest arena.now) dimension) env).text ++ (codes "]" ++ (spec.print (tree_at (forest arena.now) element)
-        env).text.right))) }
-{
     tri!(write(out, b"["));
     tri!(print_parts(arena, env, dimension, out));
     tri!(write(out, b"]"));
-    print_joined(arena, env, element, out)
-}
-
-// Appends the right side of a type after a bracket.
-#[cycle(printer)]
-fn print_joined(arena: &Arena, env: Env, t: u32, out: &mut Text) -> Result<(), AllocError>
-    requires within { t < size arena.now }
-    ensures prints { Prints result out.old out.new ((spec.print (tree_at (forest arena.now) t) env).text.right) }
-{
-    print_right(arena, env, t, true, out)
+    print_right(arena, env, element, true, out)
 }
 
 #[inline(never)]
@@ -1527,21 +1192,8 @@ fn left_function(arena: &Arena, env: Env, ret: u32, out: &mut Text) -> Result<()
         spec.function_blank env (spec.print (tree_at (forest arena.now) ret) env)) }
 {
     tri!(print_left(arena, env, ret, out));
-    blank_behind_ret(arena, env, ret, out)
-}
-
-fn blank_behind_ret(arena: &Arena, env: Env, ret: u32, out: &mut Text) -> Result<(), AllocError>
-    requires ret { ret < size arena.now }
-    ensures prints { Prints result out.old out.new (spec.function_blank env (spec.print (tree_at (forest arena.now)
-        ret) env)) }
-{
-    if env.is_llvm() {
-        return write(out, b" ");
-    }
-    write_blank_unless(
-        is_starred(arena, env, ret) && has_right(arena, env, ret),
-        out,
-    )
+    let is_joined = !env.is_llvm() && is_starred(arena, env, ret) && has_right(arena, env, ret);
+    write_blank_unless(is_joined, out)
 }
 
 #[inline(never)]
@@ -1585,21 +1237,10 @@ fn left_encoding(
         (spec.of_return spec.left_of env (spec.items_of (option_at (forest arena.now) encoding.now.ret))
         ++ spec.whole (spec.print (tree_at (forest arena.now) encoding.now.name) env)) }
 {
-    tri!(left_ret(arena, env, encoding.ret, out));
-    print(arena, env, encoding.name, out)
-}
-
-#[cycle(printer)]
-fn left_ret(arena: &Arena, env: Env, ret: Option<u32>, out: &mut Text) -> Result<(), AllocError>
-    requires ret { IsOptionBelow (size arena.now) ret }
-    ensures prints { Prints result out.old out.new (spec.of_return spec.left_of env (spec.items_of (option_at
-        (forest arena.now)
-        ret))) }
-{
-    match ret {
-        None => Ok(()),
-        Some(t) => left_non_type(arena, env, t, out),
+    if let Some(t) = encoding.ret {
+        tri!(left_non_type(arena, env, t, out));
     }
+    print(arena, env, encoding.name, out)
 }
 
 #[cycle(printer)]
@@ -1660,36 +1301,4 @@ fn print_qualifiers(
         return Ok(());
     }
     print_parts(arena, env, encoding.clauses, out)
-}
-
-#[inline(never)]
-#[cycle(printer)]
-fn left_pack(arena: &Arena, env: Env, items: List, out: &mut Text) -> Result<(), AllocError>
-    requires items { IsListBelow arena.now.held (size arena.now) items }
-    ensures prints { Prints result out.old out.new ((spec.print (pack (trees_in arena.now.held (forest arena.now)
-        items)) env).text.left) }
-{
-    match element(arena, env, items) {
-        None => Ok(()),
-        Some(t) => print_left(arena, env, t, out),
-    }
-}
-
-#[inline(never)]
-#[cycle(printer)]
-fn right_pack(
-    arena: &Arena,
-    env: Env,
-    items: List,
-    joined: bool,
-    out: &mut Text,
-) -> Result<(), AllocError>
-    requires items { IsListBelow arena.now.held (size arena.now) items }
-    ensures prints { Prints result out.old out.new (spec.right_behind joined (spec.print (pack (trees_in
-        arena.now.held (forest arena.now) items)) env).text) }
-{
-    match element(arena, env, items) {
-        None => Ok(()),
-        Some(t) => print_right(arena, env, t, joined, out),
-    }
 }

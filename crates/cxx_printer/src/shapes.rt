@@ -3,13 +3,12 @@
 
 ghost use Rattle.std.specs.Prelude.{◌≡◌, ℕ, ◌<◌, ◌≤◌, Bool, true, false, Option, Some, None, MatchOption, IfSome};
 ghost use Rattle.std.specs.List.{AllByRecursion};
-ghost use Rattle.cxx_tree.specs.Tree.{named, pack, scoped};
-ghost use Rattle.cxx_tree.specs.Stored.{forest, size, tree_of, tree_at, trees_at, trees_in, plain_tree, parts_in, parts_at, parts_of, IsBelow, IsListBelow, IsPlainBelow, IsPartsBelow, IsPartBelow};
+ghost use Rattle.cxx_tree.specs.Tree.{pack};
+ghost use Rattle.cxx_tree.specs.Stored.{forest, size, tree_of, tree_at, trees_at, trees_in, plain_tree, parts_in, parts_of, IsBelow, IsListBelow, IsPlainBelow, IsPartsBelow, IsPartBelow};
 ghost use Rattle.cxx_printer.specs.Print as spec;
 ghost use Rattle.cxx_printer.specs.Words.{ending, ending_of_byte, within};
 ghost use Rattle.cxx_tree.specs.Measure.{measure};
-ghost use Rattle.cxx_printer.specs.Heads as heads;
-ghost use Rattle.cxx_printer.specs.Asked.{OneSided, Refers, ends_of_part, height, highest, item, run_ends};
+ghost use Rattle.cxx_printer.specs.Asked.{OneSided, Refers, ends_of_part, height, highest, item};
 
 use crate::env::Env;
 use crate::operands::{is_named_address, is_simple, protocol_of};
@@ -53,8 +52,8 @@ pub fn form_of(arena: &Arena, env: Env, i: u32) -> Form
     ensures value { result ≡ (spec.print (tree_at (forest arena.now) i) env).text.form }
 {
     match *node_at(arena, i) {
-        Node::Plain(_) => Form::Plain,
-        Node::Declaration(_)
+        Node::Plain(_)
+        | Node::Declaration(_)
         | Node::Pointer(_)
         | Node::Reference(_, _)
         | Node::MemberPointer(_, _) => Form::Plain,
@@ -101,8 +100,7 @@ pub fn has_right(arena: &Arena, env: Env, i: u32) -> bool
 {
     match *node_at(arena, i) {
         Node::Plain(_) => false,
-        Node::Declaration(_) => true,
-        Node::Array(_, _) | Node::Function(_) | Node::Encoding(_) => true,
+        Node::Declaration(_) | Node::Array(_, _) | Node::Function(_) | Node::Encoding(_) => true,
         Node::Qualified(t, _) | Node::Pointer(t) | Node::Reference(t, _) => has_right(
             arena, env, t,
         ),
@@ -131,32 +129,20 @@ pub fn is_starred(arena: &Arena, env: Env, i: u32) -> bool
 }
 
 /// Returns whether the left side of a tree ends with a bracket that joins one after it.
-#[cycle(closings)]
 pub fn is_closed(arena: &Arena, env: Env, i: u32) -> bool
     requires within { i < size arena.now }
     ensures value { result ≡ (spec.print (tree_at (forest arena.now) i) env).closed }
 {
     match *node_at(arena, i) {
-        Node::Plain(ref plain) => is_plain_closed(arena, env, plain),
+        Node::Plain(Plain::Phrase(phrase, _)) => env.is_llvm() && phrase.is_closed,
+        Node::Plain(Plain::AbiTag(_, _)) => env.is_llvm(),
+        Node::Plain(Plain::Scoped(_, _, name)) => is_closed(arena, env, name),
+        Node::Plain(Plain::Data(name)) => is_closed(arena, env, name),
         Node::Array(t, _) => is_closed(arena, env, t),
         Node::Pack(items) => match element(arena, env, items) {
             None => false,
             Some(t) => is_closed(arena, env, t),
         },
-        _ => false,
-    }
-}
-
-#[cycle(closings)]
-fn is_plain_closed(arena: &Arena, env: Env, plain: &Plain) -> bool
-    requires below { IsPlainBelow arena.now.held (size arena.now) plain.now }
-    ensures value { result ≡ (spec.print (plain_tree arena.now.held (forest arena.now) plain.now) env).closed }
-{
-    match *plain {
-        Plain::Phrase(phrase, _) => env.is_llvm() && phrase.is_closed,
-        Plain::AbiTag(_, _) => env.is_llvm(),
-        Plain::Scoped(_, _, name) => is_closed(arena, env, name),
-        Plain::Data(name) => is_closed(arena, env, name),
         _ => false,
     }
 }
@@ -189,13 +175,7 @@ pub fn referent_of(arena: &Arena, env: Env, is_lvalue: bool, i: u32) -> Referent
             Some(t) => referent_of(arena, env, is_lvalue, t),
         },
         Node::Plain(_) => itself(is_lvalue, i),
-        Node::Declaration(_) => itself(is_lvalue, i),
-        Node::Qualified(_, _) => itself(is_lvalue, i),
-        Node::Pointer(_) => itself(is_lvalue, i),
-        Node::MemberPointer(_, _) => itself(is_lvalue, i),
-        Node::Array(_, _) => itself(is_lvalue, i),
-        Node::Function(_) => itself(is_lvalue, i),
-        Node::Encoding(_) => itself(is_lvalue, i),
+        _ => itself(is_lvalue, i),
     }
 }
 
@@ -246,23 +226,12 @@ pub fn ending_of(arena: &Arena, env: Env, i: u32) -> Ending
 {
     match *node_at(arena, i) {
         Node::Plain(ref plain) => ending_of_plain(arena, env, plain),
-        Node::Pointer(t) => ending_of_pointer(arena, t),
+        Node::Pointer(t) if protocol_of(arena, t).is_some() => Ending::Greater,
         Node::Pack(items) => match element(arena, env, items) {
             None => Ending::Other,
             Some(t) => ending_of(arena, env, t),
         },
         _ => Ending::Other,
-    }
-}
-
-fn ending_of_pointer(arena: &Arena, t: u32) -> Ending
-    requires within { t < size arena.now }
-    ensures value { (p : spec.Printed) → result ≡ (spec.pointed (heads.protocol_of (tree_at (forest arena.now) t))
-        p).ends }
-{
-    match protocol_of(arena, t) {
-        None => Ending::Other,
-        Some(_) => Ending::Greater,
     }
 }
 
@@ -299,21 +268,12 @@ fn ending_of_phrase(arena: &Arena, env: Env, phrase: Phrase, parts: Parts) -> En
     if !phrase.is_open {
         return Ending::Other;
     }
-    ending_of_parts(arena, env.within(phrase.guard), arena.parts_of(parts))
-}
-
-// How parts end.
-#[cycle(endings)]
-fn ending_of_parts(arena: &Arena, env: Env, parts: &[Part]) -> Ending
-    requires below { AllByRecursion (IsPartBelow arena.now.held (size arena.now)) parts.now }
-    ensures value { result ≡ run_ends (spec.print_parts (parts_of arena.now.held (forest arena.now) parts.now)
-        env).ends }
-{
-    let n = parts.len();
+    let list = arena.parts_of(parts);
+    let n = list.len();
     if n == 0 {
         return Ending::Other;
     }
-    ending_of_part(arena, env, parts[n - 1])
+    ending_of_part(arena, env.within(phrase.guard), list[n - 1])
 }
 
 #[cycle(endings)]
@@ -350,11 +310,9 @@ fn ending_of_address(arena: &Arena, env: Env, t: u32) -> Ending
     ensures value { result ≡ spec.address_ends env (item (tree_at (forest arena.now) t)) }
 {
     match *node_at(arena, t) {
-        Node::Encoding(ref encoding) => {
-            if is_named_address(arena, encoding.name, encoding.cv, encoding.ref_qual) {
-                return ending_of(arena, env, encoding.name);
-            }
-            ending_of_operand(arena, env, t)
+        Node::Encoding(ref encoding)
+            if is_named_address(arena, encoding.name, encoding.cv, encoding.ref_qual) => {
+            ending_of(arena, env, encoding.name)
         }
         _ => ending_of_operand(arena, env, t),
     }

@@ -1,17 +1,16 @@
 //! The printings of a symbol.
 #![tactic(auto, using(crate::proofs::Appended::prints), unfolding(cxx_tree::specs::Stored::tree_of, cxx_tree::specs::Stored::plain_tree, cxx_tree::specs::Stored::declaration_tree, cxx_tree::specs::Stored::IsBelow, crate::specs::Symbol::mode_text, crate::specs::Symbol::block_text, crate::specs::Symbol::suffix_text, crate::specs::Symbol::symbol_in))]
 
-ghost use Rattle.std.specs.Prelude.{◌≡◌, ◌<◌, ◌++◌, take, length, Some, option_map, IfSome};
-ghost use Rattle.cxx_tree.specs.Stored.{forest, size, tree_at, text_at, IsText};
-ghost use Rattle.cxx_printer.specs.declared.symbol.Mode.TheVariants as modes;
+ghost use Rattle.std.specs.Prelude.{◌≡◌, ◌<◌, ◌++◌, take, length, Some, IfSome};
+ghost use Rattle.cxx_tree.specs.Stored.{forest, size, tree_at, IsText};
 ghost use Rattle.cxx_printer.specs.Prints.{Prints};
 ghost use Rattle.cxx_printer.specs.Symbol as spec;
 
 use crate::env::{Env, Style};
 use crate::print::{print, print_encoding, print_signature};
 use crate::shapes::node_at;
-use crate::writing::write;
-use cxx_tree::{Arena, Node};
+use crate::writing::{write, write_behind};
+use cxx_tree::{Arena, Node, NodeText};
 use growing_text::Text;
 use std::alloc::AllocError;
 
@@ -34,7 +33,7 @@ pub struct Symbol {
     /// The symbol is that of a block's function.
     pub is_block: bool,
     /// What follows from a dot.
-    pub suffix: Option<cxx_tree::NodeText>,
+    pub suffix: Option<NodeText>,
 }
 
 /// Appends what a symbol prints.
@@ -49,24 +48,13 @@ pub fn print_symbol(
     requires suffix { IfSome symbol.suffix (IsText arena.now.held) }
     ensures prints { Prints result out.old out.new (spec.symbol_text mode style (spec.symbol_at arena.now symbol)) }
 {
-    print_symbol_in(arena, Env::top(style), symbol, mode, out)
-}
-
-#[inline(always)]
-fn print_symbol_in(
-    arena: &Arena,
-    env: Env,
-    symbol: Symbol,
-    mode: Mode,
-    out: &mut Text,
-) -> Result<(), AllocError>
-    requires within { symbol.tree < size arena.now }
-    requires suffix { IfSome symbol.suffix (IsText arena.now.held) }
-    ensures prints { Prints result out.old out.new (spec.symbol_in env mode (spec.symbol_at arena.now symbol)) }
-{
+    let env = Env::top(style);
     tri!(write_block(symbol.is_block, out));
     tri!(print_mode(arena, env, symbol.tree, mode, out));
-    print_suffix(arena, env, symbol.suffix, out)
+    match symbol.suffix {
+        None => Ok(()),
+        Some(suffix) => print_suffix(env, arena.bytes(suffix), out),
+    }
 }
 
 // Appends what stands in front of a symbol of a block's function.
@@ -84,82 +72,23 @@ fn print_mode(arena: &Arena, env: Env, i: u32, mode: Mode, out: &mut Text) -> Re
     requires within { i < size arena.now }
     ensures prints { Prints result out.old out.new (spec.mode_text mode env (tree_at (forest arena.now) i)) }
 {
-    match mode {
-        Mode::Name => print_name(arena, env, i, out),
-        Mode::Signature => print_without_return_type(arena, env, i, out),
-        Mode::Declaration => print_declaration(arena, env, i, out),
-    }
-}
-
-#[inline(always)]
-fn print_declaration(arena: &Arena, env: Env, i: u32, out: &mut Text) -> Result<(), AllocError>
-    requires within { i < size arena.now }
-    ensures prints { Prints result out.old out.new (spec.mode_text modes.Declaration env (tree_at (forest arena.now)
-        i)) }
-{
     match *node_at(arena, i) {
-        Node::Encoding(ref encoding) => print_encoding(arena, env, encoding, out),
-        _ => print(arena, env, i, out),
-    }
-}
-
-// Appends the name of a function, or what any other tree prints.
-#[inline(never)]
-fn print_name(arena: &Arena, env: Env, i: u32, out: &mut Text) -> Result<(), AllocError>
-    requires within { i < size arena.now }
-    ensures prints { Prints result out.old out.new (spec.mode_text modes.Name env (tree_at (forest arena.now) i)) }
-{
-    match *arena.node(i) {
-        Node::Encoding(ref encoding) => print(arena, env, encoding.name, out),
-        _ => print(arena, env, i, out),
-    }
-}
-
-// Appends a function without its return type, or what any other tree prints.
-#[inline(never)]
-fn print_without_return_type(
-    arena: &Arena,
-    env: Env,
-    i: u32,
-    out: &mut Text,
-) -> Result<(), AllocError>
-    requires within { i < size arena.now }
-    ensures prints { Prints result out.old out.new (spec.mode_text modes.Signature env (tree_at (forest arena.now) i)) }
-{
-    match *node_at(arena, i) {
-        Node::Encoding(ref encoding) => print_signature(arena, env, encoding, out),
+        Node::Encoding(ref encoding) => match mode {
+            Mode::Name => print(arena, env, encoding.name, out),
+            Mode::Signature => print_signature(arena, env, encoding, out),
+            Mode::Declaration => print_encoding(arena, env, encoding, out),
+        },
         _ => print(arena, env, i, out),
     }
 }
 
 // Appends what follows from a dot.
-fn print_suffix(
-    arena: &Arena,
-    env: Env,
-    suffix: Option<cxx_tree::NodeText>,
-    out: &mut Text,
-) -> Result<(), AllocError>
-    requires suffix { IfSome suffix (IsText arena.now.held) }
-    ensures prints { Prints result out.old out.new (spec.suffix_text env (option_map (text_at arena.now.held) suffix)) }
-{
-    match suffix {
-        None => Ok(()),
-        Some(suffix) => print_dotted(env, arena.bytes(suffix), out),
-    }
-}
-
-fn print_dotted(env: Env, suffix: &[u8], out: &mut Text) -> Result<(), AllocError>
+fn print_suffix(env: Env, suffix: &[u8], out: &mut Text) -> Result<(), AllocError>
     ensures prints { Prints result out.old out.new (spec.suffix_text env (Some suffix.now)) }
 {
-    if env.is_llvm() {
-        return print_in_parens(suffix, out);
+    if !env.is_llvm() {
+        return print_pieces(suffix, out);
     }
-    print_pieces(suffix, out)
-}
-
-fn print_in_parens(suffix: &[u8], out: &mut Text) -> Result<(), AllocError>
-    ensures prints { Prints result out.old out.new (spec.in_parens suffix.now) }
-{
     tri!(write(out, b" ("));
     tri!(write(out, suffix));
     write(out, b")")
@@ -191,43 +120,25 @@ fn print_behind(behind: &[u8], out: &mut Text) -> Result<(), AllocError>
 }
 
 // Appends the first byte of what is left of a suffix, after what stands between two pieces if it begins one.
+#[tactic(auto, using(crate::proofs::Appended::prints), unfolding(crate::specs::Symbol::between))]
 fn print_byte(rest: &[u8], out: &mut Text) -> Result<(), AllocError>
     requires some { 0 < length rest.now }
     ensures prints { Prints result out.old out.new (spec.between rest.now ++ take 1 rest.now) }
 {
-    tri!(write_between(rest, out));
+    if is_piece(rest) {
+        return write_behind(out, b"] [clone ", &rest[..1]);
+    }
     write(out, &rest[..1])
 }
 
-// Appends what stands between two pieces, if what is left of a suffix begins one.
-#[tactic(auto, using(crate::proofs::Appended::prints), unfolding(crate::specs::Symbol::between))]
-fn write_between(rest: &[u8], out: &mut Text) -> Result<(), AllocError>
-    ensures prints { Prints result out.old out.new (spec.between rest.now) }
-{
-    if is_piece(rest) {
-        return write(out, b"] [clone ");
-    }
-    Ok(())
-}
-
 // Whether a piece begins here: with a dot that no digit follows.
-#[tactic(auto, unfolding(crate::specs::Symbol::is_piece))]
+#[tactic(auto, unfolding(crate::specs::Symbol::is_piece, crate::specs::Symbol::is_digit_first))]
 fn is_piece(bytes: &[u8]) -> bool
     ensures value { result ≡ spec.is_piece bytes.now }
 {
     match bytes {
-        [byte, behind @ ..] => *byte == b'.' && !is_digit_first(behind),
-        [] => false,
-    }
-}
-
-// Whether the first byte, if there is one, is a digit.
-#[tactic(auto, unfolding(crate::specs::Symbol::is_digit_first))]
-fn is_digit_first(bytes: &[u8]) -> bool
-    ensures value { result ≡ spec.is_digit_first bytes.now }
-{
-    match bytes {
-        [byte, ..] => b'0' <= *byte && *byte <= b'9',
-        [] => false,
+        [b'.', b'0'..=b'9', ..] => false,
+        [b'.', ..] => true,
+        _ => false,
     }
 }

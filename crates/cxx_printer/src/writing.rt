@@ -10,7 +10,7 @@ ghost use Rattle.cxx_printer.specs.Words as words;
 
 use crate::env::Env;
 use crate::words::{Form, cv_text, std_text};
-use cxx_tree::{Arena, Cv, MOST_DIGITS, RefQual, Std, number_bytes};
+use cxx_tree::{Arena, Cv, MOST_DIGITS, NodeText, RefQual, Std, number_bytes};
 use growing_text::Text;
 use std::alloc::AllocError;
 
@@ -56,7 +56,7 @@ pub fn write_joined(scope: &[u8], name: &[u8], out: &mut Text) -> Result<(), All
 
 /// Appends a text of a node.
 #[inline(never)]
-pub fn write_text(arena: &Arena, text: &cxx_tree::NodeText, out: &mut Text) -> Result<(), AllocError>
+pub fn write_text(arena: &Arena, text: &NodeText, out: &mut Text) -> Result<(), AllocError>
     requires within { IsText arena.now.held text.now }
     ensures prints { Prints result out.old out.new (text_at arena.now.held text.now) }
 {
@@ -65,12 +65,7 @@ pub fn write_text(arena: &Arena, text: &cxx_tree::NodeText, out: &mut Text) -> R
 
 /// Returns one of two texts.
 #[inline(always)]
-pub fn styled_bytes<'a>(
-    arena: &'a Arena,
-    env: Env,
-    llvm: &cxx_tree::NodeText,
-    gnu: &cxx_tree::NodeText,
-) -> &'a [u8]
+pub fn styled_bytes<'a>(arena: &'a Arena, env: Env, llvm: &NodeText, gnu: &NodeText) -> &'a [u8]
     requires llvm { IsText arena.now.held llvm.now }
     requires gnu { IsText arena.now.held gnu.now }
     ensures value { result.now ≡ words.styled env (text_at arena.now.held llvm.now) (text_at arena.now.held gnu.now) }
@@ -86,8 +81,8 @@ pub fn styled_bytes<'a>(
 pub fn write_styled(
     arena: &Arena,
     env: Env,
-    llvm: &cxx_tree::NodeText,
-    gnu: &cxx_tree::NodeText,
+    llvm: &NodeText,
+    gnu: &NodeText,
     out: &mut Text,
 ) -> Result<(), AllocError>
     requires llvm { IsText arena.now.held llvm.now }

@@ -2,6 +2,7 @@ use Rattle.std.proofs.Common.{◌≡◌, ◌+◌, ◌-◌, ◌*◌, ◌≤◌, �
 use Rattle.cxx_tree.specs.declared.node.Node.TheVariants as node
 use Rattle.cxx_tree.specs.Stored.{forest, tree_at, trees_at, parts_of}
 use Rattle.cxx_printer.specs.Asked.{item}
+use Rattle.cxx_printer.specs.Words.{in_angle}
 use Rattle.cxx_printer.specs.Print.{items_of, print_parts, list_from, sequence, separated, declared, head, repeated}
 use Rattle.cxx_printer.proofs.Heights.{height_at, height_of, plain_height, declaration_height, option_height, items_height, list_height, part_height, parts_height}
 use Rattle.cxx_printer.proofs.print.+printer.Given as goal
@@ -30,9 +31,6 @@ decreases-print_encoding l = 64 * height_of l.arena.now (node.Encoding l.encodin
 abbrev pub decreases-left_encoding : goal.decreases-left_encoding
 decreases-left_encoding l = 64 * height_of l.arena.now (node.Encoding l.encoding.now) + 21
 
-abbrev pub decreases-left_ret : goal.decreases-left_ret
-decreases-left_ret l = 64 * option_height l.arena.now l.ret + 32
-
 abbrev pub decreases-right_ret : goal.decreases-right_ret
 decreases-right_ret l = 64 * option_height l.arena.now l.ret + 32
 
@@ -54,35 +52,20 @@ decreases-left_declaration l = 64 * declaration_height l.arena.now l.declaration
 abbrev pub decreases-right_declaration : goal.decreases-right_declaration
 decreases-right_declaration l = 64 * declaration_height l.arena.now l.declaration.now + 20
 
-abbrev pub decreases-head_of_declaration : goal.decreases-head_of_declaration
-decreases-head_of_declaration l = 64 * declaration_height l.arena.now l.declaration.now + 20
-
-abbrev pub decreases-name_of_declaration : goal.decreases-name_of_declaration
-decreases-name_of_declaration l = 64 * declaration_height l.arena.now l.declaration.now + 20
-
 abbrev pub decreases-left_qualified : goal.decreases-left_qualified
 decreases-left_qualified l = 64 * height_at l.arena.now l.t + 35
 
 abbrev pub decreases-left_pointer : goal.decreases-left_pointer
 decreases-left_pointer l = 64 * height_at l.arena.now l.t + 37
 
-abbrev pub decreases-left_plain_pointer : goal.decreases-left_plain_pointer
-decreases-left_plain_pointer l = 64 * height_at l.arena.now l.t + 36
-
 abbrev pub decreases-left_reference : goal.decreases-left_reference
 decreases-left_reference l = 64 * height_at l.arena.now l.t + 37
-
-abbrev pub decreases-left_base : goal.decreases-left_base
-decreases-left_base l = 64 * height_at l.arena.now l.t + 36
 
 abbrev pub decreases-left_member : goal.decreases-left_member
 decreases-left_member l = 64 * max (height_at l.arena.now l.class) (height_at l.arena.now l.member) + 41
 
 abbrev pub decreases-left_function : goal.decreases-left_function
 decreases-left_function l = 64 * height_at l.arena.now l.ret + 31
-
-abbrev pub decreases-left_pack : goal.decreases-left_pack
-decreases-left_pack l = 64 * list_height l.arena.now l.items + 31
 
 abbrev pub decreases-right_pointer : goal.decreases-right_pointer
 decreases-right_pointer l = 64 * height_at l.arena.now l.t + 32
@@ -96,17 +79,8 @@ decreases-right_reference l = 64 * height_at l.arena.now l.t + 32
 abbrev pub decreases-right_array : goal.decreases-right_array
 decreases-right_array l = 64 * max (height_at l.arena.now l.element) (parts_height l.arena.now l.dimension) + 57
 
-abbrev pub decreases-right_bracket : goal.decreases-right_bracket
-decreases-right_bracket l = 64 * max (height_at l.arena.now l.element) (parts_height l.arena.now l.dimension) + 56
-
-abbrev pub decreases-print_joined : goal.decreases-print_joined
-decreases-print_joined l = 64 * height_at l.arena.now l.t + 31
-
 abbrev pub decreases-right_function : goal.decreases-right_function
 decreases-right_function l = 64 * height_of l.arena.now (node.Function l.function.now) + 18
-
-abbrev pub decreases-right_pack : goal.decreases-right_pack
-decreases-right_pack l = 64 * list_height l.arena.now l.items + 31
 
 abbrev pub decreases-print_phrase : goal.decreases-print_phrase
 decreases-print_phrase l = 64 * parts_height l.arena.now l.parts + 57
@@ -129,14 +103,8 @@ decreases-print_parens l = 64 * list_height l.arena.now l.list + 51
 abbrev pub decreases-print_angles : goal.decreases-print_angles
 decreases-print_angles l = 64 * list_height l.arena.now l.list + 51
 
-abbrev pub decreases-print_declared_list : goal.decreases-print_declared_list
-decreases-print_declared_list l = 64 * items_height l.arena.now l.items.now + 48
-
 abbrev pub decreases-print_template_head : goal.decreases-print_template_head
 decreases-print_template_head l = 64 * items_height l.arena.now l.items.now + 49
-
-abbrev pub decreases-print_heads : goal.decreases-print_heads
-decreases-print_heads l = 64 * items_height l.arena.now l.items.now + 48
 
 abbrev pub decreases-print_sequence : goal.decreases-print_sequence
 decreases-print_sequence l = 64 * items_height l.arena.now l.items.now + 49
@@ -159,14 +127,8 @@ decreases-print_protocol l = 64 * height_at l.arena.now l.t + 41
 abbrev pub decreases-print_expansion : goal.decreases-print_expansion
 decreases-print_expansion l = 64 * height_at l.arena.now l.t + 47
 
-abbrev pub decreases-print_repeated : goal.decreases-print_repeated
-decreases-print_repeated l = 64 * height_at l.arena.now l.t + 46
-
 abbrev pub decreases-print_item : goal.decreases-print_item
 decreases-print_item l = 64 * height_at l.arena.now l.t + 48
-
-abbrev pub decreases-print_item_text : goal.decreases-print_item_text
-decreases-print_item_text l = 64 * height_at l.arena.now l.t + 43
 
 abbrev pub decreases-print_operand : goal.decreases-print_operand
 decreases-print_operand l = 64 * height_at l.arena.now l.t + 42
@@ -192,9 +154,6 @@ decreases-print_argument l = 64 * height_at l.arena.now l.t + 45
 abbrev pub decreases-print_count : goal.decreases-print_count
 decreases-print_count l = 64 * height_at l.arena.now l.t + 46
 
-abbrev pub decreases-print_sizeof : goal.decreases-print_sizeof
-decreases-print_sizeof l = 64 * height_at l.arena.now l.t + 45
-
 abbrev pub decreases-print_folded : goal.decreases-print_folded
 decreases-print_folded l = 64 * height_at l.arena.now l.t + 48
 
@@ -209,9 +168,6 @@ decreases-print_declared_name l = 64 * height_at l.arena.now l.t + 45
 
 abbrev pub decreases-left_non_type : goal.decreases-left_non_type
 decreases-left_non_type l = 64 * height_at l.arena.now l.t + 31
-
-abbrev pub decreases-print_type : goal.decreases-print_type
-decreases-print_type l = 64 * height_at l.arena.now l.i + 38
 
 abbrev pub decreases-print_qualified : goal.decreases-print_qualified
 decreases-print_qualified l = 64 * height_at l.arena.now l.i + 37
@@ -231,35 +187,11 @@ decreases-print_scoped_name l = 64 * height_at l.arena.now l.scope + 46
 abbrev pub decreases-print_list : goal.decreases-print_list
 decreases-print_list l = 64 * items_height l.arena.now l.items.now + 49
 
-abbrev pub decreases-print_plain_item : goal.decreases-print_plain_item
-decreases-print_plain_item l = 64 * height_at l.arena.now l.t + 47
-
-abbrev pub decreases-print_type_item : goal.decreases-print_type_item
-decreases-print_type_item l = 64 * height_at l.arena.now l.t + 47
-
 abbrev pub decreases-print_any_item : goal.decreases-print_any_item
 decreases-print_any_item l = 64 * height_at l.arena.now l.t + 44
 
-abbrev pub decreases-print_element : goal.decreases-print_element
-decreases-print_element l = 64 * height_at l.arena.now l.t + 45
-
-abbrev pub decreases-left_template : goal.decreases-left_template
-decreases-left_template l = 64 * list_height l.arena.now l.list + 52
-
-abbrev pub decreases-print_scoped_item : goal.decreases-print_scoped_item
-decreases-print_scoped_item l = 64 * height_at l.arena.now l.t + 46
-
-abbrev pub decreases-print_args_item : goal.decreases-print_args_item
-decreases-print_args_item l = 64 * height_at l.arena.now l.t + 46
-
-abbrev pub decreases-print_pointer_item : goal.decreases-print_pointer_item
-decreases-print_pointer_item l = 64 * height_at l.arena.now l.t + 46
-
-abbrev pub decreases-print_reference_item : goal.decreases-print_reference_item
-decreases-print_reference_item l = 64 * height_at l.arena.now l.t + 46
-
-abbrev pub invariant-print_repeated-loop-k : goal.invariant-print_repeated-loop-k
-invariant-print_repeated-loop-k l =
+abbrev pub invariant-print_expansion-loop-k : goal.invariant-print_expansion-loop-k
+invariant-print_expansion-loop-k l =
     l.fn.out ++ repeated l.n 0 l.env (item (tree_at (forest l.arena) l.t))
     ≡ l.out ++ repeated (l.n - l.k) l.k l.env (item (tree_at (forest l.arena) l.t))
 
@@ -279,12 +211,12 @@ invariant-print_sequence-loop-t l =
     l.fn.out ++ sequence l.env (items_of (trees_at (forest l.arena) l.items))
     ≡ l.out ++ sequence l.env (items_of (trees_at (forest l.arena) (drop l.t-index l.items)))
 
-abbrev pub invariant-print_declared_list-loop-t : goal.invariant-print_declared_list-loop-t
-invariant-print_declared_list-loop-t l =
-    l.fn.out ++ separated declared true l.env (items_of (trees_at (forest l.arena) l.items))
-    ≡ l.out ++ separated declared l.is_first l.env (items_of (trees_at (forest l.arena) (drop l.t-index l.items)))
+abbrev pub invariant-print_declarations-loop-t : goal.invariant-print_declarations-loop-t
+invariant-print_declarations-loop-t l =
+    l.initial.out ++ separated declared true (in_angle l.env) (items_of (trees_at (forest l.arena) l.t-items))
+    ≡ l.out ++ separated declared l.is_first (in_angle l.env) (items_of (trees_at (forest l.arena) (drop l.t-index l.t-items)))
 
-abbrev pub invariant-print_heads-loop-t : goal.invariant-print_heads-loop-t
-invariant-print_heads-loop-t l =
-    l.fn.out ++ separated head true l.env (items_of (trees_at (forest l.arena) l.items))
+abbrev pub invariant-print_template_head-loop-t : goal.invariant-print_template_head-loop-t
+invariant-print_template_head-loop-t l =
+    l.initial.out ++ separated head true l.env (items_of (trees_at (forest l.arena) l.items))
     ≡ l.out ++ separated head l.is_first l.env (items_of (trees_at (forest l.arena) (drop l.t-index l.items)))

@@ -1,4 +1,4 @@
-use Rattle.std.proofs.Common.{◌≡◌, ◌+◌, ◌-◌, ◌*◌, ◌<◌, length, sym, subst, ap, arith}
+use Rattle.std.proofs.Common.{◌-◌, ◌<◌, length, sym, subst, ap, arith}
 use Rattle.std.specs.List.{AllByRecursion}
 use Rattle.cxx_tree.specs.Stored.{forest, parts_in, size, IsPartBelow}
 use Rattle.cxx_printer.proofs.Heights.{run_height, item_height, part_falls, phrase_height}
@@ -13,18 +13,14 @@ ending_of_list-ending_of-requires t c =
     let lower = item_height s is (length is - 1) 0 last in
     (omega (arith, lower), below_at (size s) is (length is - 1) 0 c.requires.below last)
 
-pub ending_of_parts-ending_of_part-requires : goal.ending_of_parts-ending_of_part-requires
-ending_of_parts-ending_of_part-requires t c =
+pub ending_of_phrase-ending_of_part-requires : goal.ending_of_phrase-ending_of_part-requires
+ending_of_phrase-ending_of_part-requires t c =
     let s = c.args.arena.now in
-    let ps = c.args.parts.now in
+    let ps = c.parts_of-list.result.now in
+    let e = c.parts_of-list.ensures.value in
     let last : length ps - 1 < length ps = omega arith in
-    let m : t ≡ 64 * run_height s ps + 55 = omega arith in
-    (part_falls s ps (length ps - 1) _ t last m, in_parts s.held (size s) ps (length ps - 1) _ c.requires.below last)
-
-pub ending_of_phrase-ending_of_parts-requires : goal.ending_of_phrase-ending_of_parts-requires
-ending_of_phrase-ending_of_parts-requires t c =
-    let s = c.args.arena.now in
-    let e = c.parts_of.ensures.value in
     let same = phrase_height c.args.phrase.is_reversed (parts_in s.held (forest s) c.args.parts) in
-    let high = ap (run_height s) e in
-    (omega (arith, same, high), subst (AllByRecursion (IsPartBelow s.held (size s))) (sym e) c.requires.below.1)
+    let high = ap (run_height s) e in (
+      part_falls s ps (length ps - 1) _ t last (omega (arith, same, high)),
+      in_parts s.held (size s) ps (length ps - 1) _ (subst (AllByRecursion (IsPartBelow s.held (size s))) (sym e) c.requires.below.1) last,
+    )

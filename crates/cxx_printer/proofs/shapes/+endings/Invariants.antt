@@ -1,5 +1,5 @@
 use Rattle.std.proofs.Common.{◌+◌, ◌*◌}
-use Rattle.cxx_printer.proofs.Heights.{height_at, plain_height, items_height, part_height, run_height, phrase_height_of}
+use Rattle.cxx_printer.proofs.Heights.{height_at, plain_height, items_height, part_height, phrase_height_of}
 use Rattle.cxx_printer.proofs.shapes.+endings.Given as goal
 
 abbrev pub decreases-ending_of : goal.decreases-ending_of
@@ -28,6 +28,3 @@ decreases-ending_of_operand l = 64 * height_at l.arena.now l.t + 11
 
 abbrev pub decreases-ending_of_expansion : goal.decreases-ending_of_expansion
 decreases-ending_of_expansion l = 64 * height_at l.arena.now l.t + 10
-
-abbrev pub decreases-ending_of_parts : goal.decreases-ending_of_parts
-decreases-ending_of_parts l = 64 * run_height l.arena.now l.parts.now + 55
