@@ -1,6 +1,6 @@
 //! Reads the bytes of a mangled symbol as the nodes of a tree (Itanium C++ ABI 5.1). Begin with `encodings.rt`, whose
-//! `read_encoding` reads all of a symbol, and with `reader.rt`. `specs/Grammar` of `cxx_grammar` has what each reader is
-//! proved to do.
+//! `read_encoding` reads all of a symbol, and with `reader.rt`. What each reader is proved to do stands in the files of
+//! the same names in `cxx_grammar/specs`.
 #![tactic(auto)]
 
 /// The value of a result. An error is returned as it is.
