@@ -124,7 +124,7 @@ fn replace_input(
     if flags.pass_through {
         return copy_input(rt, output);
     }
-    // Neither the source nor the sink has a buffer: the engine reads and writes whole chunks.
+    // Neither the source nor the sink has a buffer: the filter reads and writes whole chunks.
     let mut source = Tally::new(rt.stdin());
     let mut sink = Tally::new(output);
     let mut demanglers = Demanglers::new(rt.alloc());

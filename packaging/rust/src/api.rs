@@ -246,7 +246,7 @@ pub fn try_filter(lines: &[u8], printing: Printing) -> Result<Vec<u8>, AllocErro
     Ok(made.bytes.into_std())
 }
 
-/// The bytes that the engine has written, and whether there was no memory for some.
+/// The bytes that the filter has written, and whether there was no memory for some.
 struct Made {
     bytes: vec::Vec<u8>,
     failed: bool,

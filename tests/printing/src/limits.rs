@@ -81,7 +81,7 @@ fn name(arena: &mut Arena, bytes: &[u8]) -> Result<u32, Stop> {
 
 fn list(arena: &mut Arena, items: &[u32]) -> Result<u32, Stop> {
     let items = arena.list(items)?;
-    arena.push(Node::Plain(Plain::List(items)))
+    arena.push(Node::Plain(Plain::Several(items)))
 }
 
 fn pack(arena: &mut Arena, items: &[u32]) -> Result<u32, Stop> {
@@ -181,9 +181,10 @@ fn declared(arena: &mut Arena) -> Result<u32, Stop> {
     let cv = Cv { is_const: true, is_volatile: false, is_restrict: false };
     let qualified = arena.push(Node::Qualified(pointer, cv))?;
     let reference = arena.push(Node::Reference(qualified, true))?;
-    let (params, rest) = (arena.list(&[reference, g])?, arena.parts(&[])?);
+    let (params, clauses) = (arena.list(&[reference, g])?, arena.parts(&[])?);
     let cv = Cv { is_const: false, is_volatile: false, is_restrict: false };
-    arena.push(Node::Encoding(Encoding { ret: Some(pointer), name: named, params, cv, ref_qual: RefQual::None, rest }))
+    let ref_qual = RefQual::None;
+    arena.push(Node::Encoding(Encoding { ret: Some(pointer), name: named, params, cv, ref_qual, clauses }))
 }
 
 /// Whether a function is made and printed. The error says whether it was want of memory.

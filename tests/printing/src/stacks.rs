@@ -3,7 +3,7 @@
 
 use crate::extracted::cxx_printer::{Mode, Style, Symbol, print_symbol};
 use crate::extracted::cxx_tree::{
-    Arena, Cv, Declaration, Encoding, Function, Listing, Manner, Node, Part, Phrase, Plain, Stop, RefQual, Text,
+    Arena, Cv, Declaration, Encoding, Function, Listing, Manner, Node, NodeText, Part, Phrase, Plain, RefQual, Stop,
 };
 use crate::extracted::cxx_tree::{Context, Guard, Parts, Prec, Role};
 use crate::rattle::alloc::Global;
@@ -59,9 +59,9 @@ fn function(arena: &mut Arena, ret: u32, params: &[u32], exception: Parts) -> Re
     arena.push(Node::Function(Function { ret, params, cv: NO_CV, ref_qual: RefQual::None, exception }))
 }
 
-fn encoding(arena: &mut Arena, ret: Option<u32>, name: u32, params: &[u32], rest: Parts) -> Result<u32, Stop> {
+fn encoding(arena: &mut Arena, ret: Option<u32>, name: u32, params: &[u32], clauses: Parts) -> Result<u32, Stop> {
     let params = arena.list(params)?;
-    arena.push(Node::Encoding(Encoding { ret, name, params, cv: NO_CV, ref_qual: RefQual::None, rest }))
+    arena.push(Node::Encoding(Encoding { ret, name, params, cv: NO_CV, ref_qual: RefQual::None, clauses }))
 }
 
 /// The shapes, with their names.
@@ -94,14 +94,14 @@ const SHAPES: &[(&str, Shape)] = &[
         let args = a.list(&[t])?;
         plain(a, Plain::WithArgs(x, args))
     }),
-    ("ABI tag", |a, t, _| plain(a, Plain::AbiTag(t, Text::Fixed(b"y")))),
+    ("ABI tag", |a, t, _| plain(a, Plain::AbiTag(t, NodeText::Fixed(b"y")))),
     ("name in a module", |a, t, x| plain(a, Plain::InModule(t, x))),
     ("module", |a, t, x| plain(a, Plain::InModule(x, t))),
     ("data", |a, t, _| plain(a, Plain::Data(t))),
-    ("protocol", |a, t, _| plain(a, Plain::ObjcProtocol(t, Text::Fixed(b"y")))),
+    ("protocol", |a, t, _| plain(a, Plain::ObjcProtocol(t, NodeText::Fixed(b"y")))),
     ("list", |a, t, _| {
         let items = a.list(&[t])?;
-        plain(a, Plain::List(items))
+        plain(a, Plain::Several(items))
     }),
     ("expansion", |a, t, _| plain(a, Plain::Expansion(t))),
     ("expansion of a pack", |a, t, _| {
@@ -164,8 +164,8 @@ const SHAPES: &[(&str, Shape)] = &[
         encoding(a, Some(x), x, &[t], none)
     }),
     ("after a function", |a, t, x| {
-        let rest = part(a, t)?;
-        encoding(a, Some(x), x, &[x], rest)
+        let clauses = part(a, t)?;
+        encoding(a, Some(x), x, &[x], clauses)
     }),
 ];
 

@@ -3,7 +3,7 @@
 
 use crate::extracted::cxx_printer::Symbol;
 use crate::extracted::cxx_tree::{
-    Arena, Clauses, Cv, Declaration, List, Node, Plain, Prec, RefQual, Signature, Std, Stop, Text,
+    Arena, Clauses, Cv, Declaration, List, Node, NodeText, Plain, Prec, RefQual, Signature, Std, Stop,
 };
 use crate::rattle::alloc::Global;
 use crate::value::Value;
@@ -98,12 +98,12 @@ struct Maker<'a> {
 }
 
 impl Maker<'_> {
-    fn text(&mut self, value: &Value) -> Result<Text, Stop> {
+    fn text(&mut self, value: &Value) -> Result<NodeText, Stop> {
         Ok(self.arena.text(value.bytes())?)
     }
 
     /// A text, and that of GNU's style.
-    fn texts(&mut self, value: &Value) -> Result<(Text, Text), Stop> {
+    fn texts(&mut self, value: &Value) -> Result<(NodeText, NodeText), Stop> {
         let llvm = self.text(value)?;
         match GNU.iter().find(|(text, _)| *text == value.bytes()) {
             Some((_, text)) => Ok((llvm, self.arena.text(text)?)),
@@ -112,7 +112,7 @@ impl Maker<'_> {
     }
 
     /// A count, and its number in GNU's style.
-    fn count(&mut self, value: &Value) -> Result<(Text, Text), Stop> {
+    fn count(&mut self, value: &Value) -> Result<(NodeText, NodeText), Stop> {
         Ok((self.text(value)?, self.arena.text(ordinal(value.bytes()).as_bytes())?))
     }
 
@@ -298,7 +298,7 @@ impl Maker<'_> {
                 self.arena.push(node)?
             }
             ("List", [trees]) => {
-                let node = Plain::List(self.list(trees)?);
+                let node = Plain::Several(self.list(trees)?);
                 self.plain(node)?
             }
             ("Expansion", [t]) => {
