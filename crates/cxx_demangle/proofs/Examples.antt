@@ -12,11 +12,12 @@ use Rattle.cxx_grammar.specs.Words.{builtin_of, d_builtin_of, integer_of, std_of
 use Rattle.cxx_grammar.specs.Parses.{past_word_if, repeat_at_most}
 use Rattle.cxx_grammar.specs.Bases.{base_name, args_of, is_with_args, is_param, expand}
 use Rattle.cxx_grammar.specs.Binds.{bind_args, parse_closed, bind_encoding}
-use Rattle.cxx_grammar.specs.Leaves.{parse_substitution, parse_template_param, parse_cv, parse_ref, parse_builtin, parse_bool, parse_null, parse_integer}
+use Rattle.cxx_grammar.specs.Leaves.{parse_call_offset, parse_temporary_id, parse_substitution, parse_template_param, parse_cv, parse_ref, parse_builtin, parse_bool, parse_null, parse_integer}
 use Rattle.cxx_grammar.specs.Args.{parse_list, literal_as, arg_as}
 use Rattle.cxx_grammar.specs.Names.{base_as, parse_class_of, part_as, parse_unqualified_name, parse_named_args, parse_in_place, parse_info, parse_component, first_as, parse_next, parse_components, name_as}
 use Rattle.cxx_grammar.specs.Types.{parse_qualified_type, parse_type_args, type_as}
-use Rattle.cxx_grammar.specs.Encodings.{parse_signature}
+use Rattle.cxx_grammar.specs.Rows.{t_special_of, g_special_of, type_row_of, tree_as, item_as, parse_items, make_as, parse_row, ends}
+use Rattle.cxx_grammar.specs.Encodings.{parse_signature, encoding_as}
 use Rattle.cxx_grammar.specs.Symbol.{productions, parse_symbol}
 use Rattle.cxx_printer.specs.Words.{ending, short_std_text, long_std_text, std_text, cv_text, ref_text, mark, opened, member_opened, closed}
 use Rattle.cxx_printer.specs.Heads.{prec_of, rank, is_simple, has_args, is_designator, is_scoped, is_objc_object, protocol_of, count_item, count_items, count_of}
@@ -38,7 +39,9 @@ some_by printing symbol answer is short utf8 = go (parse_symbol symbol) refl is
 pub worked_symbols : WorkedSymbols
 unfolding productions parse_unqualified_name parse_named_args parse_in_place parse_component parse_next parse_components
     parse_info parse_class_of part_as base_as first_as name_as parse_list literal_as arg_as type_as parse_qualified_type
-    parse_type_args parse_signature past_word_if repeat_at_most parse_substitution parse_template_param parse_cv
+    parse_type_args parse_signature encoding_as t_special_of g_special_of type_row_of tree_as item_as parse_items
+    make_as parse_row ends past_word_if repeat_at_most parse_call_offset parse_temporary_id parse_substitution
+    parse_template_param parse_cv
     parse_ref parse_builtin parse_bool parse_null parse_integer builtin_of d_builtin_of integer_of std_of operator_of
     base_name args_of is_with_args is_param expand bind_args parse_closed bind_encoding bind as_pack measure count
     front_digits weighted number source_name index_of digits number_text optional_number_text identifier
