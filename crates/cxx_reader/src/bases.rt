@@ -6,7 +6,7 @@ ghost use Rattle.cxx_tree.specs.Tree.{std_name};
 ghost use Rattle.cxx_tree.specs.Stored.{forest, size, tree_at, trees_in, text_at, IsText, IsListBelow};
 ghost use Rattle.cxx_grammar.specs.Bases as spec;
 
-use cxx_tree::{Arena, List, Node, Plain, Std, NodeText};
+use cxx_tree::{Arena, List, Node, NodeText, Plain, Std};
 
 // An abbreviation of std without `std::` and arguments.
 fn std_base(std: Std, is_expanded: bool) -> &'static [u8]
@@ -47,7 +47,10 @@ pub fn base_name(arena: &Arena, i: u32) -> NodeText
     match *arena.node(i) {
         Node::Plain(Plain::Name(text)) => text,
         Node::Plain(Plain::Leaf(_, text, _)) => text,
-        Node::Plain(Plain::StdName(std, is_expanded)) => NodeText::Fixed(std_base(std, is_expanded)),
+        Node::Plain(Plain::StdName(std, is_expanded)) => NodeText::Fixed(std_base(
+            std,
+            is_expanded,
+        )),
         Node::Plain(Plain::AbiTag(name, _)) => base_name(arena, name),
         Node::Plain(Plain::InModule(name, _)) => base_name(arena, name),
         Node::Plain(Plain::WithArgs(name, _)) => base_name(arena, name),

@@ -97,7 +97,12 @@ fn read_some_params(reader: &mut Reader, depth: usize) -> Result<(), Stop>
 
 impl<'a> Reader<'a> {
     // Makes the function of a name, whose parameters are the nodes of the list that is read from `from` on.
-    fn make_function(&mut self, ret: Option<u32>, name: LearnedName, from: usize) -> Result<u32, Stop>
+    fn make_function(
+        &mut self,
+        ret: Option<u32>,
+        name: LearnedName,
+        from: usize,
+    ) -> Result<u32, Stop>
         requires ret { IfSome ret (IsNode self.old.arena) }
         requires named { IsNamed self.old.arena name }
         requires within { from ≤ length self.old.arena.pending }

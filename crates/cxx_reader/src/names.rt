@@ -176,7 +176,11 @@ fn read_in_place(reader: &mut Reader, depth: usize, place: Place) -> Result<Lear
 
 // Reads the arguments of a name.
 #[cycle(reader)]
-fn read_named_args(reader: &mut Reader, depth: usize, name: LearnedName) -> Result<LearnedName, Stop>
+fn read_named_args(
+    reader: &mut Reader,
+    depth: usize,
+    name: LearnedName,
+) -> Result<LearnedName, Stop>
     requires named { IsNamed reader.old.arena name }
     ensures reads { GivesNamed result reader.new (spec.parse_named_args (productions depth)
         (named_at reader.old.arena name) (state reader.old)) }
@@ -195,7 +199,11 @@ fn read_named_args(reader: &mut Reader, depth: usize, name: LearnedName) -> Resu
 // read without the other cases.
 #[cycle(reader)]
 #[inline(always)]
-fn read_unqualified_name(reader: &mut Reader, depth: usize, place: Place) -> Result<LearnedName, Stop>
+fn read_unqualified_name(
+    reader: &mut Reader,
+    depth: usize,
+    place: Place,
+) -> Result<LearnedName, Stop>
     requires place { IsPlace reader.old.arena place }
     ensures reads { GivesNamed result reader.new (spec.parse_unqualified_name (productions depth)
         (place_at reader.old.arena place) (state reader.old)) }
@@ -303,7 +311,11 @@ fn read_first_std(reader: &mut Reader, depth: usize, info: Info) -> Result<Learn
 
 #[cycle(reader)]
 #[inline(always)]
-fn read_first_substitution(reader: &mut Reader, depth: usize, info: Info) -> Result<LearnedName, Stop>
+fn read_first_substitution(
+    reader: &mut Reader,
+    depth: usize,
+    info: Info,
+) -> Result<LearnedName, Stop>
     requires info { IsInfo reader.old.arena info }
     ensures reads { GivesNamed result reader.new (spec.first_substitution (productions depth)
         (info_at reader.old.arena info) (state reader.old)) }
@@ -316,7 +328,11 @@ fn read_first_substitution(reader: &mut Reader, depth: usize, info: Info) -> Res
 // Reads what follows the first component: other components, up to the `E`.
 #[cycle(reader)]
 #[inline(always)]
-fn read_components(reader: &mut Reader, depth: usize, name: LearnedName) -> Result<LearnedName, Stop>
+fn read_components(
+    reader: &mut Reader,
+    depth: usize,
+    name: LearnedName,
+) -> Result<LearnedName, Stop>
     requires named { IsNamed reader.old.arena name }
     ensures reads { GivesNamed result reader.new (spec.parse_components (productions depth)
         (named_at reader.old.arena name) (state reader.old)) }
@@ -350,7 +366,11 @@ fn read_next(reader: &mut Reader, depth: usize, scope: LearnedName) -> Result<Le
 // Reads a component after others.
 #[cycle(reader)]
 #[inline(always)]
-fn read_component(reader: &mut Reader, depth: usize, scope: LearnedName) -> Result<LearnedName, Stop>
+fn read_component(
+    reader: &mut Reader,
+    depth: usize,
+    scope: LearnedName,
+) -> Result<LearnedName, Stop>
     requires named { IsNamed reader.old.arena scope }
     ensures reads { GivesNamed result reader.new (spec.parse_component (productions depth)
         (named_at reader.old.arena scope) (state reader.old)) }
@@ -364,7 +384,11 @@ fn read_component(reader: &mut Reader, depth: usize, scope: LearnedName) -> Resu
 
 // Reads the arguments of a name that has none yet.
 #[cycle(reader)]
-fn read_more_args(reader: &mut Reader, depth: usize, scope: LearnedName) -> Result<LearnedName, Stop>
+fn read_more_args(
+    reader: &mut Reader,
+    depth: usize,
+    scope: LearnedName,
+) -> Result<LearnedName, Stop>
     requires named { IsNamed reader.old.arena scope }
     ensures reads { GivesNamed result reader.new (spec.parse_more_args (productions depth)
         (named_at reader.old.arena scope) (state reader.old)) }

@@ -17,7 +17,7 @@ use crate::words::{builtin_of, d_builtin_of, operator_of};
 use abi_scalars::numerals::{Radix, index_of};
 use abi_scalars::texts::{identifier, source_text};
 use cxx_grammar::cases::BaseCase;
-use cxx_tree::{Arena, Cv, Node, Plain, Prec, RefQual, Std, Stop, NodeText};
+use cxx_tree::{Arena, Cv, Node, NodeText, Plain, Prec, RefQual, Std, Stop};
 use std::alloc::Global;
 
 /// The bytes that aren't read yet, and what was read.
@@ -176,8 +176,12 @@ impl<'a> Reader<'a> {
     {
         self.skip(n);
         let name = tri!(self.read_source_name());
-        self.arena
-            .make_prefixed(NodeText::Fixed(word), NodeText::Fixed(word), name, Prec::Primary)
+        self.arena.make_prefixed(
+            NodeText::Fixed(word),
+            NodeText::Fixed(word),
+            name,
+            Prec::Primary,
+        )
     }
 
     /// Reads a `<source-name>` or an `<operator-name>`.

@@ -17,11 +17,11 @@ fn behind_words(
     gnu: &'static [u8],
 ) -> Option<Row>
     ensures value { result ≡ Some (record {
-        skip = skip;
-        items = items.entry;
-        maker = Prefixed;
-        llvm = llvm.entry;
-        gnu = gnu.entry;
+      skip = skip;
+      items = items.entry;
+      maker = Prefixed;
+      llvm = llvm.entry;
+      gnu = gnu.entry;
     }) }
 {
     Some(Row {
@@ -36,11 +36,11 @@ fn behind_words(
 // The same words in both styles, behind a code of two letters.
 fn behind(words: &'static [u8], items: &'static [Item]) -> Option<Row>
     ensures value { result ≡ Some (record {
-        skip = 2;
-        items = items.entry;
-        maker = Prefixed;
-        llvm = words.entry;
-        gnu = words.entry;
+      skip = 2;
+      items = items.entry;
+      maker = Prefixed;
+      llvm = words.entry;
+      gnu = words.entry;
     }) }
 {
     behind_words(2, items, words, words)
@@ -115,10 +115,10 @@ fn g_special_row(bytes: &[u8]) -> Option<Row>
 // The row of a thunk, whose offset begins with the second letter of its code.
 fn thunk(words: &'static [u8]) -> Option<Row>
     ensures value { option_map row_at result ≡ Some (record {
-        skip = 1;
-        items = CallOffset ∷ Encoding ∷ [];
-        maker = Prefixed;
-        words = record { llvm = words.entry.now; gnu = words.entry.now };
+      skip = 1;
+      items = CallOffset ∷ Encoding ∷ [];
+      maker = Prefixed;
+      words = record { llvm = words.entry.now; gnu = words.entry.now };
     }) }
     ensures some { IfSome result (λ row. 0 < row.skip) }
 {
@@ -128,10 +128,10 @@ fn thunk(words: &'static [u8]) -> Option<Row>
 // The row of a clone, whose code has three letters.
 fn clone(words: &'static [u8]) -> Option<Row>
     ensures value { option_map row_at result ≡ Some (record {
-        skip = 3;
-        items = Encoding ∷ [];
-        maker = Prefixed;
-        words = record { llvm = words.entry.now; gnu = words.entry.now };
+      skip = 3;
+      items = Encoding ∷ [];
+      maker = Prefixed;
+      words = record { llvm = words.entry.now; gnu = words.entry.now };
     }) }
     ensures some { IfSome result (λ row. 0 < row.skip) }
 {

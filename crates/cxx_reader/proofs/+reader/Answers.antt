@@ -154,7 +154,7 @@ names::read_components-returns-clause-reads t c =
     let back = sym c.skip.ensures.arena in (
       subst (λ (x : Store). IsNamed x last) back inv.named,
       subst (λ (a : Store). parse_components (productions c.args.depth) (named_at a c.args.name) (state c.args.reader.now) ≡ Some (named_at c.loop-reader.reader.arena last, skip 1 (state c.loop-reader.reader))) c.skip_letter.ensures.arena
-      (components_end (productions c.args.depth) _ _ _ _ c.skip_letter.ensures.reads inv.reads (sym c.begins.ensures.value ∙ c.loop-reader-test.false))
+          (components_end (productions c.args.depth) _ _ _ _ c.skip_letter.ensures.reads inv.reads (sym c.begins.ensures.value ∙ c.loop-reader-test.false))
           ∙ ap (λ (x : Store). Some (named_at x last, skip 1 (state c.loop-reader.reader))) back
           ∙ ap (λ (s : State). Some (named_at c.skip.new.self.arena last, s)) (sym c.skip.ensures.state),
     )
