@@ -12,10 +12,9 @@ ghost use Rattle.cxx_demangle.specs.Answer as spec;
 ghost use Rattle.cxx_demangle.specs.Answer.{IsAnswer, HasAtMostOneReading, HasBounds, IsText, text_of};
 ghost use Rattle.cxx_demangle.specs.Demangler.{GivesWhole};
 
-use abi_scalars::symbol::after_prefix;
 use abi_scalars::utf8::is_utf8;
 use cxx_printer::{Mode, Style, Symbol, print_symbol};
-use cxx_reader::{Reader, read_encoding};
+use cxx_reader::{Reader, Reading, read_symbol};
 use cxx_tree::{Arena, Stop};
 use growing_text::Text;
 use std::alloc::{AllocError, Global};
@@ -76,15 +75,15 @@ fn limit_of(limit: Option<usize>, len: usize) -> usize
     }
 }
 
-// Reads all of the bytes as an encoding, and keeps at most `limit` of each kind. Returns its node, or `None` if there is
-// no such encoding within the limits of the grammar.
+// Reads all of the bytes as a symbol, and keeps at most `limit` of each kind. Returns `None` if there is no reading
+// within the limits of the grammar.
 fn read(
     arena: &mut Arena,
     alloc: Global,
     bytes: &[u8],
     limit: usize,
-) -> Result<Option<u32>, AllocError>
-    ensures gives { GivesWhole result arena.new bytes.now }
+) -> Result<Option<Reading>, AllocError>
+    ensures gives { GivesReading result arena.new bytes.now }
     ensures within { IsWithin limit arena.new }
 {
     // The reader owns the arena while it reads.
@@ -94,16 +93,15 @@ fn read(
         rest: bytes,
         arena: cleared,
         replaced: 0,
+        level: 0,
         alloc,
     };
-    let read = read_encoding(&mut reader, MAX_DEPTH);
-    let is_whole = reader.rest.is_empty();
+    let read = read_symbol(&mut reader, MAX_DEPTH);
     swap(arena, &mut reader.arena);
     // Its clauses say that the limit is kept.
     arena.limit();
     match read {
-        Ok(tree) if is_whole => Ok(Some(tree)),
-        Ok(_) => Ok(None),
+        Ok(reading) => Ok(Some(reading)),
         // What wasn't read to its end leaves nothing.
         Err(Stop::Unreadable) => {
             arena.clear(limit);
@@ -116,17 +114,21 @@ fn read(
     }
 }
 
-// Makes the text the printing of a tree.
-fn print(arena: &Arena, tree: u32, printing: Printing, text: &mut Text) -> Result<(), AllocError>
-    requires within { IsNode arena.now tree }
-    ensures text { OnOk result (text.new ≡ text_of printing (stands arena.now tree)) }
+// Makes the text the printing of what was read.
+fn print(
+    arena: &Arena,
+    reading: Reading,
+    printing: Printing,
+    text: &mut Text,
+) -> Result<(), AllocError>
+    requires within { IsReading arena.now reading }
+    ensures text { OnOk result (text.new ≡ text_of printing (reading_at arena.now reading)) }
 {
     text.clear();
-    // Neither blocks nor suffixes are read so far.
     let symbol = Symbol {
-        tree,
-        is_block: false,
-        suffix: None,
+        tree: reading.tree,
+        is_block: reading.is_block,
+        suffix: reading.suffix,
     };
     print_symbol(arena, symbol, printing.mode, printing.style, text)
 }
@@ -184,14 +186,10 @@ impl Demangler {
     {
         self.is_answered = false;
         let limit = limit_of(printing.limit, symbol.len());
-        let Some(bytes) = after_prefix(symbol.as_bytes()) else {
-            self.arena.clear(limit);
+        let Some(reading) = read(&mut self.arena, alloc, symbol.as_bytes(), limit)? else {
             return Ok(false);
         };
-        let Some(tree) = read(&mut self.arena, alloc, bytes, limit)? else {
-            return Ok(false);
-        };
-        print(&self.arena, tree, printing, &mut self.text)?;
+        print(&self.arena, reading, printing, &mut self.text)?;
         let is_answered = is_answer(self.text.as_slice());
         self.is_answered = is_answered;
         Ok(is_answered)

@@ -1,31 +1,21 @@
 -- Template arguments and literals (Itanium C++ ABI 5.1.5.10, 5.1.6.1).
-use Rattle.std.specs.Prelude.{[]}
+use Rattle.std.specs.Prelude.{false}
 use Rattle.cxx_tree.specs.Tree.{Tree, Trees, listed, with_args}
-use Rattle.cxx_tree.specs.Stored.{trees_from_list}
 use Rattle.cxx_tree.specs.Phrases.{typed_literal}
 use Rattle.cxx_grammar.specs.declared.cases.ArgCase.{ArgCase}
 use Rattle.cxx_grammar.specs.declared.cases.ArgCase.TheVariants as arg
 use Rattle.cxx_grammar.specs.declared.cases.LiteralCase.{LiteralCase}
 use Rattle.cxx_grammar.specs.declared.cases.LiteralCase.TheVariants as literal
-use Rattle.cxx_grammar.specs.declared.rows.End.TheVariants as end
 use Rattle.cxx_grammar.specs.declared.rows.Item.TheVariants as item
-use Rattle.cxx_grammar.specs.Parses.{Parses, ◌>>=◌, ◌>>◌, pure, refused, past, expect, by, if_next, make}
+use Rattle.cxx_grammar.specs.Parses.{Parses, ◌>>=◌, ◌>>◌, refused, past, by, if_next, make}
 use Rattle.cxx_grammar.specs.Cases.{case_of_arg, case_of_literal}
 use Rattle.cxx_grammar.specs.Leaves.{parse_number_end, parse_bool, parse_null, parse_integer}
 use Rattle.cxx_grammar.specs.Productions.{Productions}
-use Rattle.cxx_grammar.specs.Rows.{list_after}
-
--- <template-arg>* E, after a letter
-unfoldable pub parse_list : Productions → Parses Trees
-parse_list p = do
-  past 1
-  args ← list_after p item.Arg end.E []
-  expect "E"
-  pure (trees_from_list args)
+use Rattle.cxx_grammar.specs.Rows.{parse_list}
 
 -- <template-args> ::= I <template-arg>* E
 abbrev pub parse_args : Productions → Parses Trees
-parse_args p = if_next "I" (parse_list p) refused
+parse_args p = if_next "I" (parse_list p 1 item.Arg) refused
 
 -- a name with its arguments
 abbrev pub parse_with_args : Productions → Tree → Parses Tree
@@ -36,13 +26,13 @@ parse_with_args p name = do
 -- J <template-arg>* E
 abbrev pub parse_pack : Productions → Parses Tree
 parse_pack p = do
-  args ← parse_list p
+  args ← parse_list p 1 item.Arg
   make (listed args)
 
 -- <type> <number> E
 abbrev pub parse_typed : Productions → Parses Tree
 parse_typed p = do
-  t ← p.type
+  t ← p.type false
   value ← parse_number_end
   make (typed_literal t value)
 
@@ -63,7 +53,7 @@ parse_literal p = do
 unfoldable pub arg_as : Productions → ArgCase → Parses Tree
 arg_as p arg.Pack = parse_pack p
 arg_as p arg.Literal = parse_literal p
-arg_as p arg.Type = p.type
+arg_as p arg.Type = p.type false
 
 -- <template-arg> ::= <type>
 --                ::= <expr-primary>

@@ -48,6 +48,12 @@ unfoldable pub is_param : Tree → Bool
 is_param (param level index) = true
 is_param t = false
 
+-- a template parameter, with arguments or without. It isn't known which name its constructors would have
+unfoldable pub is_param_class : Tree → Bool
+is_param_class (param level index) = true
+is_param_class (with_args name args) = is_param name
+is_param_class t = false
+
 -- the scope of a constructor: an abbreviation of std is written out
 unfoldable pub expand : Tree → Tree
 expand (std_name std expanded) = std_name std true

@@ -1,6 +1,6 @@
 -- What becomes of template parameters when their binder is complete.
-use Rattle.std.specs.Prelude.{ℕ, ◌+◌, List, [], ◌∷◌, ◌++◌, nat_eq, nat_le, Bool, true, false, Option, Some, None, if◌then◌else◌}
-use Rattle.cxx_tree.specs.declared.bind.Others.TheVariants.{Keep}
+use Rattle.std.specs.Prelude.{◌||◌, ℕ, ◌+◌, List, [], ◌∷◌, ◌++◌, nat_eq, nat_le, Bool, true, false, is_some, Option, Some, None, if◌then◌else◌}
+use Rattle.cxx_tree.specs.declared.bind.Others.TheVariants.{Auto, Keep}
 use Rattle.cxx_tree.specs.Tree.{Tree, Trees, no_trees, more_trees}
 use Rattle.cxx_tree.specs.Measure.{measure}
 use Rattle.cxx_tree.specs.Bind.{Binding, bind}
@@ -15,6 +15,12 @@ count_nodes n s = if nat_le (s.replaced + n) 65536 then Some (tt, record s { rep
 -- the nodes of a tree that are or contain a template parameter
 abbrev pub count_replaced : Tree → Parses (Unit {0})
 count_replaced t = count_nodes (measure t).params
+
+-- a closure: each parameter from its level on is `auto`
+unfoldable pub bind_closure : ℕ → Tree → Parses Tree
+bind_closure level t = do
+  count_replaced t
+  make (bind (record { level = level; names = []; others = Auto }) t)
 
 -- the parameters of an encoding stand for these trees
 abbrev pub binding_of : List Tree → Binding
@@ -44,6 +50,10 @@ bind_args is_inherited bound (more_trees arg args) = do
 -- the arguments of the name after `CI`, unless the name ends with its own
 abbrev pub inherited_args : Info → Option Trees
 inherited_args info = if info.ends_with_args then None else info.inherited
+
+-- the name has arguments, for which the parameters of its encoding stand
+abbrev pub has_args : LearnedName → Bool
+has_args n = is_some (inherited_args n.info) || is_some (args_of n.tree)
 
 -- the arguments of an encoding: inherited ones, or else those of its name
 abbrev pub bind_first : Option Trees → Option Trees → Parses (List Tree)

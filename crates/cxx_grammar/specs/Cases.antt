@@ -1,12 +1,14 @@
 -- Which case of a production the next bytes select. Each table is in order: the first row that fits is taken.
 use Prim.Native.String.{String}
-use Rattle.std.specs.Prelude.{ℕ, List, [], ◌∷◌, codes, Bool, true, false, ◌&&◌, if◌then◌else◌, drop, is_some}
-use Rattle.abi_scalars.specs.Bytes.{begins, begins_between, begins_digit, begins_one_of}
+use Rattle.std.specs.Prelude.{ℕ, List, [], ◌∷◌, codes, Bool, true, false, ◌||◌, ◌&&◌, if◌then◌else◌, drop, is_some}
+use Rattle.abi_scalars.specs.Bytes.{begins, begins_between, begins_digit, begins_one_of, past_letter, letter}
 use Rattle.cxx_grammar.specs.Words.{builtin_of, integer_of}
 use Rattle.cxx_grammar.specs.declared.cases.EncodingCase.{EncodingCase}
 use Rattle.cxx_grammar.specs.declared.cases.EncodingCase.TheVariants as encoding
 use Rattle.cxx_grammar.specs.declared.cases.NameCase.{NameCase}
 use Rattle.cxx_grammar.specs.declared.cases.NameCase.TheVariants as name_case
+use Rattle.cxx_grammar.specs.declared.cases.LocalCase.{LocalCase}
+use Rattle.cxx_grammar.specs.declared.cases.LocalCase.TheVariants as local
 use Rattle.cxx_grammar.specs.declared.cases.FirstCase.{FirstCase}
 use Rattle.cxx_grammar.specs.declared.cases.FirstCase.TheVariants as first
 use Rattle.cxx_grammar.specs.declared.cases.ComponentCase.{ComponentCase}
@@ -15,6 +17,8 @@ use Rattle.cxx_grammar.specs.declared.cases.BaseCase.{BaseCase}
 use Rattle.cxx_grammar.specs.declared.cases.BaseCase.TheVariants as base
 use Rattle.cxx_grammar.specs.declared.cases.TypeCase.{TypeCase}
 use Rattle.cxx_grammar.specs.declared.cases.TypeCase.TheVariants as type_case
+use Rattle.cxx_grammar.specs.declared.cases.ExceptionCase.{ExceptionCase}
+use Rattle.cxx_grammar.specs.declared.cases.ExceptionCase.TheVariants as exception
 use Rattle.cxx_grammar.specs.declared.cases.ArgCase.{ArgCase}
 use Rattle.cxx_grammar.specs.declared.cases.ArgCase.TheVariants as arg
 use Rattle.cxx_grammar.specs.declared.cases.LiteralCase.{LiteralCase}
@@ -30,6 +34,10 @@ abbrev pub is_encoding_end : List ℕ → Bool
 is_encoding_end [] = true
 is_encoding_end (b ∷ bytes) = begins_one_of (codes "E._") (b ∷ bytes)
 
+-- the parameters of a function type end before `E`, `RE` or `OE`
+abbrev pub is_function_end : List ℕ → Bool
+is_function_end bytes = begins (codes "E") bytes || begins (codes "RE") bytes || begins (codes "OE") bytes
+
 abbrev pub encodings : List (String × EncodingCase)
 encodings =
     ("G", encoding.Special) ∷
@@ -41,11 +49,21 @@ case_of_encoding bytes = case_in encodings encoding.Name bytes
 abbrev pub names : List (String × NameCase)
 names =
     ("N", name_case.Nested) ∷
+    ("Z", name_case.Local) ∷
     ("St", name_case.Std) ∷
     ("S", name_case.Substitution) ∷ []
 
 abbrev pub case_of_name : List ℕ → NameCase
 case_of_name bytes = case_in names name_case.Unqualified bytes
+
+-- after the `E`
+abbrev pub locals : List (String × LocalCase)
+locals =
+    ("s", local.String) ∷
+    ("d", local.DefaultArg) ∷ []
+
+abbrev pub case_of_local : List ℕ → LocalCase
+case_of_local bytes = case_in locals local.Entity bytes
 
 abbrev pub firsts : List (String × FirstCase)
 firsts =
@@ -64,19 +82,48 @@ case_of_component bytes =
     if begins (codes "D") bytes && begins_one_of (codes "01245") (drop 1 bytes) then component.Dtor else
     component.Unqualified
 
+abbrev pub bases : List (String × BaseCase)
+bases =
+    ("Ut", base.Unnamed) ∷
+    ("Ub", base.Block) ∷
+    ("Ul", base.Closure) ∷
+    ("cv", base.Conversion) ∷
+    ("li", base.Literal) ∷ []
+
 abbrev pub case_of_base : List ℕ → BaseCase
 case_of_base bytes =
     if begins_between "1" "9" bytes then base.Source else
     if begins (codes "v") bytes && begins_digit (drop 1 bytes) then base.Vendor else
-    if begins (codes "li") bytes then base.Literal else base.Operator
+    case_in bases base.Operator bytes
+
+-- what a <function-type> begins with, after its qualifiers
+abbrev pub functions : List (String × Bool)
+functions =
+    ("F", true) ∷
+    ("Do", true) ∷
+    ("Dw", true) ∷
+    ("Dx", true) ∷ []
+
+abbrev pub begins_function : List ℕ → Bool
+begins_function bytes = case_in functions false bytes
+
+abbrev pub past_qualifiers : List ℕ → List ℕ
+past_qualifiers bytes = past_letter (letter "K") (past_letter (letter "V") (past_letter (letter "r") bytes))
 
 abbrev pub types : List (String × TypeCase)
 types =
     ("r", type_case.Qualified) ∷
     ("V", type_case.Qualified) ∷
     ("K", type_case.Qualified) ∷
+    ("U", type_case.Qualified) ∷
+    ("u", type_case.Vendor) ∷
+    ("Dv", type_case.Vector) ∷
     ("Dp", type_case.Expansion) ∷
+    ("DF", type_case.Float) ∷
+    ("DB", type_case.Row) ∷
+    ("DU", type_case.Row) ∷
     ("D", type_case.Builtin) ∷
+    ("A", type_case.Array) ∷
     ("Ts", type_case.SavedRow) ∷
     ("Tu", type_case.SavedRow) ∷
     ("Te", type_case.SavedRow) ∷
@@ -84,12 +131,24 @@ types =
     ("P", type_case.Pointer) ∷
     ("R", type_case.Reference true) ∷
     ("O", type_case.Reference false) ∷
+    ("C", type_case.Suffixed true) ∷
+    ("G", type_case.Suffixed false) ∷
     ("M", type_case.MemberPointer) ∷
     ("St", type_case.Class) ∷
     ("S", type_case.Substitution) ∷ []
 
 abbrev pub case_of_type : List ℕ → TypeCase
-case_of_type bytes = if is_some (builtin_of bytes) then type_case.Builtin else case_in types type_case.Class bytes
+case_of_type bytes =
+    if begins_function (past_qualifiers bytes) then type_case.Function else
+    if is_some (builtin_of bytes) then type_case.Builtin else case_in types type_case.Class bytes
+
+abbrev pub exceptions : List (String × ExceptionCase)
+exceptions =
+    ("Do", exception.Noexcept) ∷
+    ("Dw", exception.Throw) ∷ []
+
+abbrev pub case_of_exception : List ℕ → ExceptionCase
+case_of_exception bytes = case_in exceptions exception.None bytes
 
 abbrev pub args : List (String × ArgCase)
 args =

@@ -1,19 +1,20 @@
 -- Productions without counted productions inside: source names, numbers, substitutions, parameters, builtin types.
 use Prim.Native.String.{String}
-use Rattle.std.specs.Prelude.{ℕ, List, [], ◌∷◌, ◌++◌, Bool, false, codes, slice_get, Option, Some, None, if◌then◌else◌}
+use Rattle.std.specs.Prelude.{ℕ, List, [], ◌∷◌, ◌++◌, Bool, false, not, codes, slice_get, Option, Some, None, if◌then◌else◌}
 use Rattle.cxx_tree.specs.declared.kinds.Cv.{Cv}
 use Rattle.cxx_tree.specs.declared.kinds.Prec.TheVariants.{Primary}
 use Rattle.cxx_tree.specs.declared.kinds.RefQual.{RefQual}
 use Rattle.cxx_tree.specs.declared.kinds.RefQual.TheVariants as refqual
 use Rattle.cxx_tree.specs.declared.kinds.Std.{Std}
-use Rattle.cxx_tree.specs.Tree.{Tree, named, std_name, param}
+use Rattle.cxx_tree.specs.Tree.{Tree, named, std_name, param, abi_tag}
 use Rattle.cxx_tree.specs.Phrases.{word, literal, prefixed}
 use Rattle.cxx_tree.specs.Texts.{number_printed}
+use Rattle.abi_scalars.specs.Bytes.{begins, begins_digit}
 use Rattle.abi_scalars.specs.Scalars.{index_of, source_text}
 use Rattle.abi_scalars.specs.Texts.{digits, identifier, number_text}
 use Rattle.abi_scalars.specs.declared.numerals.Radix.TheVariants.{Decimal, Base36}
 use Rattle.cxx_grammar.specs.Words.{std_of, builtin_of, d_builtin_of, integer_of, operator_of}
-use Rattle.cxx_grammar.specs.Parses.{Parses, ◌>>=◌, ◌>>◌, pure, given, look, past, expect, optional, of_bytes, parse_code, make}
+use Rattle.cxx_grammar.specs.Parses.{Parses, ◌>>=◌, ◌>>◌, pure, check, given, look, past, expect, optional, of_bytes, parse_code, if_next, repeat, make, saved}
 
 abbrev pub make_name : List ℕ → Parses Tree
 make_name text = make (named text)
@@ -33,6 +34,25 @@ abbrev pub parse_word : ℕ → (List ℕ → Option (List ℕ)) → Parses Tree
 parse_word n word_of = do
   bytes ← look
   make_code n (word_of bytes)
+
+-- Digits.
+
+-- <digits> ::= <digit>*
+abbrev pub parse_digits : Parses (List ℕ)
+parse_digits = of_bytes (λ bytes. Some (digits Decimal bytes))
+
+abbrev pub parse_some_digits : Parses (List ℕ)
+parse_some_digits = do
+  bytes ← look
+  check (begins_digit bytes)
+  parse_digits
+
+-- <number> _: the size of an array, of a vector or of an integer
+unfoldable pub parse_size : Parses Tree
+parse_size = do
+  number ← parse_some_digits
+  expect "_"
+  make_name number
 
 -- Names.
 
@@ -56,6 +76,20 @@ parse_prefixed n word = do
 -- <operator-name> that is a code of two letters
 abbrev pub parse_operator : Parses Tree
 parse_operator = parse_word 2 operator_of
+
+-- <abi-tag> ::= B <source-name>
+abbrev pub parse_abi_tag : Tree → Parses Tree
+parse_abi_tag name = do
+  past 1
+  tag ← parse_identifier
+  make (abi_tag name tag)
+
+abbrev pub is_tags_end : List ℕ → Bool
+is_tags_end bytes = not (begins (codes "B") bytes)
+
+-- <abi-tags> ::= <abi-tag>*, behind a name
+unfoldable pub parse_abi_tags : Tree → Parses Tree
+parse_abi_tags name = repeat is_tags_end parse_abi_tag name
 
 -- Parts of special names, which print nothing.
 
@@ -105,17 +139,19 @@ parse_saved = do
   k ← of_bytes (index_of Base36)
   saved_at k
 
+-- with tags it is saved
 abbrev pub parse_abbreviation : Std → Parses Tree
 parse_abbreviation std = do
   past 1
-  make (std_name std false)
+  name ← make (std_name std false)
+  if_next "B" (saved (parse_abi_tags name)) (pure name)
 
 abbrev pub substitution_as : Option Std → Parses Tree
 substitution_as None = parse_saved
 substitution_as (Some std) = parse_abbreviation std
 
 -- <substitution> ::= S <seq-id> _ | S_
---                ::= Sa | Sb | Ss | Si | So | Sd
+--                ::= Sa | Sb | Ss | Si | So | Sd, with <abi-tags>
 unfoldable pub parse_substitution : Parses Tree
 parse_substitution = do
   past 1
@@ -162,6 +198,23 @@ unfoldable pub parse_builtin : Parses Tree
 parse_builtin = do
   is_d ← optional "D"
   if is_d then parse_d_builtin else parse_word 1 builtin_of
+
+abbrev pub float_named : List ℕ → Parses Tree
+float_named number = do
+  has_x ← optional "x"
+  if has_x then make_name (codes "_Float" ++ (number ++ codes "x"))
+      else (do expect "_"; make_name (codes "_Float" ++ number))
+
+abbrev pub parse_numbered_float : Parses Tree
+parse_numbered_float = do
+  number ← parse_some_digits
+  float_named number
+
+-- DF16b | DF <number> _ | DF <number> x
+unfoldable pub parse_float_type : Parses Tree
+parse_float_type = do
+  past 2
+  if_next "16b" (do past 3; make_word "std::bfloat16_t") parse_numbered_float
 
 -- Literals without a type inside.
 

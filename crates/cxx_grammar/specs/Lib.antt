@@ -3,11 +3,14 @@ pub mod Words
 pub mod Parses
 pub mod Cases
 pub mod Bases
+pub mod Ordinals
 pub mod Leaves
 pub mod Binds
 pub mod Productions
 pub mod Rows
 pub mod Args
+pub mod Unnamed
+pub mod Locals
 pub mod Names
 pub mod Types
 pub mod Encodings

@@ -1,7 +1,8 @@
 -- Names (Itanium C++ ABI 5.1.2 and 5.1.3).
-use Rattle.std.specs.Prelude.{Bool, true, false, not, codes, Option, Some, None, if◌then◌else◌}
+use Rattle.std.specs.Prelude.{◌||◌, Bool, true, false, not, codes, Option, Some, None, if◌then◌else◌}
 use Rattle.cxx_tree.specs.Tree.{Tree, scoped}
-use Rattle.cxx_tree.specs.Phrases.{ctor_dtor}
+use Rattle.cxx_tree.specs.declared.kinds.Prec.TheVariants.{Primary}
+use Rattle.cxx_tree.specs.Phrases.{ctor_dtor, prefixed}
 use Rattle.cxx_grammar.specs.declared.cases.NameCase.{NameCase}
 use Rattle.cxx_grammar.specs.declared.cases.NameCase.TheVariants as name_case
 use Rattle.cxx_grammar.specs.declared.cases.FirstCase.{FirstCase}
@@ -13,10 +14,13 @@ use Rattle.cxx_grammar.specs.declared.cases.BaseCase.TheVariants as base
 use Rattle.cxx_grammar.specs.State.{Info, LearnedName, no_info, info_of, plain}
 use Rattle.cxx_grammar.specs.Parses.{Parses, ◌>>=◌, ◌>>◌, ◌<$>◌, pure, check, given, past, expect, optional, by, if_next, repeat, is_e, make, save}
 use Rattle.cxx_grammar.specs.Cases.{case_of_name, case_of_first, case_of_component, case_of_base}
-use Rattle.cxx_grammar.specs.Bases.{base_name, args_of, is_with_args, is_param, expand}
-use Rattle.cxx_grammar.specs.Leaves.{make_word, parse_source_name, parse_prefixed, parse_operator, parse_substitution, parse_template_param, parse_cv, parse_ref}
+use Rattle.cxx_grammar.specs.Bases.{base_name, args_of, is_with_args, is_param_class, expand}
+use Rattle.cxx_grammar.specs.Leaves.{make_word, parse_source_name, parse_prefixed, parse_operator, parse_abi_tags}
+use Rattle.cxx_grammar.specs.Leaves.{parse_substitution, parse_template_param, parse_cv, parse_ref}
 use Rattle.cxx_grammar.specs.Productions.{Productions}
 use Rattle.cxx_grammar.specs.Args.{parse_with_args}
+use Rattle.cxx_grammar.specs.Unnamed.{parse_unnamed, parse_block, parse_closure}
+use Rattle.cxx_grammar.specs.Locals.{parse_local_name}
 
 -- where an <unqualified-name> stands
 pub record Place : Type 0 where
@@ -26,7 +30,7 @@ pub record Place : Type 0 where
   -- what is learned of the name by what stands in front of it
   pub info : Info
 
--- a name without its scope, and the scope that it has
+-- a name without its tags and its scope, and the scope that it has
 pub record Part : Type 0 where
   pub tree : Tree
   pub scope : Option Tree
@@ -34,30 +38,48 @@ pub record Part : Type 0 where
 
 -- Unqualified names.
 
+-- cv <type>
+abbrev pub parse_conversion : Productions → Parses Tree
+parse_conversion p = do
+  past 2
+  t ← p.type true
+  make (prefixed (codes "operator ") (codes "operator ") t Primary)
+
 -- <operator-name> ::= nw | na | dl | ..
+--                 ::= cv <type>
 --                 ::= li <source-name>
 --                 ::= v <digit> <source-name>
-unfoldable pub base_as : BaseCase → Parses Tree
-base_as base.Source = parse_source_name
-base_as base.Literal = parse_prefixed 2 (codes "operator\"\" ")
-base_as base.Vendor = parse_prefixed 2 (codes "operator ")
-base_as base.Operator = parse_operator
+-- <unnamed-type-name> ::= Ut [<number>] _ | Ub [<number>] _ | <closure-type-name>
+unfoldable pub base_as : Productions → BaseCase → Parses Tree
+base_as p base.Source = parse_source_name
+base_as p base.Unnamed = parse_unnamed
+base_as p base.Block = parse_block
+base_as p base.Closure = parse_closure p
+base_as p base.Conversion = parse_conversion p
+base_as p base.Literal = parse_prefixed 2 (codes "operator\"\" ")
+base_as p base.Vendor = parse_prefixed 2 (codes "operator ")
+base_as p base.Operator = parse_operator
 
-abbrev pub parse_base : Parses Tree
-parse_base = by case_of_base base_as
+abbrev pub is_conversion : BaseCase → Bool
+is_conversion base.Conversion = true
+is_conversion other = false
 
 -- a name that is no constructor
-abbrev pub parse_base_part : Place → Parses Part
-parse_base_part place = do
-  t ← parse_base
-  pure (record { tree = t; scope = place.scope; info = place.info })
+abbrev pub base_part : Productions → Place → BaseCase → Parses Part
+base_part p place case = do
+  t ← base_as p case
+  pure (record {
+    tree = t;
+    scope = place.scope;
+    info = record place.info { no_return = place.info.no_return || is_conversion case };
+  })
 
--- A constructor has a class: a scope that is no template parameter.
+-- A constructor has a class: a scope that is no template parameter, neither with arguments nor without.
 unfoldable pub parse_class_of : Place → Parses Tree
 parse_class_of place = do
   check place.is_nested
   class ← given place.scope
-  check (not (is_param class))
+  check (not (is_param_class class))
   pure (expand class)
 
 -- the constructor or the destructor of a class
@@ -85,26 +107,30 @@ unfoldable pub part_as : Productions → Place → ComponentCase → Parses Part
 part_as p place component.Ctor = parse_ctor place false
 part_as p place component.InheritedCtor = parse_inherited_ctor p place
 part_as p place component.Dtor = parse_ctor place true
-part_as p place component.Unqualified = parse_base_part place
+part_as p place component.Unqualified = by case_of_base (base_part p place)
 
 abbrev pub make_in_scope : Option Tree → Tree → Parses Tree
 make_in_scope None t = pure t
 make_in_scope (Some scope) t = make (scoped false scope t)
 
-abbrev pub scoped_part : Part → Parses LearnedName
-scoped_part part = do
-  t ← make_in_scope part.scope part.tree
+-- its tags, and its scope
+abbrev pub parse_part_end : Part → Parses LearnedName
+parse_part_end part = do
+  tagged ← parse_abi_tags part.tree
+  t ← make_in_scope part.scope tagged
   pure (record { tree = t; info = part.info })
 
--- <unqualified-name> ::= [L] <operator-name>
---                    ::= [L] <ctor-dtor-name>
---                    ::= [L] <source-name>
+-- <unqualified-name> ::= [L] <operator-name> [<abi-tags>]
+--                    ::= [L] <ctor-dtor-name> [<abi-tags>]
+--                    ::= [L] <source-name> [<abi-tags>]
+--                    ::= [L] <unnamed-type-name> [<abi-tags>]
+-- <ctor-dtor-name> ::= C1 | C2 | C3 | CI1 <base class type> | CI2 <base class type> | D0 | D1 | D2
 -- L is the mark of internal linkage, which prints nothing
 unfoldable pub parse_unqualified_name : Productions → Place → Parses LearnedName
 parse_unqualified_name p place = do
   optional "L"
   part ← by case_of_component (part_as p place)
-  scoped_part part
+  parse_part_end part
 
 -- Names outside of a <nested-name>.
 
@@ -228,6 +254,7 @@ parse_nested_name p = do
 
 unfoldable pub name_as : Productions → NameCase → Parses LearnedName
 name_as p name_case.Nested = parse_nested_name p
+name_as p name_case.Local = parse_local_name p
 name_as p name_case.Std = parse_std_name p
 name_as p name_case.Substitution = parse_substituted p
 name_as p name_case.Unqualified = parse_in_place p (unscoped None)
@@ -235,6 +262,7 @@ name_as p name_case.Unqualified = parse_in_place p (unscoped None)
 -- <name> ::= <nested-name>
 --        ::= <unscoped-name>
 --        ::= <unscoped-template-name> <template-args>
+--        ::= <local-name>
 -- <unscoped-name> ::= [St] <unqualified-name>
 -- <unscoped-template-name> ::= <unscoped-name>
 --                          ::= <substitution>

@@ -140,6 +140,23 @@ items_after first is_end item = repeat is_end (item_more item) first
 abbrev pub is_e : List ℕ → Bool
 is_e bytes = begins (codes "E") bytes
 
+-- Levels.
+
+abbrev pub level : Parses ℕ
+level s = Some (s.level, s)
+
+abbrev pub set_level : ℕ → Parses (Unit {0})
+set_level n s = Some (tt, record s { level = n })
+
+-- inside, the level is n
+abbrev pub at_level : {A : Type 0} → ℕ → Parses A → Parses A
+at_level n inside = do
+  outer ← level
+  set_level n
+  a ← inside
+  set_level outer
+  pure a
+
 -- Trees.
 
 -- a tree within the limits

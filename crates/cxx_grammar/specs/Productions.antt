@@ -1,5 +1,5 @@
 -- The counted productions: each cycle of the grammar goes through one of them, and at most so many may nest.
-use Rattle.std.specs.Prelude.{ℕ}
+use Rattle.std.specs.Prelude.{ℕ, Bool}
 use Rattle.cxx_tree.specs.Tree.{Tree}
 use Rattle.cxx_grammar.specs.State.{LearnedName}
 use Rattle.cxx_grammar.specs.Parses.{Parses, ◌<$>◌, refused}
@@ -11,10 +11,11 @@ pub record Productions : Type 0 where
   pub encoding : Parses Tree
   -- <name>
   pub name : Parses LearnedName
-  -- <type>
-  pub type : Parses Tree
+  -- <type>. The flag says that it is bare: it ends the operator of a conversion, and a template parameter or a
+  -- substitution at its end takes no arguments, since those that follow are the operator's
+  pub type : Bool → Parses Tree
   -- <qualified-type>
-  pub qualified_type : Parses Tree
+  pub qualified_type : Bool → Parses Tree
   -- <template-arg>
   pub arg : Parses Tree
 
@@ -27,7 +28,7 @@ abbrev pub no_productions : Productions
 no_productions = record {
   encoding = refused;
   name = refused;
-  type = refused;
-  qualified_type = refused;
+  type = λ is_bare. refused;
+  qualified_type = λ is_bare. refused;
   arg = refused;
 }

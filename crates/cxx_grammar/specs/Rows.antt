@@ -1,9 +1,10 @@
 -- Productions that are a row of items, of which a tree is made. Such a production is a row of a table.
 use Prim.Native.String.{String}
-use Rattle.std.specs.Prelude.{ℕ, List, [], ◌∷◌, Bool, codes, drop, Option, None, if◌then◌else◌}
+use Rattle.std.specs.Prelude.{ℕ, List, [], ◌∷◌, Bool, false, codes, drop, Option, None, if◌then◌else◌}
 use Rattle.cxx_tree.specs.declared.kinds.Prec.TheVariants.{Primary}
-use Rattle.cxx_tree.specs.Tree.{Tree}
-use Rattle.cxx_tree.specs.Phrases.{ctor_vtable, prefixed}
+use Rattle.cxx_tree.specs.Tree.{Tree, Trees}
+use Rattle.cxx_tree.specs.Stored.{trees_from_list}
+use Rattle.cxx_tree.specs.Phrases.{ctor_vtable, enclosing, prefixed}
 use Rattle.abi_scalars.specs.Bytes.{begins}
 use Rattle.cxx_grammar.specs.declared.rows.End.{End}
 use Rattle.cxx_grammar.specs.declared.rows.End.TheVariants as end
@@ -11,10 +12,10 @@ use Rattle.cxx_grammar.specs.declared.rows.Item.{Item}
 use Rattle.cxx_grammar.specs.declared.rows.Item.TheVariants as item
 use Rattle.cxx_grammar.specs.declared.rows.Maker.{Maker}
 use Rattle.cxx_grammar.specs.declared.rows.Maker.TheVariants as maker
-use Rattle.cxx_grammar.specs.Parses.{Parses, ◌>>=◌, ◌>>◌, pure, refused, given, look, past, item_more, items_after, is_e, make}
-use Rattle.cxx_grammar.specs.Cases.{is_encoding_end}
+use Rattle.cxx_grammar.specs.Parses.{Parses, ◌>>=◌, ◌>>◌, pure, refused, given, look, past, expect, optional, if_next, item_more, items_after, is_e, make}
+use Rattle.cxx_grammar.specs.Cases.{is_encoding_end, is_function_end}
 use Rattle.cxx_grammar.specs.Words.{row}
-use Rattle.cxx_grammar.specs.Leaves.{parse_offset, parse_call_offset, parse_temporary_id}
+use Rattle.cxx_grammar.specs.Leaves.{parse_size, parse_offset, parse_call_offset, parse_temporary_id}
 use Rattle.cxx_grammar.specs.Productions.{Productions, name_tree}
 
 -- a text in LLVM's style, and in GNU's
@@ -86,9 +87,16 @@ special_of bytes =
     if begins (codes "T") bytes then t_special_of (drop 1 bytes) else
     if begins (codes "G") bytes then g_special_of (drop 1 bytes) else None
 
+-- words in front of the tree of an item in parentheses, behind a code of two letters
+abbrev pub enclosed_by : String → List Item → Row
+enclosed_by words items = record (behind words items) { maker = maker.Enclosing }
+
+-- <builtin-type> ::= DB <number> _ | DU <number> _
 -- <class-enum-type> ::= Ts <name> | Tu <name> | Te <name>
 abbrev pub type_rows : List (String × Row)
 type_rows =
+    ("DB", enclosed_by "_BitInt" (item.Size ∷ [])) ∷
+    ("DU", enclosed_by "unsigned _BitInt" (item.Size ∷ [])) ∷
     ("Ts", behind "struct " (item.Name ∷ [])) ∷
     ("Tu", behind "union " (item.Name ∷ [])) ∷
     ("Te", behind "enum " (item.Name ∷ [])) ∷ []
@@ -98,10 +106,12 @@ type_row_of bytes = row type_rows bytes
 
 -- the tree of an item
 unfoldable pub tree_as : Productions → Item → Parses Tree
-tree_as p item.Type = p.type
+tree_as p item.Type = p.type false
 tree_as p item.Name = name_tree p
 tree_as p item.Arg = p.arg
 tree_as p item.Encoding = p.encoding
+tree_as p item.Param = if_next "v" refused (p.type false)
+tree_as p item.Size = parse_size
 tree_as p other = refused
 
 -- the tree of an item after others; of an item that is skipped there is none
@@ -121,6 +131,7 @@ parse_items p trees (item ∷ items) = do
 -- what is made of trees
 unfoldable pub make_as : Maker → Styled → List Tree → Parses Tree
 make_as maker.Prefixed words (t ∷ []) = make (prefixed words.llvm words.gnu t Primary)
+make_as maker.Enclosing words (t ∷ []) = make (enclosing words.llvm words.gnu t Primary)
 make_as maker.CtorVtable words (whole ∷ part ∷ []) = make (ctor_vtable part whole)
 make_as other words trees = refused
 
@@ -143,7 +154,27 @@ parse_row_of row_of p = do
 unfoldable pub ends : End → List ℕ → Bool
 ends end.E = is_e
 ends end.Encoding = is_encoding_end
+ends end.Function = is_function_end
 
 -- items up to an end, after others
 abbrev pub list_after : Productions → Item → End → List Tree → Parses (List Tree)
 list_after p item end trees = items_after trees (ends end) (tree_as p item)
+
+-- items up to an `E`, which is read, behind n letters
+unfoldable pub parse_list : Productions → ℕ → Item → Parses Trees
+parse_list p n item = do
+  past n
+  trees ← list_after p item end.E []
+  expect "E"
+  pure (trees_from_list trees)
+
+abbrev pub parse_some_params : Productions → End → Parses (List Tree)
+parse_some_params p end = do
+  t ← p.type false
+  list_after p item.Type end (t ∷ [])
+
+-- v | <type>+, up to an end
+unfoldable pub parse_params : Productions → End → Parses (List Tree)
+parse_params p end = do
+  is_void ← optional "v"
+  if is_void then pure [] else parse_some_params p end

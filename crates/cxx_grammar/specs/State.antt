@@ -12,16 +12,18 @@ pub record State : Type 0 where
   pub saved : List Tree
   -- how many nodes that hold template parameters were counted for bindings
   pub replaced : ℕ
+  -- how many binders of template parameters are around this place. What sets it puts it back
+  pub level : ℕ
 
 -- all bytes are left, and nothing is saved
 abbrev pub start : List ℕ → State
-start bytes = record { rest = bytes; saved = []; replaced = 0 }
+start bytes = record { rest = bytes; saved = []; replaced = 0; level = 0 }
 
 -- what an encoding learns of its name
 pub record Info : Type 0 where
   -- the name ends with template arguments
   pub ends_with_args : Bool
-  -- a component was a constructor or a destructor
+  -- a component was a constructor, a destructor or a conversion operator
   pub no_return : Bool
   -- the qualifiers after `N`
   pub cv : Cv

@@ -1,9 +1,11 @@
 -- The whole grammar: symbols (Itanium C++ ABI 5.1.1).
-use Rattle.std.specs.Prelude.{ℕ, zero, suc, List, [], ◌∷◌, false, Option, Some, None}
+use Rattle.std.specs.Prelude.{ℕ, zero, suc, List, [], ◌∷◌, codes, Bool, true, false, Option, Some, None, if◌then◌else◌}
 use Rattle.cxx_tree.specs.Tree.{Tree}
-use Rattle.abi_scalars.specs.Symbol.{after_prefix}
+use Rattle.abi_scalars.specs.Bytes.{begins}
 use Rattle.cxx_grammar.specs.State.{State, start}
-use Rattle.cxx_grammar.specs.Parses.{Parses}
+use Rattle.cxx_grammar.specs.Parses.{Parses, ◌>>=◌, ◌>>◌, pure, refused, check, look, past, expect, optional, set_rest, if_next}
+use Rattle.cxx_grammar.specs.Leaves.{parse_digits, parse_some_digits}
+use Rattle.cxx_grammar.specs.Binds.{parse_closed}
 use Rattle.cxx_grammar.specs.Productions.{Productions, no_productions}
 use Rattle.cxx_grammar.specs.Names.{parse_name}
 use Rattle.cxx_grammar.specs.Types.{parse_type, parse_qualified_type}
@@ -29,24 +31,82 @@ productions (suc depth) = productions_over (productions depth)
 abbrev pub max_depth : ℕ
 max_depth = 512
 
--- what is read of all the bytes
-abbrev pub whole : {A : Type 0} → Option (A × State) → Option A
-whole None = None
-whole (Some (a, s)) = whole_of a s.rest
-  where
-    whole_of : {A : Type 0} → A → List ℕ → Option A
-    whole_of a [] = Some a
-    whole_of a (b ∷ bytes) = None
+-- what a symbol is read as
+pub record Reading : Type 0 where
+  pub tree : Tree
+  -- it is the function of a block
+  pub is_block : Bool
+  -- what follows from a dot
+  pub suffix : Option (List ℕ)
 
--- an encoding that is all of the bytes
-abbrev pub parse_inside : List ℕ → Option Tree
-parse_inside bytes = whole ((productions max_depth).encoding (start bytes))
+abbrev pub is_dot_or_end : List ℕ → Bool
+is_dot_or_end [] = true
+is_dot_or_end (b ∷ bytes) = begins (codes ".") (b ∷ bytes)
 
-abbrev pub parse_after : Option (List ℕ) → Option Tree
-parse_after None = None
-parse_after (Some bytes) = parse_inside bytes
+-- all bytes that are left: none, or a dot and others
+abbrev pub parse_rest : Parses (List ℕ)
+parse_rest = do
+  bytes ← look
+  check (is_dot_or_end bytes)
+  set_rest []
+  pure bytes
+
+abbrev pub suffix_of : List ℕ → Option (List ℕ)
+suffix_of [] = None
+suffix_of (b ∷ bytes) = Some (b ∷ bytes)
+
+-- <encoding> [. <vendor-specific suffix>]
+unfoldable pub parse_plain_symbol : Productions → Parses Reading
+parse_plain_symbol p = do
+  t ← p.encoding
+  rest ← parse_rest
+  pure (record { tree = t; is_block = false; suffix = suffix_of rest })
+
+-- [<digit>+ | _ <digit>+]
+abbrev pub parse_block_number : Parses (List ℕ)
+parse_block_number = do
+  has_number ← optional "_"
+  if has_number then parse_some_digits else parse_digits
+
+-- <encoding> _block_invoke [<digit>+ | _ <digit>+] [. <vendor-specific suffix>]. The suffix isn't printed
+unfoldable pub parse_block_symbol : Productions → Parses Reading
+parse_block_symbol p = do
+  t ← p.encoding
+  expect "_block_invoke"
+  parse_block_number
+  parse_rest
+  pure (record { tree = t; is_block = true; suffix = None })
 
 -- <mangled-name> ::= _Z <encoding>
--- the tree that a symbol is read as, if there is one
-abbrev pub parse_symbol : List ℕ → Option Tree
-parse_symbol symbol = parse_after (after_prefix symbol)
+--                ::= _Z <encoding> . <vendor-specific suffix>
+-- A further underscore may stand in front, and two more in front of the function of a block
+unfoldable pub parse_mangled_name : Productions → Parses Reading
+parse_mangled_name p =
+    if_next "_Z" (do past 2; parse_plain_symbol p)
+    (if_next "__Z" (do past 3; parse_plain_symbol p)
+    (if_next "___Z" (do past 4; parse_block_symbol p)
+    (if_next "____Z" (do past 5; parse_block_symbol p) refused)))
+
+abbrev pub found_of : {A : Type 0} → Option (A × State) → Option A
+found_of None = None
+found_of (Some (a, s)) = Some a
+
+-- the reading of a symbol, if there is one. It reads all of the bytes
+abbrev pub parse_symbol : List ℕ → Option Reading
+parse_symbol symbol = found_of (parse_mangled_name (productions max_depth) (start symbol))
+
+abbrev pub is_end : List ℕ → Bool
+is_end [] = true
+is_end (b ∷ bytes) = false
+
+-- a type that is all of the bytes, without a template parameter
+unfoldable pub parse_closed_type : Productions → Parses Tree
+parse_closed_type p = do
+  t ← p.type false
+  bytes ← look
+  check (is_end bytes)
+  parse_closed t
+
+-- the reading of a type alone, as a program names types at run time
+abbrev pub parse_type_alone : List ℕ → Option Tree
+parse_type_alone bytes = found_of (parse_closed_type (productions max_depth) (start bytes))

@@ -14,12 +14,25 @@ pub enum EncodingCase {
 pub enum NameCase {
     /// `N`
     Nested,
+    /// `Z`
+    Local,
     /// `St`
     Std,
     /// `S` and anything else
     Substitution,
     /// A name without a scope.
     Unqualified,
+}
+
+/// The cases of a `<local-name>`, after its `E`.
+#[derive(Clone, Copy)]
+pub enum LocalCase {
+    /// `s`: a string literal.
+    String,
+    /// `d`: an entity in a default argument.
+    DefaultArg,
+    /// Another entity.
+    Entity,
 }
 
 /// The cases of the first component of a `<nested-name>`.
@@ -53,6 +66,14 @@ pub enum ComponentCase {
 pub enum BaseCase {
     /// A digit from 1 to 9
     Source,
+    /// `Ut`
+    Unnamed,
+    /// `Ub`
+    Block,
+    /// `Ul`
+    Closure,
+    /// `cv`
+    Conversion,
     /// `li`
     Literal,
     /// `v` and a digit
@@ -64,12 +85,24 @@ pub enum BaseCase {
 /// The cases of a `<type>`.
 #[derive(Clone, Copy)]
 pub enum TypeCase {
-    /// `r`, `V` or `K`
+    /// A `<function-type>`, which may begin with qualifiers.
+    Function,
+    /// `r`, `V` or `K`, or `U`
     Qualified,
+    /// `u`
+    Vendor,
+    /// `Dv`
+    Vector,
     /// `Dp`
     Expansion,
+    /// `DF`
+    Float,
+    /// `DB` or `DU`: a row, which isn't saved
+    Row,
     /// A letter, or `D` and anything else
     Builtin,
+    /// `A`
+    Array,
     /// `Ts`, `Tu` or `Te`: a row, which is saved
     SavedRow,
     /// `T` and anything else
@@ -78,12 +111,25 @@ pub enum TypeCase {
     Pointer,
     /// `R`, which is an lvalue reference, or `O`
     Reference(bool),
+    /// `C`, which is a complex number, or `G`
+    Suffixed(bool),
     /// `M`
     MemberPointer,
     /// `S`, and not `St`
     Substitution,
     /// A name.
     Class,
+}
+
+/// The cases of an `<exception-spec>`.
+#[derive(Clone, Copy)]
+pub enum ExceptionCase {
+    /// `Do`
+    Noexcept,
+    /// `Dw`
+    Throw,
+    /// There is none.
+    None,
 }
 
 /// The cases of a `<template-arg>`.

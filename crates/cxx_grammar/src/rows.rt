@@ -11,6 +11,10 @@ pub enum Item {
     Arg,
     /// `<encoding>`
     Encoding,
+    /// `<type>` that isn't `void`
+    Param,
+    /// `<number> _`, which is a tree.
+    Size,
     /// `<number> _`, which is skipped.
     Offset,
     /// `<call-offset>`, which is skipped.
@@ -26,6 +30,8 @@ pub enum End {
     E,
     /// At the end of an encoding.
     Encoding,
+    /// At the end of a function type: before `E`, `RE` or `OE`.
+    Function,
 }
 
 /// What is made of the trees of a row.
@@ -33,6 +39,8 @@ pub enum End {
 pub enum Maker {
     /// Words, and the only tree.
     Prefixed,
+    /// Words, and the only tree in parentheses.
+    Enclosing,
     /// The vtable of a base: the derived type, and the base.
     CtorVtable,
 }

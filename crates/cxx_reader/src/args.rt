@@ -14,10 +14,10 @@ ghost use Rattle.cxx_reader.specs.Outcome.{state, Keeps, Moves, Gives, GivesList
 
 use crate::cases::{arg_case, begins, literal_case};
 use crate::reader::Reader;
-use crate::rows::read_items;
+use crate::rows::read_list;
 use crate::types::read_type;
 use cxx_grammar::cases::{ArgCase, LiteralCase};
-use cxx_grammar::rows::{End, Item};
+use cxx_grammar::rows::Item;
 use cxx_tree::{List, Node, Plain, Stop};
 
 /// Reads `<template-args> ::= I <template-arg>* E`.
@@ -30,21 +30,7 @@ pub fn read_args(reader: &mut Reader, depth: usize) -> Result<List, Stop>
     if !begins(reader.rest, b'I') {
         return Err(Stop::Unreadable);
     }
-    read_list(reader, depth)
-}
-
-/// Reads `<template-arg>* E`, after a letter.
-#[cycle(reader)]
-#[inline(always)]
-pub fn read_list(reader: &mut Reader, depth: usize) -> Result<List, Stop>
-    ensures reads { GivesList result reader.new (spec.parse_list (productions depth) (state reader.old)) }
-    ensures moves { OnOk result (Moves reader.old reader.new) }
-{
-    reader.skip(1);
-    let from = reader.arena.pending_len();
-    tri!(read_items(reader, depth, Item::Arg, End::E, from));
-    reader.skip(1);
-    reader.arena.list_from(from)
+    read_list(reader, depth, 1, Item::Arg)
 }
 
 /// Reads `<template-arg>`. At most `depth` counted productions may nest, this one included.
@@ -61,7 +47,7 @@ pub fn read_arg(reader: &mut Reader, depth: usize) -> Result<u32, Stop>
     match arg_case(reader.rest) {
         ArgCase::Pack => read_pack(reader, depth),
         ArgCase::Literal => read_literal(reader, depth),
-        ArgCase::Type => read_type(reader, depth),
+        ArgCase::Type => read_type(reader, depth, false),
     }
 }
 
@@ -71,7 +57,7 @@ fn read_pack(reader: &mut Reader, depth: usize) -> Result<u32, Stop>
     ensures reads { Gives result reader.new (spec.parse_pack (productions depth) (state reader.old)) }
     ensures moves { OnOk result (Moves reader.old reader.new) }
 {
-    let args = tri!(read_list(reader, depth));
+    let args = tri!(read_list(reader, depth, 1, Item::Arg));
     reader.make(Node::Plain(Plain::Several(args)))
 }
 
@@ -97,7 +83,7 @@ fn read_typed(reader: &mut Reader, depth: usize) -> Result<u32, Stop>
     ensures reads { Gives result reader.new (spec.parse_typed (productions depth) (state reader.old)) }
     ensures moves { OnOk result (Moves reader.old reader.new) }
 {
-    let t = tri!(read_type(reader, depth));
+    let t = tri!(read_type(reader, depth, false));
     let number = tri!(reader.read_number_end());
     reader.make_typed_literal(t, number)
 }

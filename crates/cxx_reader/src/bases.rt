@@ -91,13 +91,25 @@ pub fn is_with_args(arena: &Arena, i: u32) -> bool
     }
 }
 
-/// Returns whether a node is a template parameter.
-pub fn is_param(arena: &Arena, i: u32) -> bool
+// Returns whether a node is a template parameter.
+fn is_param(arena: &Arena, i: u32) -> bool
     requires within { i < size arena.now }
     ensures value { result ≡ spec.is_param (tree_at (forest arena.now) i) }
 {
     match *arena.node(i) {
         Node::Plain(Plain::Param(_, _)) => true,
+        _ => false,
+    }
+}
+
+/// Returns whether a node is a template parameter, with arguments or without.
+pub fn is_param_class(arena: &Arena, i: u32) -> bool
+    requires within { i < size arena.now }
+    ensures value { result ≡ spec.is_param_class (tree_at (forest arena.now) i) }
+{
+    match *arena.node(i) {
+        Node::Plain(Plain::Param(_, _)) => true,
+        Node::Plain(Plain::WithArgs(name, _)) => is_param(arena, name),
         _ => false,
     }
 }

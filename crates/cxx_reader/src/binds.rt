@@ -103,6 +103,30 @@ impl<'a> Reader<'a> {
         }
     }
 
+    /// Returns whether the template parameters of an encoding with this name refer to arguments.
+    pub fn has_args(&self, name: LearnedName) -> bool
+        requires named { IsNamed self.now.arena name }
+        ensures value { result ≡ spec.has_args (named_at self.now.arena name) }
+    {
+        self.inherited_args(name).is_some() || args_of(&self.arena, name.node).is_some()
+    }
+
+    /// Makes each template parameter of a closure from its level on `auto`.
+    pub fn bind_closure(&mut self, level: u64, i: u32) -> Result<u32, Stop>
+        requires node { IsNode self.old.arena i }
+        ensures reads { Gives result self.new (spec.bind_closure level (stands self.old.arena i) (state self.old)) }
+        ensures keeps { OnOk result (Keeps self.old self.new) }
+        ensures rest { self.new.rest.now ≡ self.old.rest.now }
+    {
+        tri!(self.count_replaced(i));
+        let binding = Binding {
+            level,
+            from: self.arena.pending_len(),
+            others: Others::Auto,
+        };
+        bind(&mut self.arena, self.alloc, &binding, i)
+    }
+
     // Binds the arguments of an encoding, if its name has some.
     fn bind_arguments(&mut self, name: LearnedName) -> Result<(), Stop>
         requires named { IsNamed self.old.arena name }

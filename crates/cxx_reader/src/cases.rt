@@ -2,12 +2,13 @@
 #![tactic(auto, unfolding(cxx_grammar::specs::Words::builtin_of, cxx_grammar::specs::Words::integer_of))]
 
 ghost use Rattle.std.specs.Prelude.{◌≡◌, [], ◌∷◌};
-ghost use Rattle.abi_scalars.specs.Bytes.{begins};
+ghost use Rattle.abi_scalars.specs.Bytes.{begins, begins_digit};
 ghost use Rattle.cxx_grammar.specs.Cases as spec;
 
 use crate::words::{builtin_of, integer_of};
 use cxx_grammar::cases::{
-    ArgCase, BaseCase, ComponentCase, EncodingCase, FirstCase, LiteralCase, NameCase, TypeCase,
+    ArgCase, BaseCase, ComponentCase, EncodingCase, ExceptionCase, FirstCase, LiteralCase, LocalCase,
+    NameCase, TypeCase,
 };
 
 /// Returns whether a letter is next.
@@ -31,6 +32,26 @@ pub fn is_encoding_end(bytes: &[u8]) -> bool
     }
 }
 
+/// Returns whether a digit is next.
+pub fn begins_digit(bytes: &[u8]) -> bool
+    ensures value { result ≡ begins_digit bytes.now }
+{
+    match bytes {
+        [b'0'..=b'9', ..] => true,
+        _ => false,
+    }
+}
+
+/// Returns whether the parameters of a function type end here: before `E`, `RE` or `OE`.
+pub fn is_function_end(bytes: &[u8]) -> bool
+    ensures value { result ≡ spec.is_function_end bytes.now }
+{
+    match bytes {
+        [b'E', ..] | [b'R' | b'O', b'E', ..] => true,
+        _ => false,
+    }
+}
+
 /// Returns the case of an `<encoding>`.
 pub fn encoding_case(bytes: &[u8]) -> EncodingCase
     ensures value { result ≡ spec.case_of_encoding bytes.now }
@@ -47,9 +68,21 @@ pub fn name_case(bytes: &[u8]) -> NameCase
 {
     match bytes {
         [b'N', ..] => NameCase::Nested,
+        [b'Z', ..] => NameCase::Local,
         [b'S', b't', ..] => NameCase::Std,
         [b'S', ..] => NameCase::Substitution,
         _ => NameCase::Unqualified,
+    }
+}
+
+/// Returns the case of a `<local-name>`, after its `E`.
+pub fn local_case(bytes: &[u8]) -> LocalCase
+    ensures value { result ≡ spec.case_of_local bytes.now }
+{
+    match bytes {
+        [b's', ..] => LocalCase::String,
+        [b'd', ..] => LocalCase::DefaultArg,
+        _ => LocalCase::Entity,
     }
 }
 
@@ -83,8 +116,12 @@ pub fn base_case(bytes: &[u8]) -> BaseCase
 {
     match bytes {
         [b'1'..=b'9', ..] => BaseCase::Source,
-        [b'l', b'i', ..] => BaseCase::Literal,
         [b'v', b'0'..=b'9', ..] => BaseCase::Vendor,
+        [b'U', b't', ..] => BaseCase::Unnamed,
+        [b'U', b'b', ..] => BaseCase::Block,
+        [b'U', b'l', ..] => BaseCase::Closure,
+        [b'c', b'v', ..] => BaseCase::Conversion,
+        [b'l', b'i', ..] => BaseCase::Literal,
         _ => BaseCase::Operator,
     }
 }
@@ -94,14 +131,20 @@ pub fn type_case(bytes: &[u8]) -> TypeCase
     ensures value { result ≡ spec.case_of_type bytes.now }
 {
     match bytes {
-        [b'r' | b'V' | b'K', ..] => TypeCase::Qualified,
-        [b'D', b'p', ..] => TypeCase::Expansion,
-        [b'D', ..] => TypeCase::Builtin,
+        [b'r' | b'V' | b'K', ..] => qualified_case(bytes),
+        [b'U', ..] => TypeCase::Qualified,
+        [b'u', ..] => TypeCase::Vendor,
+        [b'F', ..] => TypeCase::Function,
+        [b'D', letter, ..] => d_case(*letter),
+        [b'D'] => TypeCase::Builtin,
+        [b'A', ..] => TypeCase::Array,
         [b'T', b's' | b'u' | b'e', ..] => TypeCase::SavedRow,
         [b'T', ..] => TypeCase::Param,
         [b'P', ..] => TypeCase::Pointer,
         [b'R', ..] => TypeCase::Reference(true),
         [b'O', ..] => TypeCase::Reference(false),
+        [b'C', ..] => TypeCase::Suffixed(true),
+        [b'G', ..] => TypeCase::Suffixed(false),
         [b'M', ..] => TypeCase::MemberPointer,
         [b'S', b't', ..] => TypeCase::Class,
         [b'S', ..] => TypeCase::Substitution,
@@ -110,6 +153,51 @@ pub fn type_case(bytes: &[u8]) -> TypeCase
         } else {
             TypeCase::Class
         },
+    }
+}
+
+// The case of a type that begins with a qualifier: it may be a function's.
+#[inline(never)]
+fn qualified_case(bytes: &[u8]) -> TypeCase
+    ensures value { result ≡ (if spec.begins_function (spec.past_qualifiers bytes.now) then function else qualified) }
+{
+    match past_letter(past_letter(past_letter(bytes, b'r'), b'V'), b'K') {
+        [b'F', ..] | [b'D', b'o' | b'w' | b'x', ..] => TypeCase::Function,
+        _ => TypeCase::Qualified,
+    }
+}
+
+// What follows a letter that may be next.
+fn past_letter(bytes: &[u8], letter: u8) -> &[u8]
+    ensures value { result.now ≡ past_letter letter bytes.now }
+{
+    match bytes {
+        [byte, rest @ ..] if *byte == letter => rest,
+        _ => bytes,
+    }
+}
+
+// The case of a type that begins with `D`, by the letter behind it.
+fn d_case(letter: u8) -> TypeCase
+{
+    match letter {
+        b'o' | b'w' | b'x' => TypeCase::Function,
+        b'v' => TypeCase::Vector,
+        b'p' => TypeCase::Expansion,
+        b'F' => TypeCase::Float,
+        b'B' | b'U' => TypeCase::Row,
+        _ => TypeCase::Builtin,
+    }
+}
+
+/// Returns the case of an `<exception-spec>`.
+pub fn exception_case(bytes: &[u8]) -> ExceptionCase
+    ensures value { result ≡ spec.case_of_exception bytes.now }
+{
+    match bytes {
+        [b'D', b'o', ..] => ExceptionCase::Noexcept,
+        [b'D', b'w', ..] => ExceptionCase::Throw,
+        _ => ExceptionCase::None,
     }
 }
 

@@ -5,17 +5,19 @@ ghost use Rattle.std.specs.Prelude.{◌≡◌, ℕ, ◌<◌, ◌≤◌, ◌&&◌
 ghost use Rattle.cxx_tree.specs.Kept.{KeepsNodes, IsNode};
 ghost use Rattle.cxx_tree.specs.Stored.{forest, size, stands};
 ghost use Rattle.cxx_grammar.specs.Encodings as spec;
+ghost use Rattle.cxx_grammar.specs.Cases.{case_of_encoding};
+ghost use Rattle.cxx_grammar.specs.Parses.{at_level};
 ghost use Rattle.cxx_grammar.specs.Symbol.{productions};
 ghost use Rattle.cxx_reader.specs.Outcome.{state, trees_behind, Keeps, KeepsFront, Moves, Gives, GivesOption, GivesFrom, IsNamed, named_at};
 
 use crate::cases::{encoding_case, is_encoding_end};
 use crate::names::read_name;
 use crate::reader::{Info, LearnedName, Reader};
-use crate::rows::{read_items, read_row};
+use crate::rows::{read_params, read_row};
 use crate::specials::special_row;
 use crate::types::read_type;
 use cxx_grammar::cases::EncodingCase;
-use cxx_grammar::rows::{End, Item};
+use cxx_grammar::rows::End;
 use cxx_tree::{Clauses, Node, Plain, Stop};
 
 /// Reads what follows the name of an encoding: nothing, or `<bare-function-type>`.
@@ -42,7 +44,7 @@ fn read_function(reader: &mut Reader, depth: usize, name: LearnedName) -> Result
 {
     let ret = tri!(read_return_type(reader, depth, has_return(name.info)));
     let from = reader.arena.pending_len();
-    tri!(read_params(reader, depth));
+    tri!(read_params(reader, depth, End::Encoding));
     reader.make_function(ret, name, from)
 }
 
@@ -63,36 +65,8 @@ fn read_return_type(reader: &mut Reader, depth: usize, is_there: bool) -> Result
     if !is_there {
         return Ok(None);
     }
-    let t = tri!(read_type(reader, depth));
+    let t = tri!(read_type(reader, depth, false));
     Ok(Some(t))
-}
-
-// Reads `<parameters> ::= v | <type>+`, and appends their nodes to the list that is read.
-#[cycle(reader)]
-#[inline(always)]
-fn read_params(reader: &mut Reader, depth: usize) -> Result<(), Stop>
-    ensures reads { GivesFrom result (length reader.old.arena.pending) reader.new
-        (spec.parse_params (productions depth) (state reader.old)) }
-    ensures keeps { OnOk result (KeepsFront (length reader.old.arena.pending) reader.old reader.new) }
-{
-    if reader.skip_letter(b'v') {
-        return Ok(());
-    }
-    read_some_params(reader, depth)
-}
-
-// Reads `<type>+`, up to the end of the encoding.
-#[cycle(reader)]
-#[inline(always)]
-fn read_some_params(reader: &mut Reader, depth: usize) -> Result<(), Stop>
-    ensures reads { GivesFrom result (length reader.old.arena.pending) reader.new
-        (spec.parse_some_params (productions depth) (state reader.old)) }
-    ensures keeps { OnOk result (KeepsFront (length reader.old.arena.pending) reader.old reader.new) }
-{
-    let from = reader.arena.pending_len();
-    let first = tri!(read_type(reader, depth));
-    tri!(reader.arena.add(first));
-    read_items(reader, depth, Item::Type, End::Encoding, from)
 }
 
 impl<'a> Reader<'a> {
@@ -133,6 +107,21 @@ pub fn read_encoding(reader: &mut Reader, depth: usize) -> Result<u32, Stop>
         return Err(Stop::Unreadable);
     }
     let depth = depth - 1;
+    let outer = reader.level;
+    reader.level = 0;
+    let t = tri!(read_encoding_case(reader, depth));
+    reader.level = outer;
+    Ok(t)
+}
+
+// Reads an `<encoding>` around whose begin there is no binder.
+#[cycle(reader)]
+#[inline(always)]
+fn read_encoding_case(reader: &mut Reader, depth: usize) -> Result<u32, Stop>
+    ensures reads { Gives result reader.new (spec.encoding_as (productions depth)
+        (case_of_encoding reader.old.rest.now) (state reader.old)) }
+    ensures moves { OnOk result (Moves reader.old reader.new) }
+{
     match encoding_case(reader.rest) {
         EncodingCase::Special => read_special(reader, depth),
         EncodingCase::Name => read_named(reader, depth),
@@ -161,6 +150,22 @@ fn read_named(reader: &mut Reader, depth: usize) -> Result<u32, Stop>
     ensures moves { OnOk result (Moves reader.old reader.new) }
 {
     let name = tri!(read_name(reader, depth));
-    let t = tri!(read_signature(reader, depth, name));
+    let t = tri!(read_inside(reader, depth, name));
     reader.bind(name, t)
+}
+
+// Reads what follows the name of an encoding, inside of the binder that the name may be.
+#[cycle(reader)]
+#[inline(always)]
+fn read_inside(reader: &mut Reader, depth: usize, name: LearnedName) -> Result<u32, Stop>
+    requires named { IsNamed reader.old.arena name }
+    ensures reads { Gives result reader.new (at_level (spec.level_behind (named_at reader.old.arena name))
+        (spec.parse_signature (productions depth) (named_at reader.old.arena name)) (state reader.old)) }
+    ensures keeps { OnOk result (Keeps reader.old reader.new) }
+{
+    let outer = reader.level;
+    reader.level = reader.has_args(name) as u64;
+    let t = tri!(read_signature(reader, depth, name));
+    reader.level = outer;
+    Ok(t)
 }

@@ -1,5 +1,5 @@
 //! Names (Itanium C++ ABI 5.1.2).
-#![tactic(auto, using(crate::proofs::Rules::productions), unfolding(cxx_tree::specs::Grows::Makes, cxx_tree::specs::Stored::tree_of, cxx_tree::specs::Stored::plain_tree, cxx_tree::specs::Stored::IsBelow, cxx_tree::specs::Stored::IsPlainBelow, cxx_tree::specs::Stored::stands, crate::specs::Outcome::named_at, crate::specs::Outcome::place_at, crate::specs::Outcome::part_at, crate::specs::Outcome::list_trees, cxx_grammar::specs::Names::name_as, cxx_grammar::specs::Names::first_as, cxx_grammar::specs::Names::part_as, cxx_grammar::specs::Names::parse_class_of, cxx_grammar::specs::Names::parse_info, cxx_grammar::specs::Names::parse_unqualified_name, cxx_grammar::specs::Names::parse_named_args, cxx_grammar::specs::Names::parse_in_place, cxx_grammar::specs::Names::parse_component, cxx_grammar::specs::Names::parse_next))]
+#![tactic(auto, using(crate::proofs::Rules::productions), unfolding(cxx_tree::specs::Grows::Makes, cxx_tree::specs::Stored::tree_of, cxx_tree::specs::Stored::plain_tree, cxx_tree::specs::Stored::IsBelow, cxx_tree::specs::Stored::IsPlainBelow, cxx_tree::specs::Stored::stands, crate::specs::Outcome::named_at, crate::specs::Outcome::place_at, crate::specs::Outcome::part_at, crate::specs::Outcome::list_trees, cxx_grammar::specs::Names::name_as, cxx_grammar::specs::Names::first_as, cxx_grammar::specs::Names::part_as, cxx_grammar::specs::Names::base_as, cxx_grammar::specs::Names::parse_class_of, cxx_grammar::specs::Names::parse_info, cxx_grammar::specs::Names::parse_unqualified_name, cxx_grammar::specs::Names::parse_named_args, cxx_grammar::specs::Names::parse_in_place, cxx_grammar::specs::Names::parse_component, cxx_grammar::specs::Names::parse_next))]
 
 ghost use Rattle.std.specs.Prelude.{◌≡◌, ℕ, ◌<◌, ◌≤◌, length, true, false, Option, Some, None, OnOk, IfSome, option_map};
 ghost use Rattle.abi_scalars.specs.Texts.{begins_source};
@@ -8,7 +8,7 @@ ghost use Rattle.cxx_tree.specs.Kept.{IsNode};
 ghost use Rattle.cxx_grammar.specs.Parses as parses;
 ghost use Rattle.cxx_grammar.specs.Leaves as leaves;
 ghost use Rattle.cxx_grammar.specs.Bases.{expand};
-ghost use Rattle.cxx_grammar.specs.Cases.{case_of_component};
+ghost use Rattle.cxx_grammar.specs.Cases.{case_of_base, case_of_component};
 ghost use Rattle.cxx_grammar.specs.Names as spec;
 ghost use Rattle.cxx_grammar.specs.State as grammar;
 ghost use Rattle.cxx_grammar.specs.Symbol.{productions};
@@ -17,12 +17,15 @@ ghost use Rattle.cxx_reader.specs.Outcome.{state, Keeps, Moves, Gives, GivesName
 ghost use Rattle.cxx_reader.specs.Sources.{parse_source_at};
 
 use crate::args::read_args;
-use crate::bases::{base_name, is_param, is_with_args, short_std};
-use crate::cases::{begins, component_case, first_case, name_case};
+use crate::bases::{base_name, is_param_class, is_with_args, short_std};
+use crate::cases::{base_case, begins, component_case, first_case, name_case};
+use crate::locals::read_local_name;
 use crate::reader::{Info, LearnedName, Reader};
+use crate::types::read_type;
+use crate::unnamed::read_closure;
 use abi_scalars::texts::begins_source;
-use cxx_grammar::cases::{ComponentCase, FirstCase, NameCase};
-use cxx_tree::{Cv, Node, Plain, RefQual, Stop};
+use cxx_grammar::cases::{BaseCase, ComponentCase, FirstCase, NameCase};
+use cxx_tree::{Cv, Node, NodeText, Plain, Prec, RefQual, Stop};
 
 /// Where an `<unqualified-name>` stands.
 #[derive(Clone, Copy)]
@@ -34,7 +37,7 @@ pub struct Place {
     pub info: Info,
 }
 
-/// A name without its scope, and the scope that it has.
+/// A name without its tags and its scope, and the scope that it has.
 #[derive(Clone, Copy)]
 pub struct Part {
     pub node: u32,
@@ -70,9 +73,9 @@ fn unqualified() -> Info
     )
 }
 
-// A name of which nothing is learned.
+/// A name of which nothing is learned.
 #[inline(always)]
-fn plain(node: u32) -> LearnedName
+pub fn plain(node: u32) -> LearnedName
     ensures value { result ≡ record { node = node; info = outcome.no_info } }
 {
     LearnedName {
@@ -120,6 +123,7 @@ pub fn read_name(reader: &mut Reader, depth: usize) -> Result<LearnedName, Stop>
     let depth = depth - 1;
     match name_case(reader.rest) {
         NameCase::Nested => read_nested_name(reader, depth),
+        NameCase::Local => read_local_name(reader, depth),
         NameCase::Std => read_std_name(reader, depth),
         NameCase::Substitution => read_substituted(reader, depth),
         NameCase::Unqualified => read_unscoped(reader, depth),
@@ -195,8 +199,8 @@ fn read_named_args(
     Ok(LearnedName { node, info })
 }
 
-// Reads `<unqualified-name> ::= [L] (<source-name> | <operator-name> | <ctor-dtor-name>)`. A source name, as most are, is
-// read without the other cases.
+// Reads `<unqualified-name> ::= [L] <name> [<abi-tags>]`, where the name is an operator's, a constructor's or a
+// destructor's, a source name or an unnamed type's. A source name, as most are, is read without the other cases.
 #[cycle(reader)]
 #[inline(always)]
 fn read_unqualified_name(
@@ -227,7 +231,7 @@ fn read_other_name(reader: &mut Reader, depth: usize, place: Place) -> Result<Le
     // The mark of internal linkage, which prints nothing.
     reader.skip_letter(b'L');
     let part = tri!(read_part(reader, depth, place));
-    reader.put_in_scope(part)
+    reader.read_part_end(part)
 }
 
 // Reads an `<unqualified-name>` after its `L`.
@@ -242,8 +246,68 @@ fn read_part(reader: &mut Reader, depth: usize, place: Place) -> Result<Part, St
         ComponentCase::Ctor => reader.read_ctor(place, false),
         ComponentCase::InheritedCtor => read_inherited_ctor(reader, depth, place),
         ComponentCase::Dtor => reader.read_ctor(place, true),
-        ComponentCase::Unqualified => reader.read_base_part(place),
+        ComponentCase::Unqualified => read_base_part(reader, depth, place),
     }
+}
+
+// Reads a name that is no constructor.
+#[cycle(reader)]
+fn read_base_part(reader: &mut Reader, depth: usize, place: Place) -> Result<Part, Stop>
+    requires place { IsPlace reader.old.arena place }
+    ensures reads { GivesPart result reader.new (spec.base_part (productions depth) (place_at reader.old.arena place)
+        (case_of_base reader.old.rest.now) (state reader.old)) }
+    ensures moves { OnOk result (Moves reader.old reader.new) }
+{
+    let case = base_case(reader.rest);
+    let node = tri!(read_base(reader, depth, case));
+    Ok(Part {
+        node,
+        scope: place.scope,
+        info: Info {
+            no_return: place.info.no_return || is_conversion(case),
+            ..place.info
+        },
+    })
+}
+
+// Whether a name is that of a conversion operator.
+fn is_conversion(case: BaseCase) -> bool
+    ensures value { result ≡ spec.is_conversion case }
+{
+    match case {
+        BaseCase::Conversion => true,
+        _ => false,
+    }
+}
+
+// Reads a name without a scope and without tags.
+#[cycle(reader)]
+fn read_base(reader: &mut Reader, depth: usize, case: BaseCase) -> Result<u32, Stop>
+    ensures reads { Gives result reader.new (spec.base_as (productions depth) case (state reader.old)) }
+    ensures moves { OnOk result (Moves reader.old reader.new) }
+{
+    match case {
+        BaseCase::Source => reader.read_source_name(),
+        BaseCase::Unnamed => reader.read_unnamed(),
+        BaseCase::Block => reader.read_block(),
+        BaseCase::Closure => read_closure(reader, depth),
+        BaseCase::Conversion => read_conversion(reader, depth),
+        BaseCase::Literal => reader.read_prefixed(2, b"operator\"\" "),
+        BaseCase::Vendor => reader.read_prefixed(2, b"operator "),
+        BaseCase::Operator => reader.read_operator(),
+    }
+}
+
+// Reads `cv <type>`.
+#[cycle(reader)]
+fn read_conversion(reader: &mut Reader, depth: usize) -> Result<u32, Stop>
+    ensures reads { Gives result reader.new (spec.parse_conversion (productions depth) (state reader.old)) }
+    ensures moves { OnOk result (Moves reader.old reader.new) }
+{
+    reader.skip(2);
+    let t = tri!(read_type(reader, depth, true));
+    let words = NodeText::Fixed(b"operator ");
+    reader.arena.make_prefixed(words, words, t, Prec::Primary)
 }
 
 // Reads `CI1 <name>` or `CI2 <name>`.
@@ -416,21 +480,6 @@ impl<'a> Reader<'a> {
         })
     }
 
-    // Reads a name that is no constructor.
-    fn read_base_part(&mut self, place: Place) -> Result<Part, Stop>
-        requires place { IsPlace self.old.arena place }
-        ensures reads { GivesPart result self.new (spec.parse_base_part (place_at self.old.arena place)
-            (state self.old)) }
-        ensures moves { OnOk result (Moves self.old self.new) }
-    {
-        let node = tri!(self.read_base());
-        Ok(Part {
-            node,
-            scope: place.scope,
-            info: place.info,
-        })
-    }
-
     // Reads a constructor or a destructor: `C1`, `C2`, .., `D0`, `D1`, ..
     fn read_ctor(&mut self, place: Place, is_destructor: bool) -> Result<Part, Stop>
         requires some { 0 < length self.old.rest.now }
@@ -454,7 +503,7 @@ impl<'a> Reader<'a> {
         let Some(class) = place.scope else {
             return Err(Stop::Unreadable);
         };
-        if !place.is_nested || is_param(&self.arena, class) {
+        if !place.is_nested || is_param_class(&self.arena, class) {
             return Err(Stop::Unreadable);
         }
         self.expanded(class)
@@ -494,17 +543,15 @@ impl<'a> Reader<'a> {
         })
     }
 
-    // Puts a name in its scope.
-    fn put_in_scope(&mut self, part: Part) -> Result<LearnedName, Stop>
+    // Reads the tags of a name, and puts it in its scope.
+    fn read_part_end(&mut self, part: Part) -> Result<LearnedName, Stop>
         requires part { IsPart self.old.arena part }
-        ensures reads { GivesNamed result self.new (spec.scoped_part (part_at self.old.arena part) (state self.old)) }
+        ensures reads { GivesNamed result self.new (spec.parse_part_end (part_at self.old.arena part)
+            (state self.old)) }
         ensures keeps { OnOk result (Keeps self.old self.new) }
-        ensures rest { OnOk result (self.new.rest.now ≡ self.old.rest.now) }
     {
-        let node = match part.scope {
-            Some(scope) => tri!(self.make(Node::Plain(Plain::Scoped(false, scope, part.node)))),
-            None => part.node,
-        };
+        let tagged = tri!(self.read_abi_tags(part.node));
+        let node = tri!(self.put_in(part.scope, tagged));
         Ok(LearnedName {
             node,
             info: part.info,

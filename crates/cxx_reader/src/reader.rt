@@ -12,11 +12,10 @@ ghost use Rattle.cxx_grammar.specs.Words as words;
 ghost use Rattle.cxx_reader.specs.Sources as sources;
 ghost use Rattle.cxx_reader.specs.Outcome.{state, Keeps, Moves, Gives};
 
-use crate::cases::{base_case, begins};
+use crate::cases::begins;
 use crate::words::{builtin_of, d_builtin_of, operator_of};
 use abi_scalars::numerals::{Radix, index_of};
 use abi_scalars::texts::{identifier, source_text};
-use cxx_grammar::cases::BaseCase;
 use cxx_tree::{Arena, Cv, Node, NodeText, Plain, Prec, RefQual, Std, Stop};
 use std::alloc::Global;
 
@@ -27,6 +26,8 @@ pub struct Reader<'a> {
     pub arena: Arena,
     /// How many nodes were replaced.
     pub replaced: usize,
+    /// How many binders of template parameters are around this place.
+    pub level: u64,
     pub alloc: Global,
 }
 
@@ -35,7 +36,7 @@ pub struct Reader<'a> {
 pub struct Info {
     /// The name ends with template arguments.
     pub ends_with_args: bool,
-    /// A component was a constructor or a destructor.
+    /// A component was a constructor, a destructor or a conversion operator.
     pub no_return: bool,
     pub cv: Cv,
     pub ref_qual: RefQual,
@@ -151,7 +152,7 @@ impl<'a> Reader<'a> {
         self.arena.make_name(source_text(name))
     }
 
-    /// Reads a `<source-name>`, in a scope if there is one. It is one node then.
+    /// Reads a `<source-name>` with its tags, in a scope if there is one. Without tags it is one node then.
     #[inline(always)]
     pub fn read_source_in(&mut self, scope: Option<u32>) -> Result<u32, Stop>
         requires scope { IfSome scope (IsNode self.old.arena) }
@@ -163,14 +164,97 @@ impl<'a> Reader<'a> {
             return Err(Stop::Unreadable);
         };
         self.rest = rest;
+        if begins(rest, b'B') {
+            return self.make_tagged_in(scope, name);
+        }
         match scope {
             Some(scope) => self.arena.make_name_in(scope, source_text(name)),
             None => self.arena.make_name(source_text(name)),
         }
     }
 
+    // Makes a name, reads its tags, and puts it in a scope if there is one.
+    #[inline(never)]
+    fn make_tagged_in(&mut self, scope: Option<u32>, name: &[u8]) -> Result<u32, Stop>
+        requires scope { IfSome scope (IsNode self.old.arena) }
+        ensures reads { Gives result self.new (sources.tagged_in (option_map (stands self.old.arena) scope) name.now
+            (state self.old)) }
+        ensures keeps { OnOk result (Keeps self.old self.new) }
+    {
+        let node = tri!(self.arena.make_name(source_text(name)));
+        let tagged = tri!(self.read_abi_tags(node));
+        self.put_in(scope, tagged)
+    }
+
+    /// Puts a name in a scope if there is one.
+    pub fn put_in(&mut self, scope: Option<u32>, name: u32) -> Result<u32, Stop>
+        requires scope { IfSome scope (IsNode self.old.arena) }
+        requires name { IsNode self.old.arena name }
+        ensures reads { Gives result self.new (names.make_in_scope (option_map (stands self.old.arena) scope)
+            (stands self.old.arena name) (state self.old)) }
+        ensures keeps { OnOk result (Keeps self.old self.new) }
+        ensures rest { OnOk result (self.new.rest.now ≡ self.old.rest.now) }
+    {
+        match scope {
+            Some(scope) => self.make(Node::Plain(Plain::Scoped(false, scope, name))),
+            None => Ok(name),
+        }
+    }
+
+    /// Reads `<abi-tags> ::= (B <source-name>)*`, behind a name.
+    #[inline(always)]
+    pub fn read_abi_tags(&mut self, name: u32) -> Result<u32, Stop>
+        requires name { IsNode self.old.arena name }
+        ensures reads { Gives result self.new (leaves.parse_abi_tags (stands self.old.arena name) (state self.old)) }
+        ensures keeps { OnOk result (Keeps self.old self.new) }
+    {
+        let mut tagged = name;
+        while begins(self.rest, b'B') {
+            tagged = tri!(self.read_abi_tag(tagged));
+        }
+        Ok(tagged)
+    }
+
+    // Reads `B <source-name>`, behind a name.
+    #[inline(never)]
+    fn read_abi_tag(&mut self, name: u32) -> Result<u32, Stop>
+        requires name { IsNode self.old.arena name }
+        ensures reads { Gives result self.new (leaves.parse_abi_tag (stands self.old.arena name) (state self.old)) }
+        ensures moves { OnOk result (Moves self.old self.new) }
+    {
+        self.skip(1);
+        let tag = tri!(self.read_identifier());
+        let tag = tri!(self.text(tag));
+        self.make(Node::Plain(Plain::AbiTag(name, tag)))
+    }
+
+    /// Reads `<source-name>` as an identifier.
+    pub fn read_identifier(&mut self) -> Result<&'a [u8], Stop>
+        ensures reads { GivesText result self.new (leaves.parse_identifier (state self.old)) }
+        ensures arena { self.new.arena ≡ self.old.arena }
+        ensures takes { OnOk result (length self.new.rest.now < length self.old.rest.now) }
+    {
+        let Some((name, rest)) = identifier(self.rest) else {
+            return Err(Stop::Unreadable);
+        };
+        self.rest = rest;
+        Ok(name)
+    }
+
+    /// Copies a text.
+    pub fn text(&mut self, bytes: &[u8]) -> Result<NodeText, Stop>
+        ensures text { OnText result self.new.arena bytes.now }
+        ensures keeps { Keeps self.old self.new }
+        ensures state { state self.new ≡ state self.old }
+    {
+        match self.arena.text(bytes) {
+            Ok(text) => Ok(text),
+            Err(_) => Err(Stop::Memory),
+        }
+    }
+
     /// Reads a `<source-name>` after n bytes, and puts a word in front of it.
-    fn read_prefixed(&mut self, n: usize, word: &'static [u8]) -> Result<u32, Stop>
+    pub fn read_prefixed(&mut self, n: usize, word: &'static [u8]) -> Result<u32, Stop>
         ensures reads { Gives result self.new (leaves.parse_prefixed n word.now (state self.old)) }
         ensures moves { OnOk result (Moves self.old self.new) }
     {
@@ -184,21 +268,8 @@ impl<'a> Reader<'a> {
         )
     }
 
-    /// Reads a `<source-name>` or an `<operator-name>`.
-    pub fn read_base(&mut self) -> Result<u32, Stop>
-        ensures reads { Gives result self.new (names.parse_base (state self.old)) }
-        ensures moves { OnOk result (Moves self.old self.new) }
-    {
-        match base_case(self.rest) {
-            BaseCase::Source => self.read_source_name(),
-            BaseCase::Literal => self.read_prefixed(2, b"operator\"\" "),
-            BaseCase::Vendor => self.read_prefixed(2, b"operator "),
-            BaseCase::Operator => self.read_operator(),
-        }
-    }
-
     /// Reads `<operator-name>` that is a code of two letters.
-    fn read_operator(&mut self) -> Result<u32, Stop>
+    pub fn read_operator(&mut self) -> Result<u32, Stop>
         ensures reads { Gives result self.new (leaves.parse_operator (state self.old)) }
         ensures moves { OnOk result (Moves self.old self.new) }
     {
@@ -220,7 +291,7 @@ impl<'a> Reader<'a> {
         self.arena.make_fixed(word)
     }
 
-    /// Reads `<substitution> ::= S [<seq-id>] _ | Sa | Sb | Ss | Si | So | Sd`.
+    /// Reads `<substitution> ::= S [<seq-id>] _ | Sa | Sb | Ss | Si | So | Sd`, the latter with `<abi-tags>`.
     pub fn read_substitution(&mut self) -> Result<u32, Stop>
         ensures reads { Gives result self.new (leaves.parse_substitution (state self.old)) }
         ensures moves { OnOk result (Moves self.old self.new) }
@@ -232,7 +303,7 @@ impl<'a> Reader<'a> {
         }
     }
 
-    // Makes an abbreviation of std, and skips its letter.
+    // Makes an abbreviation of std with its tags, and skips its letter. With tags it is saved.
     #[inline(never)]
     fn read_std(&mut self, std: Std) -> Result<u32, Stop>
         requires some { 0 < length self.old.rest.now }
@@ -240,7 +311,13 @@ impl<'a> Reader<'a> {
         ensures moves { OnOk result (Moves self.old self.new) }
     {
         self.skip(1);
-        self.make(Node::Plain(Plain::StdName(std, false)))
+        let name = tri!(self.make(Node::Plain(Plain::StdName(std, false))));
+        if !begins(self.rest, b'B') {
+            return Ok(name);
+        }
+        let tagged = tri!(self.read_abi_tags(name));
+        tri!(self.arena.save(tagged));
+        Ok(tagged)
     }
 
     /// Reads `[<seq-id>] _`.

@@ -45,6 +45,15 @@ impl<'a> Reader<'a> {
                 ),
                 _ => Err(Stop::Unreadable),
             },
+            Maker::Enclosing => match nodes {
+                &[t] => self.arena.make_enclosing(
+                    NodeText::Fixed(row.llvm),
+                    NodeText::Fixed(row.gnu),
+                    t,
+                    Prec::Primary,
+                ),
+                _ => Err(Stop::Unreadable),
+            },
             Maker::CtorVtable => match nodes {
                 &[whole, part] => self.arena.make_ctor_vtable(part, whole),
                 _ => Err(Stop::Unreadable),

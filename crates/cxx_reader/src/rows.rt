@@ -8,17 +8,18 @@ ghost use Rattle.cxx_grammar.specs.Parses.{item_more};
 ghost use Rattle.cxx_grammar.specs.Productions.{name_tree};
 ghost use Rattle.cxx_grammar.specs.Rows as spec;
 ghost use Rattle.cxx_grammar.specs.Symbol.{productions};
-ghost use Rattle.cxx_reader.specs.Outcome.{state, trees_behind, KeepsFront, Moves, Gives, GivesFrom};
+ghost use Rattle.cxx_reader.specs.Outcome.{state, trees_behind, KeepsFront, Moves, Gives, GivesFrom, GivesList};
+ghost use Rattle.cxx_grammar.specs.declared.rows.Item.TheVariants.{Param as param};
 ghost use Rattle.cxx_reader.specs.Rows.{row_at};
 
 use crate::args::read_arg;
-use crate::cases::{begins, is_encoding_end};
+use crate::cases::{begins, is_encoding_end, is_function_end};
 use crate::encodings::read_encoding;
 use crate::names::read_name;
 use crate::reader::Reader;
 use crate::types::read_type;
 use cxx_grammar::rows::{End, Item, Row};
-use cxx_tree::Stop;
+use cxx_tree::{List, Stop};
 
 /// Reads a row, and makes the node of its items.
 #[cycle(reader)]
@@ -98,6 +99,49 @@ pub fn read_items(
     Ok(())
 }
 
+/// Reads items up to an `E`, behind n letters.
+#[cycle(reader)]
+#[inline(always)]
+pub fn read_list(reader: &mut Reader, depth: usize, n: usize, item: Item) -> Result<List, Stop>
+    requires n { 0 < n }
+    ensures reads { GivesList result reader.new (spec.parse_list (productions depth) n item (state reader.old)) }
+    ensures moves { OnOk result (Moves reader.old reader.new) }
+{
+    reader.skip(n);
+    let from = reader.arena.pending_len();
+    tri!(read_items(reader, depth, item, End::E, from));
+    reader.skip(1);
+    reader.arena.list_from(from)
+}
+
+/// Reads `v | <type>+` up to an end, and collects the nodes.
+#[cycle(reader)]
+#[inline(always)]
+pub fn read_params(reader: &mut Reader, depth: usize, end: End) -> Result<(), Stop>
+    ensures reads { GivesFrom result (length reader.old.arena.pending) reader.new
+        (spec.parse_params (productions depth) end (state reader.old)) }
+    ensures keeps { OnOk result (KeepsFront (length reader.old.arena.pending) reader.old reader.new) }
+{
+    if reader.skip_letter(b'v') {
+        return Ok(());
+    }
+    read_some_params(reader, depth, end)
+}
+
+// Reads `<type>+` up to an end.
+#[cycle(reader)]
+#[inline(always)]
+fn read_some_params(reader: &mut Reader, depth: usize, end: End) -> Result<(), Stop>
+    ensures reads { GivesFrom result (length reader.old.arena.pending) reader.new
+        (spec.parse_some_params (productions depth) end (state reader.old)) }
+    ensures keeps { OnOk result (KeepsFront (length reader.old.arena.pending) reader.old reader.new) }
+{
+    let from = reader.arena.pending_len();
+    let first = tri!(read_type(reader, depth, false));
+    tri!(reader.arena.add(first));
+    read_items(reader, depth, Item::Type, end, from)
+}
+
 // Reads an item that has a node, and collects it.
 #[cycle(reader)]
 #[inline(always)]
@@ -121,12 +165,26 @@ fn read_tree(reader: &mut Reader, depth: usize, item: Item) -> Result<u32, Stop>
     ensures moves { OnOk result (Moves reader.old reader.new) }
 {
     match item {
-        Item::Type => read_type(reader, depth),
+        Item::Type => read_type(reader, depth, false),
+        Item::Param => read_param(reader, depth),
+        Item::Size => reader.read_size(),
         Item::Name => read_name_tree(reader, depth),
         Item::Arg => read_arg(reader, depth),
         Item::Encoding => read_encoding(reader, depth),
         _ => Err(Stop::Unreadable),
     }
+}
+
+// Reads `<type>` that isn't `void`.
+#[cycle(reader)]
+fn read_param(reader: &mut Reader, depth: usize) -> Result<u32, Stop>
+    ensures reads { Gives result reader.new (spec.tree_as (productions depth) param (state reader.old)) }
+    ensures moves { OnOk result (Moves reader.old reader.new) }
+{
+    if begins(reader.rest, b'v') {
+        return Err(Stop::Unreadable);
+    }
+    read_type(reader, depth, false)
 }
 
 /// Reads `<name>`, of which nothing else matters.
@@ -148,5 +206,6 @@ fn is_end(bytes: &[u8], end: End) -> bool
     match end {
         End::E => begins(bytes, b'E'),
         End::Encoding => is_encoding_end(bytes),
+        End::Function => is_function_end(bytes),
     }
 }

@@ -2,8 +2,8 @@
 #![tactic(auto, unfolding(cxx_grammar::specs::Rows::t_special_of, cxx_grammar::specs::Rows::g_special_of, cxx_grammar::specs::Rows::type_row_of))]
 
 ghost use Rattle.std.specs.Prelude.{◌≡◌, ◌<◌, [], ◌∷◌, Some, length, option_map, IfSome};
-ghost use Rattle.cxx_grammar.specs.declared.rows.Item.TheVariants.{CallOffset, Encoding};
-ghost use Rattle.cxx_grammar.specs.declared.rows.Maker.TheVariants.{Prefixed};
+ghost use Rattle.cxx_grammar.specs.declared.rows.Item.TheVariants.{CallOffset, Encoding, Size};
+ghost use Rattle.cxx_grammar.specs.declared.rows.Maker.TheVariants.{Prefixed, Enclosing};
 ghost use Rattle.cxx_grammar.specs.Rows as spec;
 ghost use Rattle.cxx_reader.specs.Rows.{row_at};
 
@@ -138,12 +138,33 @@ fn clone(words: &'static [u8]) -> Option<Row>
     behind_words(3, &[Item::Encoding], words, words)
 }
 
+// The row of an integer type of a size.
+fn enclosed_by(words: &'static [u8]) -> Option<Row>
+    ensures value { option_map row_at result ≡ Some (record {
+      skip = 2;
+      items = Size ∷ [];
+      maker = Enclosing;
+      words = record { llvm = words.entry.now; gnu = words.entry.now };
+    }) }
+    ensures some { IfSome result (λ row. 0 < row.skip) }
+{
+    Some(Row {
+        skip: 2,
+        items: &[Item::Size],
+        maker: Maker::Enclosing,
+        llvm: words,
+        gnu: words,
+    })
+}
+
 /// Returns the row of the type whose code is next, or `None` if there is none.
 pub fn type_row(bytes: &[u8]) -> Option<Row>
     ensures value { option_map row_at result ≡ spec.type_row_of bytes.now }
     ensures some { IfSome result (λ row. (0 < row.skip) × (0 < length bytes.now)) }
 {
     match bytes {
+        [b'D', b'B', ..] => enclosed_by(b"_BitInt"),
+        [b'D', b'U', ..] => enclosed_by(b"unsigned _BitInt"),
         [b'T', b's', ..] => behind(b"struct ", &[Item::Name]),
         [b'T', b'u', ..] => behind(b"union ", &[Item::Name]),
         [b'T', b'e', ..] => behind(b"enum ", &[Item::Name]),

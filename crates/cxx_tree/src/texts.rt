@@ -27,6 +27,26 @@ impl Arena {
         }
     }
 
+    /// Makes a text of three.
+    pub fn joined_text(
+        &mut self,
+        front: &[u8],
+        middle: &[u8],
+        after: &[u8],
+    ) -> Result<NodeText, AllocError>
+        ensures text { IfOk result (λ t. text_at self.new.held t ≡ front.now ++ (middle.now ++ after.now)) }
+        ensures within { IfOk result (IsText self.new.held) }
+        ensures nodes { self.new.nodes ≡ self.old.nodes }
+        ensures forest { forest self.new ≡ forest self.old }
+        ensures grows { Grows self.old self.new }
+    {
+        let from = self.texts_len();
+        self.add_text(front)?;
+        self.add_text(middle)?;
+        self.add_text(after)?;
+        Ok(self.text_from(from))
+    }
+
     /// Makes a text of what is printed of a number, between two texts.
     pub fn joined(
         &mut self,

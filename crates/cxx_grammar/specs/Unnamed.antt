@@ -1,0 +1,62 @@
+-- Unnamed types and closures (Itanium C++ ABI 5.1.7).
+use Rattle.std.specs.Prelude.{ℕ, ◌+◌, List, [], ◌∷◌, Option, None, false, if◌then◌else◌, nat_lt}
+use Rattle.cxx_tree.specs.Tree.{Tree, no_trees}
+use Rattle.cxx_tree.specs.Stored.{trees_from_list}
+use Rattle.cxx_tree.specs.Phrases.{closure, unnamed}
+use Rattle.cxx_grammar.specs.declared.rows.End.TheVariants as end
+use Rattle.cxx_grammar.specs.Parses.{Parses, ◌>>=◌, ◌>>◌, pure, check, past, expect, make, level, at_level}
+use Rattle.cxx_grammar.specs.Leaves.{parse_digits, make_word}
+use Rattle.cxx_grammar.specs.Ordinals.{ordinal_of}
+use Rattle.cxx_grammar.specs.Binds.{bind_closure}
+use Rattle.cxx_grammar.specs.Productions.{Productions}
+use Rattle.cxx_grammar.specs.Rows.{parse_params}
+
+-- [<number>] _: which one it is
+abbrev pub parse_count : Parses (List ℕ)
+parse_count = do
+  count ← parse_digits
+  expect "_"
+  pure count
+
+-- Ut [<number>] _
+abbrev pub parse_unnamed : Parses Tree
+parse_unnamed = do
+  past 2
+  count ← parse_count
+  make (unnamed count (ordinal_of count))
+
+-- Ub [<number>] _
+abbrev pub parse_block : Parses Tree
+parse_block = do
+  past 2
+  parse_count
+  make_word "'block-literal'"
+
+abbrev pub closure_tree : List Tree → List ℕ → Tree
+closure_tree params count = closure no_trees None (trees_from_list params) None count (ordinal_of count)
+
+-- [<number>] _, behind the parameters of a closure. The closure binds the template parameters of its level: each is
+-- `auto`
+abbrev pub parse_closure_end : ℕ → List Tree → Parses Tree
+parse_closure_end binder params = do
+  count ← parse_count
+  t ← make (closure_tree params count)
+  bind_closure binder t
+
+-- <lambda-sig> E
+abbrev pub parse_lambda_sig : Productions → Parses (List Tree)
+parse_lambda_sig p = do
+  params ← parse_params p end.E
+  expect "E"
+  pure params
+
+-- <closure-type-name> ::= Ul <lambda-sig> E [<number>] _
+-- <lambda-sig> ::= v | <parameter type>+
+-- At most 512 productions nest, so no level is refused.
+unfoldable pub parse_closure : Productions → Parses Tree
+parse_closure p = do
+  past 2
+  binder ← level
+  check (nat_lt binder 512)
+  params ← at_level (binder + 1) (parse_lambda_sig p)
+  parse_closure_end binder params

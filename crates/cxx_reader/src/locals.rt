@@ -1,0 +1,135 @@
+//! Local names (Itanium C++ ABI 5.1.8).
+use crate::cases::local_case;
+use crate::encodings::read_encoding;
+use crate::names::{plain, read_name};
+use crate::reader::{LearnedName, Reader};
+use abi_scalars::texts::optional_number_text;
+use cxx_grammar::cases::LocalCase;
+use cxx_tree::{Node, Plain, Stop};
+
+/// Reads `<local-name> ::= Z <encoding> E <entity name> [<discriminator>]`, and the same of a string literal and of an
+/// entity in a default argument.
+#[cycle(reader)]
+#[inline(never)]
+pub fn read_local_name(reader: &mut Reader, depth: usize) -> Result<LearnedName, Stop>
+{
+    reader.skip(1);
+    let scope = tri!(read_encoding(reader, depth));
+    tri!(reader.expect(b'E'));
+    match local_case(reader.rest) {
+        LocalCase::String => reader.read_local_string(scope),
+        LocalCase::DefaultArg => read_default_arg(reader, depth, scope),
+        LocalCase::Entity => read_entity(reader, depth, scope),
+    }
+}
+
+// Reads `<name> [<discriminator>]`.
+#[cycle(reader)]
+fn read_entity(reader: &mut Reader, depth: usize, scope: u32) -> Result<LearnedName, Stop>
+{
+    let name = tri!(read_entity_in(reader, depth, scope));
+    reader.skip_discriminator();
+    Ok(name)
+}
+
+// Reads `d [<number>] _ <name>`.
+#[cycle(reader)]
+fn read_default_arg(reader: &mut Reader, depth: usize, scope: u32) -> Result<LearnedName, Stop>
+{
+    reader.skip(1);
+    let arg = tri!(reader.read_default_scope(scope));
+    read_entity_in(reader, depth, arg)
+}
+
+// Reads the name of an entity in a scope. What is around the scope binds none of its template parameters.
+#[cycle(reader)]
+fn read_entity_in(reader: &mut Reader, depth: usize, scope: u32) -> Result<LearnedName, Stop>
+{
+    let outer = reader.level;
+    reader.level = 0;
+    let name = tri!(read_name(reader, depth));
+    reader.level = outer;
+    reader.make_entity(scope, name)
+}
+
+impl<'a> Reader<'a> {
+    // Puts an entity in its scope.
+    fn make_entity(&mut self, scope: u32, name: LearnedName) -> Result<LearnedName, Stop>
+    {
+        let node = tri!(self.make(Node::Plain(Plain::Scoped(false, scope, name.node))));
+        Ok(LearnedName {
+            node,
+            info: name.info,
+        })
+    }
+
+    // Reads `s [<discriminator>]`.
+    fn read_local_string(&mut self, scope: u32) -> Result<LearnedName, Stop>
+    {
+        self.skip(1);
+        self.skip_discriminator();
+        let word = tri!(self.arena.make_fixed(b"string literal"));
+        let node = tri!(self.make(Node::Plain(Plain::Scoped(false, scope, word))));
+        Ok(plain(node))
+    }
+
+    // Reads `[<number>] _`, and makes the scope of a default argument.
+    fn read_default_scope(&mut self, scope: u32) -> Result<u32, Stop>
+    {
+        let Some((number, rest)) = optional_number_text(self.rest) else {
+            return Err(Stop::Unreadable);
+        };
+        self.rest = rest;
+        tri!(self.expect(b'_'));
+        let ordinal = tri!(self.make_ordinal(without_sign(number)));
+        let number = tri!(self.text(number));
+        self.arena.make_default_arg(scope, number, ordinal)
+    }
+
+    // Skips `[<discriminator>]`.
+    fn skip_discriminator(&mut self)
+    {
+        self.rest = past_discriminator(self.rest);
+    }
+}
+
+// A number without its sign.
+fn without_sign(number: &[u8]) -> &[u8]
+{
+    match number {
+        [b'n', digits @ ..] => digits,
+        _ => number,
+    }
+}
+
+// The most digits of a discriminator.
+const MAX_DIGITS: usize = 10;
+
+// What follows `[<discriminator>] ::= _ <digit> | __ <digit>* _ | <digit>+`, the last at the end of a symbol only.
+fn past_discriminator(bytes: &[u8]) -> &[u8]
+{
+    match bytes {
+        [b'_', b'_', inside @ ..] => match past_digits(MAX_DIGITS, inside) {
+            [b'_', rest @ ..] => rest,
+            _ => bytes,
+        },
+        [b'_', b'0'..=b'9', rest @ ..] => rest,
+        [b'0'..=b'9', ..] => match past_digits(MAX_DIGITS, bytes) {
+            [] => &[],
+            _ => bytes,
+        },
+        _ => bytes,
+    }
+}
+
+// What follows at most n digits.
+fn past_digits(n: usize, bytes: &[u8]) -> &[u8]
+{
+    if n == 0 {
+        return bytes;
+    }
+    match bytes {
+        [b'0'..=b'9', rest @ ..] => past_digits(n - 1, rest),
+        _ => bytes,
+    }
+}

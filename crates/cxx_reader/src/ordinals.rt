@@ -1,0 +1,39 @@
+//! The numbers of entities that have no name, counted from 1.
+use std::alloc::{AllocError, Global};
+
+/// Returns the digits of the number of an entity, where no digits stand for the first one, 0 for the second, and so on.
+/// Zeros may stand in front of them.
+pub fn ordinal(alloc: Global, digits: &[u8]) -> Result<Vec<u8>, AllocError>
+{
+    let mut number = Vec::new(alloc);
+    number.extend_from_slice(b"0")?;
+    number.extend_from_slice(digits)?;
+    add_one(&mut number);
+    if !digits.is_empty() {
+        add_one(&mut number);
+    }
+    Ok(number)
+}
+
+// Adds 1 to the number that these digits write.
+fn add_one(digits: &mut [u8])
+{
+    let mut k = digits.len();
+    while k > 0 && digits[k - 1] >= b'9' {
+        k -= 1;
+        digits[k] = b'0';
+    }
+    if k > 0 {
+        digits[k - 1] += 1;
+    }
+}
+
+/// Returns the digits without the zeros in front.
+pub fn without_zeros(digits: &[u8]) -> &[u8]
+{
+    let mut rest = digits;
+    while let [b'0', after @ ..] = rest {
+        rest = after;
+    }
+    rest
+}
