@@ -29,10 +29,13 @@ unfoldable pub without_zeros : List ℕ → List ℕ
 without_zeros [] = []
 without_zeros (d ∷ ds) = if d == letter "0" then without_zeros ds else d ∷ ds
 
--- the number of an entity, where no digits stand for the first one, 0 for the second, and so on
-unfoldable pub ordinal_of : List ℕ → List ℕ
-ordinal_of [] = codes "1"
-ordinal_of (d ∷ ds) = without_zeros (one_more (one_more (letter "0" ∷ d ∷ ds)))
+-- digits of the number of an entity, behind zeros: no digits stand for the first one, 0 for the second, and so on
+unfoldable pub ordinal_digits : List ℕ → List ℕ
+ordinal_digits [] = one_more (codes "0")
+ordinal_digits (d ∷ ds) = one_more (one_more (letter "0" ∷ d ∷ ds))
+
+abbrev pub ordinal_of : List ℕ → List ℕ
+ordinal_of digits = without_zeros (ordinal_digits digits)
 
 -- the same of a number, whose sign counts nothing
 abbrev pub ordinal : List ℕ → List ℕ

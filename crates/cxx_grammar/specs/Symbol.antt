@@ -55,9 +55,10 @@ abbrev pub suffix_of : List ℕ → Option (List ℕ)
 suffix_of [] = None
 suffix_of (b ∷ bytes) = Some (b ∷ bytes)
 
--- <encoding> [. <vendor-specific suffix>]
-unfoldable pub parse_plain_symbol : Productions → Parses Reading
-parse_plain_symbol p = do
+-- <encoding> [. <vendor-specific suffix>], behind a prefix of n bytes
+abbrev pub parse_plain_symbol : Productions → ℕ → Parses Reading
+parse_plain_symbol p n = do
+  past n
   t ← p.encoding
   rest ← parse_rest
   pure (record { tree = t; is_block = false; suffix = suffix_of rest })
@@ -68,12 +69,20 @@ parse_block_number = do
   has_number ← optional "_"
   if has_number then parse_some_digits else parse_digits
 
--- <encoding> _block_invoke [<digit>+ | _ <digit>+] [. <vendor-specific suffix>]. The suffix isn't printed
-unfoldable pub parse_block_symbol : Productions → Parses Reading
-parse_block_symbol p = do
-  t ← p.encoding
+-- _block_invoke [<digit>+ | _ <digit>+]
+unfoldable pub parse_block_mark : Parses (Unit {0})
+parse_block_mark = do
   expect "_block_invoke"
   parse_block_number
+  pure tt
+
+-- <encoding> _block_invoke [<digit>+ | _ <digit>+] [. <vendor-specific suffix>], behind a prefix of n bytes. The suffix
+-- isn't printed
+abbrev pub parse_block_symbol : Productions → ℕ → Parses Reading
+parse_block_symbol p n = do
+  past n
+  t ← p.encoding
+  parse_block_mark
   parse_rest
   pure (record { tree = t; is_block = true; suffix = None })
 
@@ -82,10 +91,10 @@ parse_block_symbol p = do
 -- A further underscore may stand in front, and two more in front of the function of a block
 unfoldable pub parse_mangled_name : Productions → Parses Reading
 parse_mangled_name p =
-    if_next "_Z" (do past 2; parse_plain_symbol p)
-    (if_next "__Z" (do past 3; parse_plain_symbol p)
-    (if_next "___Z" (do past 4; parse_block_symbol p)
-    (if_next "____Z" (do past 5; parse_block_symbol p) refused)))
+    if_next "_Z" (parse_plain_symbol p 2)
+    (if_next "__Z" (parse_plain_symbol p 3)
+    (if_next "___Z" (parse_block_symbol p 4)
+    (if_next "____Z" (parse_block_symbol p 5) refused)))
 
 abbrev pub found_of : {A : Type 0} → Option (A × State) → Option A
 found_of None = None

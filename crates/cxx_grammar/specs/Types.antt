@@ -226,8 +226,9 @@ abbrev pub reference_to : Bool → Tree → Tree
 reference_to is_lvalue t = reference t is_lvalue
 
 abbrev pub suffixed_by : Bool → Tree → Tree
-suffixed_by true t = suffixed t (codes " complex") (codes " _Complex")
-suffixed_by false t = suffixed t (codes " imaginary") (codes " _Imaginary")
+suffixed_by is_complex t =
+    if is_complex then suffixed t (codes " complex") (codes " _Complex")
+    else suffixed t (codes " imaginary") (codes " _Imaginary")
 
 -- A type is saved when it was read, after all that stands inside of it; but no builtin type and no substitution is.
 unfoldable pub type_as : Productions → Bool → TypeCase → Parses Tree

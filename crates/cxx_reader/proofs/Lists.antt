@@ -17,11 +17,9 @@ use Rattle.cxx_tree.specs.declared.arena.Stop.TheVariants.{Unreadable, Memory}
 use Rattle.cxx_tree.specs.Stored.{Store, stands}
 use Rattle.cxx_grammar.specs.Productions.{Productions}
 use Rattle.cxx_grammar.specs.Names.{parse_next, parse_components}
-use Rattle.cxx_grammar.specs.Args.{parse_list}
 use Rattle.cxx_grammar.specs.declared.rows.End.TheVariants as end
 use Rattle.cxx_grammar.specs.declared.rows.Item.{Item}
-use Rattle.cxx_grammar.specs.declared.rows.Item.TheVariants as item
-use Rattle.cxx_grammar.specs.Rows.{Row, item_as, make_as, parse_items, parse_row, list_after}
+use Rattle.cxx_grammar.specs.Rows.{Row, item_as, make_as, parse_items, parse_row, list_after, parse_list}
 use Rattle.cxx_reader.specs.Outcome.{state, trees_behind, Keeps, Moves, KeepsFront, Gives, GivesList, GivesNamed, GivesFrom, list_trees}
 use Rattle.cxx_tree.proofs.Forest.{below-more, below-push, same-forest}
 use Rattle.cxx_reader.proofs.Kept.{map-stands, stands-same, IsNode-same}
@@ -79,9 +77,9 @@ pub record Pushed (item : Option (Tree × State)) (old after : Reader) (i : ℕ)
   pub parsed : item ≡ Some (stands after.arena i, state after)
 
 pub pushed : {item : Option (Tree × State)} (old mid after : Reader) (i : ℕ) → Keeps old mid → SameNodes mid.arena after.arena → after.arena.saved ≡ mid.arena.saved
-    → after.arena.pending ≡ mid.arena.pending ++ i ∷ [] → after.rest ≡ mid.rest → after.replaced ≡ mid.replaced
+    → after.arena.pending ≡ mid.arena.pending ++ i ∷ [] → after.rest ≡ mid.rest → after.replaced ≡ mid.replaced → after.level ≡ mid.level
     → IsNode mid.arena i × (item ≡ Some (stands mid.arena i, state mid)) → Pushed item old after i
-pushed old mid after i k st sv p r n g =
+pushed old mid after i k st sv p r n l g =
     let same = stands-same mid.arena after.arena i st in
     let trees = saved-same mid.arena after.arena (same-forest mid.arena after.arena st.nodes st.held) sv in
     let after-state : state mid ≡ state after = cc in
@@ -120,15 +118,15 @@ KeepsFront-after from (Err e) a b c k l = tt
 
 -- an item is read, and its node is collected
 pub collected : (r : Result (Unit {0}) Stop) (old mid after : Reader) (i from : ℕ) (item : Parses Tree) → IsOkUnless r Memory → Keeps old mid → SameNodes mid.arena after.arena → after.arena.saved ≡ mid.arena.saved
-    → OnOk r (after.arena.pending ≡ mid.arena.pending ++ i ∷ []) → after.rest ≡ mid.rest → after.replaced ≡ mid.replaced → IsNode mid.arena i × (item (state old) ≡ Some (stands mid.arena i, state mid))
+    → OnOk r (after.arena.pending ≡ mid.arena.pending ++ i ∷ []) → after.rest ≡ mid.rest → after.replaced ≡ mid.replaced → after.level ≡ mid.level → IsNode mid.arena i × (item (state old) ≡ Some (stands mid.arena i, state mid))
     → from ≤ length old.arena.pending → AllByRecursion (IsNode old.arena) (drop from old.arena.pending) → GivesFrom r from after (item_more item (trees_behind from old.arena) (state old))
-collected (Ok u) old mid after i from item m k st sv p r e g long below =
-    let one : Pushed (item (state old)) old after i = pushed old mid after i k st sv p r e g in (
+collected (Ok u) old mid after i from item m k st sv p r e v g long below =
+    let one : Pushed (item (state old)) old after i = pushed old mid after i k st sv p r e v g in (
       one-more-below old.arena after.arena from i one.grows below long one.pending one.node,
       rw one.parsed (ap (λ (ts : List Tree). Some (ts, state after)) (sym (one-more old.arena after.arena from i one.grows below long one.pending))),
     )
-collected (Err Unreadable) old mid after i from item m k st sv p r e g long below = absurd (let f = m in cc)
-collected (Err Memory) old mid after i from item m k st sv p r e g long below = tt
+collected (Err Unreadable) old mid after i from item m k st sv p r e v g long below = absurd (let f = m in cc)
+collected (Err Memory) old mid after i from item m k st sv p r e v g long below = tt
 
 -- an item isn't read
 pub item_stop : (e : Stop) (from : ℕ) (after : Reader) (item : Parses Tree) (trees : List Tree) (s : State) → Gives (Err e) after (item s) → GivesFrom (Err e) from after (item_more item trees s)
@@ -175,10 +173,10 @@ unfolding parse_row
 row_read p row s u trees e = rw e refl
 
 -- an argument isn't read
-pub list_stop : (e : Stop) (from : ℕ) (after : Reader) (p : Productions) (s : State) → GivesFrom (Err e) from after (list_after p item.Arg end.E [] (skip 1 s)) → GivesList (Err e) after (parse_list p s)
+pub list_stop : (e : Stop) (from : ℕ) (after : Reader) (p : Productions) (n : ℕ) (item : Item) (s : State) → GivesFrom (Err e) from after (list_after p item end.E [] (skip n s)) → GivesList (Err e) after (parse_list p n item s)
 unfolding parse_list
-list_stop Unreadable from after p s f = rw f refl
-list_stop Memory from after p s f = tt
+list_stop Unreadable from after p n item s f = rw f refl
+list_stop Memory from after p n item s f = tt
 
 -- a component isn't read
 pub components_stop : (e : Stop) (after : Reader) (p : Productions) (n : LearnedName) (s mid : State) (is_mark : Bool) {q : LearnedName} {u : State}
@@ -196,18 +194,18 @@ unfolding parse_components
 components_end p n s mid is_mark m l e = rw (m, steps_end l e, e) refl
 
 -- all arguments are read
-pub close_gives : (r : Result handle.List Stop) (after : Reader) (a : Store) (from : ℕ) (p : Productions) (s u : State)
-    → list_after p item.Arg end.E [] (skip 1 s) ≡ Some (trees_behind from a, u) → is_e u.rest ≡ true
+pub close_gives : (r : Result handle.List Stop) (after : Reader) (a : Store) (from : ℕ) (p : Productions) (n : ℕ) (item : Item) (s u : State)
+    → list_after p item end.E [] (skip n s) ≡ Some (trees_behind from a, u) → is_e u.rest ≡ true
     → IfOk r (λ l. list_at after.arena.held l ≡ drop from a.pending)
     → IfOk r (λ l. IsListBelow after.arena.held (size after.arena) l)
     → KeepsNodes a after.arena → AllByRecursion (IsNode a) (drop from a.pending)
-    → state after ≡ skip 1 u → IsOkUnless r Memory → GivesList r after (parse_list p s)
+    → state after ≡ skip 1 u → IsOkUnless r Memory → GivesList r after (parse_list p n item s)
 unfolding list_trees parse_list
-close_gives (Ok l) after a from p s u done e is below g all st m =
+close_gives (Ok l) after a from p n item s u done e is below g all st m =
     let trees : map (stands a) (drop from a.pending) ≡ map (stands after.arena) (list_at after.arena.held l) = sym (ap (map (stands after.arena)) is ∙ map-stands a after.arena g (drop from a.pending) all) in
     (below, rw (done, e) (ap (λ (ts : List Tree). Some (trees_from_list ts, skip 1 u)) trees ∙ ap (λ (v : State). Some (list_trees after.arena l, v)) (sym st)))
-close_gives (Err Unreadable) after a from p s u done e is below g all st m = absurd (let f = m in cc)
-close_gives (Err Memory) after a from p s u done e is below g all st m = tt
+close_gives (Err Unreadable) after a from p n item s u done e is below g all st m = absurd (let f = m in cc)
+close_gives (Err Memory) after a from p n item s u done e is below g all st m = tt
 
 begins_some : (bytes : List ℕ) → is_e bytes ≡ true → 0 < length bytes
 begins_some [] e = absurd (let f = e in cc)

@@ -1,5 +1,5 @@
 -- One level of the grammar.
-use Rattle.std.proofs.Common.{ℕ, ◌≡◌, ◌-◌, ◌<◌, refl, ap, zero, suc, arith, None}
+use Rattle.std.proofs.Common.{ℕ, ◌≡◌, ◌-◌, ◌<◌, refl, ap, zero, suc, arith, None, Bool}
 use Rattle.cxx_grammar.specs.State.{State}
 use Rattle.cxx_grammar.specs.Productions.{Productions}
 use Rattle.cxx_grammar.specs.Names.{parse_name}
@@ -19,11 +19,11 @@ name_opens d s h = ap (λ (p : Productions). p.name s) (one_level d h)
 pub arg_opens : (d : ℕ) (s : State) → 0 < d → (productions d).arg s ≡ parse_arg (productions (d - 1)) s
 arg_opens d s h = ap (λ (p : Productions). p.arg s) (one_level d h)
 
-pub type_opens : (d : ℕ) (s : State) → 0 < d → (productions d).type s ≡ parse_type (productions (d - 1)) s
-type_opens d s h = ap (λ (p : Productions). p.type s) (one_level d h)
+pub type_opens : (d : ℕ) (b : Bool) (s : State) → 0 < d → (productions d).type b s ≡ parse_type (productions (d - 1)) b s
+type_opens d b s h = ap (λ (p : Productions). p.type b s) (one_level d h)
 
-pub qualified_opens : (d : ℕ) (s : State) → 0 < d → (productions d).qualified_type s ≡ parse_qualified_type (productions (d - 1)) s
-qualified_opens d s h = ap (λ (p : Productions). p.qualified_type s) (one_level d h)
+pub qualified_opens : (d : ℕ) (b : Bool) (s : State) → 0 < d → (productions d).qualified_type b s ≡ parse_qualified_type (productions (d - 1)) b s
+qualified_opens d b s h = ap (λ (p : Productions). p.qualified_type b s) (one_level d h)
 
 pub encoding_opens : (d : ℕ) (s : State) → 0 < d → (productions d).encoding s ≡ parse_encoding (productions (d - 1)) s
 encoding_opens d s h = ap (λ (p : Productions). p.encoding s) (one_level d h)
@@ -36,13 +36,13 @@ pub no_arg : (s : State) → (productions 0).arg s ≡ None
 unfolding productions
 no_arg s = refl
 
-pub no_type : (s : State) → (productions 0).type s ≡ None
+pub no_type : (b : Bool) (s : State) → (productions 0).type b s ≡ None
 unfolding productions
-no_type s = refl
+no_type b s = refl
 
-pub no_qualified : (s : State) → (productions 0).qualified_type s ≡ None
+pub no_qualified : (b : Bool) (s : State) → (productions 0).qualified_type b s ≡ None
 unfolding productions
-no_qualified s = refl
+no_qualified b s = refl
 
 pub no_encoding : (s : State) → (productions 0).encoding s ≡ None
 unfolding productions

@@ -1,7 +1,7 @@
 -- Source names that are read together with their scope.
 use Rattle.std.proofs.Common.{ℕ, ◌≡◌, List, [], ◌∷◌, refl, ◌∙◌, arith, Option, Some, None, true, false, Bool}
 use Rattle.std.proofs.lemmas.Grind.{common_steps}
-use Rattle.std.specs.Prelude.{if◌then◌else◌, codes}
+use Rattle.std.specs.Prelude.{if◌then◌else◌, ◌||◌, codes}
 use Rattle.abi_scalars.specs.Bytes.{begins}
 use Rattle.abi_scalars.specs.Texts.{identifier, begins_source}
 use Rattle.abi_scalars.specs.Scalars.{source_text}
@@ -13,10 +13,11 @@ use Rattle.cxx_grammar.specs.declared.cases.ComponentCase.TheVariants as compone
 use Rattle.cxx_grammar.specs.State.{State, Info, LearnedName}
 use Rattle.cxx_grammar.specs.Parses.{Parses, ◌>>=◌, ◌>>◌, and_then, pure, given, with_rest, make, past_word_if}
 use Rattle.cxx_grammar.specs.Cases.{case_of_component, case_of_base}
-use Rattle.cxx_grammar.specs.Leaves.{parse_source_name}
-use Rattle.cxx_grammar.specs.Names.{Place, Part, parse_unqualified_name, part_as, base_as, make_in_scope, scoped_part}
+use Rattle.cxx_grammar.specs.Leaves.{parse_source_name, parse_abi_tag, parse_abi_tags, is_tags_end}
+use Rattle.cxx_grammar.specs.Names.{Place, Part, parse_unqualified_name, part_as, base_as, make_in_scope}
 use Rattle.cxx_grammar.specs.Productions.{Productions}
 use Rattle.cxx_reader.specs.Sources.{source_in, parse_source_at}
+use Rattle.cxx_reader.proofs.Turns.{steps_start, steps_end}
 
 no_mark : (s : State) → begins_source s.rest ≡ true → past_word_if (codes "L") s ≡ Some (false, s)
 unfolding past_word_if
@@ -36,22 +37,37 @@ source bytes e = rw e refl
 abbrev at : Option Tree → Bool → Info → Place
 at scope is_nested info = record { scope = scope; is_nested = is_nested; info = info }
 
+or_false : (b : Bool) → (b || false) ≡ b
+or_false true = refl
+or_false false = refl
+
+-- behind a name without tags
+no_tags : (t : Tree) (s : State) → begins (codes "B") s.rest ≡ false → parse_abi_tags t s ≡ Some (t, s)
+unfolding parse_abi_tags
+no_tags t s e = steps_end (steps_start is_tags_end parse_abi_tag t s) (rw e refl)
+
 source_at : (p : Productions) (scope : Option Tree) (is_nested : Bool) (info : Info) (s : State) → begins_source s.rest ≡ true
     → (o : Option (List ℕ × List ℕ)) → identifier s.rest ≡ o → parse_unqualified_name p (at scope is_nested info) s ≡ parse_source_at (at scope is_nested info) s
 unfolding parse_unqualified_name part_as base_as
-source_at p None is_nested info s e None f = rw (no_mark s e, unqualified s.rest e, source s.rest e, f) refl
-source_at p (Some scope) is_nested info s e None f = rw (no_mark s e, unqualified s.rest e, source s.rest e, f) refl
-source_at p None is_nested info s e (Some n) f = go (measure (named (source_text n.0))).fits refl
+source_at p scope is_nested info s e None f = rw (no_mark s e, unqualified s.rest e, source s.rest e, f) refl
+source_at p scope is_nested info s e (Some n) f = go (measure (named (source_text n.0))).fits (begins (codes "B") n.1) scope refl refl
   where
-    go : (fits : Bool) → (measure (named (source_text n.0))).fits ≡ fits → parse_unqualified_name p (at None is_nested info) s ≡ parse_source_at (at None is_nested info) s
-    go true g = rw (no_mark s e, unqualified s.rest e, source s.rest e, f, g) refl
-    go false g = rw (no_mark s e, unqualified s.rest e, source s.rest e, f, g) refl
-source_at p (Some scope) is_nested info s e (Some n) f = go (measure (named (source_text n.0))).fits refl
-  where
-    go : (fits : Bool) → (measure (named (source_text n.0))).fits ≡ fits
-        → parse_unqualified_name p (at (Some scope) is_nested info) s ≡ parse_source_at (at (Some scope) is_nested info) s
-    go true g = rw (no_mark s e, unqualified s.rest e, source s.rest e, f, g) refl
-    go false g = rw (no_mark s e, unqualified s.rest e, source s.rest e, f, g, name-limit scope (named (source_text n.0)) g) refl
+    after : State
+    after = with_rest n.1 s
+    named_by : Tree → Parses LearnedName
+    named_by t = pure (record { tree = t; info = info })
+    tagged_same : (scope : Option Tree) (o : Option (Tree × State))
+        → and_then o (λ tagged. make_in_scope scope tagged >>= named_by) ≡ and_then (and_then o (λ tagged. make_in_scope scope tagged)) named_by
+    tagged_same scope None = refl
+    tagged_same scope (Some t) = refl
+    go : (fits is_tagged : Bool) (scope : Option Tree) → (measure (named (source_text n.0))).fits ≡ fits → begins (codes "B") n.1 ≡ is_tagged
+        → parse_unqualified_name p (at scope is_nested info) s ≡ parse_source_at (at scope is_nested info) s
+    go true true scope g h = rw (no_mark s e, unqualified s.rest e, source s.rest e, f, g, h, or_false info.no_return) (tagged_same scope (parse_abi_tags (named (source_text n.0)) after))
+    go false true scope g h = rw (no_mark s e, unqualified s.rest e, source s.rest e, f, g, h) refl
+    go true false None g h = rw (no_mark s e, unqualified s.rest e, source s.rest e, f, g, h, no_tags (named (source_text n.0)) after h, or_false info.no_return) refl
+    go true false (Some scope) g h = rw (no_mark s e, unqualified s.rest e, source s.rest e, f, g, h, no_tags (named (source_text n.0)) after h, or_false info.no_return) refl
+    go false false None g h = rw (no_mark s e, unqualified s.rest e, source s.rest e, f, g, h) refl
+    go false false (Some scope) g h = rw (no_mark s e, unqualified s.rest e, source s.rest e, f, g, h, name-limit scope (named (source_text n.0)) g) refl
 
 -- an <unqualified-name> that is a source name
 pub source_named : (p : Productions) (place : Place) (s : State) → begins_source s.rest ≡ true → parse_unqualified_name p place s ≡ parse_source_at place s

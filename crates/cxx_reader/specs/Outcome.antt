@@ -4,26 +4,29 @@ use Rattle.std.specs.List.{AllByRecursion}
 use Rattle.std.specs.Borrow.{Bor}
 use Rattle.cxx_tree.specs.Texts.{number_printed}
 use Rattle.cxx_tree.specs.declared.node.List as handle
+use Rattle.cxx_tree.specs.declared.node.NodeText.{NodeText}
 use Rattle.cxx_tree.specs.declared.kinds.Cv.{Cv}
 use Rattle.cxx_tree.specs.declared.kinds.RefQual.{RefQual}
 use Rattle.cxx_tree.specs.declared.kinds.RefQual.TheVariants as refqual
 use Rattle.cxx_tree.specs.declared.arena.Stop.{Stop}
 use Rattle.cxx_tree.specs.declared.arena.Stop.TheVariants.{Unreadable, Memory}
 use Rattle.cxx_tree.specs.Tree.{Tree, Trees}
-use Rattle.cxx_tree.specs.Stored.{Store, IsListBelow, size, list_at, stands, saved_trees, trees_from_list}
+use Rattle.cxx_tree.specs.Stored.{Store, IsListBelow, IsText, size, list_at, stands, saved_trees, text_at, trees_from_list}
 use Rattle.cxx_tree.specs.Kept.{IsNode, KeepsNodes}
 use Rattle.cxx_grammar.specs.State as grammar
 use Rattle.cxx_grammar.specs.Names as names
 use Rattle.cxx_grammar.specs.Bases.{args_of}
+use Rattle.cxx_grammar.specs.Symbol as symbols
 use Rattle.cxx_reader.specs.declared.names.Part.{Part}
 use Rattle.cxx_reader.specs.declared.names.Place.{Place}
 use Rattle.cxx_reader.specs.declared.reader.Info.{Info}
 use Rattle.cxx_reader.specs.declared.reader.LearnedName.{LearnedName}
 use Rattle.cxx_reader.specs.declared.reader.Reader.{Reader}
+use Rattle.cxx_reader.specs.declared.symbols.Reading.{Reading}
 
 -- the parser's state that a reader stands for
 abbrev pub state : Reader → grammar.State
-state r = record { rest = r.rest.now; saved = saved_trees r.arena; replaced = r.replaced }
+state r = record { rest = r.rest.now; saved = saved_trees r.arena; replaced = r.replaced; level = r.level }
 
 -- a call kept what was there: the nodes, and those that are collected. It read no byte again
 pub record Keeps (old new : Reader) : Type 0 where
@@ -75,6 +78,23 @@ trees_behind from a = map (stands a) (drop from a.pending)
 abbrev pub GivesFrom : Result (Unit {0}) Stop → ℕ → Reader → Option (List Tree × grammar.State) → Type 0
 GivesFrom r from after parsed =
     GivesAs (λ a u. AllByRecursion (IsNode a) (drop from a.pending)) (λ a u. trees_behind from a) r after parsed
+
+-- a list or none
+abbrev pub GivesOptionList : Result (Option handle.List) Stop → Reader → Option (Option Trees × grammar.State) → Type 0
+GivesOptionList r after parsed =
+    GivesAs (λ a o. IfSome o (IsListBelow a.held (size a))) (λ a o. option_map (list_trees a) o) r after parsed
+
+-- bytes that were read
+abbrev pub GivesText : Result (Bor (List ℕ)) Stop → Reader → Option (List ℕ × grammar.State) → Type 0
+GivesText (Ok bytes) after parsed = parsed ≡ Some (bytes.now, state after)
+GivesText (Err Unreadable) after parsed = parsed ≡ None
+GivesText (Err Memory) after parsed = ⊥
+
+-- bytes that are copied
+abbrev pub Copies : Result NodeText Stop → Store → List ℕ → Type 0
+Copies (Ok t) a bytes = IsText a.held t × (text_at a.held t ≡ bytes)
+Copies (Err Unreadable) a bytes = ⊥
+Copies (Err Memory) a bytes = Unit {0}
 
 -- a number as it is written, of which the parser gives what is printed
 abbrev pub GivesNumber : Result (Bor (List ℕ)) Stop → Reader → Option (List ℕ × grammar.State) → Type 0
@@ -138,3 +158,24 @@ IsPart a p = IsNode a p.node × IfSome p.scope (IsNode a) × IsInfo a p.info
 
 abbrev pub GivesPart : Result Part Stop → Reader → Option (names.Part × grammar.State) → Type 0
 GivesPart r after parsed = GivesAs IsPart part_at r after parsed
+
+-- Symbols.
+
+unfoldable pub reading_at : Store → Reading → symbols.Reading
+reading_at a r = record {
+  tree = stands a r.tree;
+  is_block = r.is_block;
+  suffix = option_map (text_at a.held) r.suffix;
+}
+
+abbrev pub IsReading : Store → Reading → Type 0
+IsReading a r = IsNode a r.tree × IfSome r.suffix (IsText a.held)
+
+abbrev pub GivesReading : Result Reading Stop → Reader → Option (symbols.Reading × grammar.State) → Type 0
+GivesReading r after parsed = GivesAs IsReading reading_at r after parsed
+
+-- the suffix of a symbol that is copied, if there is one
+abbrev pub CopiesSuffix : Result (Option NodeText) Stop → Store → Option (List ℕ) → Type 0
+CopiesSuffix (Ok t) a suffix = IfSome t (IsText a.held) × (option_map (text_at a.held) t ≡ suffix)
+CopiesSuffix (Err Unreadable) a suffix = ⊥
+CopiesSuffix (Err Memory) a suffix = Unit {0}

@@ -1,5 +1,5 @@
 //! What a name is asked for: the name of its constructors, and its arguments.
-#![tactic(auto, unfolding(cxx_tree::specs::Stored::tree_of, cxx_tree::specs::Stored::plain_tree, cxx_tree::specs::Stored::declaration_tree, cxx_tree::specs::Stored::IsBelow, cxx_tree::specs::Stored::IsPlainBelow, cxx_grammar::specs::Bases::base_name, cxx_grammar::specs::Bases::args_of, cxx_grammar::specs::Bases::is_with_args, cxx_grammar::specs::Bases::is_param, cxx_grammar::specs::Bases::expand))]
+#![tactic(auto, unfolding(cxx_tree::specs::Stored::tree_of, cxx_tree::specs::Stored::plain_tree, cxx_tree::specs::Stored::declaration_tree, cxx_tree::specs::Stored::IsBelow, cxx_tree::specs::Stored::IsPlainBelow, cxx_grammar::specs::Bases::base_name, cxx_grammar::specs::Bases::args_of, cxx_grammar::specs::Bases::is_with_args, cxx_grammar::specs::Bases::is_param, cxx_grammar::specs::Bases::is_param_class, cxx_grammar::specs::Bases::expand))]
 
 ghost use Rattle.std.specs.Prelude.{◌≡◌, ℕ, ◌<◌, option_map, true, IfSome, MatchOption};
 ghost use Rattle.cxx_tree.specs.Tree.{std_name};

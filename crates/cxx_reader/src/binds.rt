@@ -1,5 +1,5 @@
 //! What becomes of the template parameters of an encoding.
-#![tactic(auto, using(crate::proofs::Rules::productions), unfolding(cxx_tree::specs::Grows::Makes, cxx_tree::specs::Stored::stands, cxx_tree::specs::Stored::saved_trees, cxx_grammar::specs::Binds::parse_closed, cxx_grammar::specs::Binds::bind_encoding, crate::specs::Outcome::named_at, crate::specs::Outcome::list_trees, cxx_tree::specs::Counts::Row))]
+#![tactic(auto, using(crate::proofs::Rules::productions), unfolding(cxx_tree::specs::Grows::Makes, cxx_tree::specs::Stored::stands, cxx_tree::specs::Stored::saved_trees, cxx_grammar::specs::Binds::parse_closed, cxx_grammar::specs::Binds::bind_encoding, cxx_grammar::specs::Binds::bind_closure, crate::specs::Outcome::named_at, crate::specs::Outcome::list_trees, cxx_tree::specs::Counts::Row))]
 
 ghost use Rattle.std.specs.Prelude.{◌≡◌, ℕ, ◌+◌, ◌*◌, ◌<◌, ◌≤◌, [], length, map, drop, take, OnOk, IfSome, option_map, Option, true};
 ghost use Rattle.cxx_tree.specs.Kept.{KeepsNodes, IsNode};

@@ -1,8 +1,9 @@
 //! Which case the next bytes select.
 #![tactic(auto, unfolding(cxx_grammar::specs::Words::builtin_of, cxx_grammar::specs::Words::integer_of))]
 
-ghost use Rattle.std.specs.Prelude.{◌≡◌, [], ◌∷◌};
-ghost use Rattle.abi_scalars.specs.Bytes.{begins, begins_digit};
+ghost use Rattle.std.specs.Prelude.{◌≡◌, [], ◌∷◌, codes, if◌then◌else◌};
+ghost use Rattle.abi_scalars.specs.Bytes.{begins, begins_digit, letter, past_letter};
+ghost use Rattle.cxx_grammar.specs.declared.cases.TypeCase.TheVariants as type_case;
 ghost use Rattle.cxx_grammar.specs.Cases as spec;
 
 use crate::words::{builtin_of, integer_of};
@@ -38,6 +39,16 @@ pub fn begins_digit(bytes: &[u8]) -> bool
 {
     match bytes {
         [b'0'..=b'9', ..] => true,
+        _ => false,
+    }
+}
+
+/// Returns whether the digits and the letter of `std::bfloat16_t` are next.
+pub fn begins_brain(bytes: &[u8]) -> bool
+    ensures value { result ≡ begins (codes "16b") bytes.now }
+{
+    match bytes {
+        [b'1', b'6', b'b', ..] => true,
         _ => false,
     }
 }
@@ -135,8 +146,7 @@ pub fn type_case(bytes: &[u8]) -> TypeCase
         [b'U', ..] => TypeCase::Qualified,
         [b'u', ..] => TypeCase::Vendor,
         [b'F', ..] => TypeCase::Function,
-        [b'D', letter, ..] => d_case(*letter),
-        [b'D'] => TypeCase::Builtin,
+        [b'D', rest @ ..] => d_case(rest),
         [b'A', ..] => TypeCase::Array,
         [b'T', b's' | b'u' | b'e', ..] => TypeCase::SavedRow,
         [b'T', ..] => TypeCase::Param,
@@ -159,7 +169,8 @@ pub fn type_case(bytes: &[u8]) -> TypeCase
 // The case of a type that begins with a qualifier: it may be a function's.
 #[inline(never)]
 fn qualified_case(bytes: &[u8]) -> TypeCase
-    ensures value { result ≡ (if spec.begins_function (spec.past_qualifiers bytes.now) then function else qualified) }
+    ensures value { result ≡ (if spec.begins_function (spec.past_qualifiers bytes.now) then type_case.Function
+        else type_case.Qualified) }
 {
     match past_letter(past_letter(past_letter(bytes, b'r'), b'V'), b'K') {
         [b'F', ..] | [b'D', b'o' | b'w' | b'x', ..] => TypeCase::Function,
@@ -177,15 +188,16 @@ fn past_letter(bytes: &[u8], letter: u8) -> &[u8]
     }
 }
 
-// The case of a type that begins with `D`, by the letter behind it.
-fn d_case(letter: u8) -> TypeCase
+// The case of a type that begins with `D`, by what is behind it.
+fn d_case(bytes: &[u8]) -> TypeCase
+    ensures value { result ≡ spec.case_of_type (letter "D" ∷ bytes.now) }
 {
-    match letter {
-        b'o' | b'w' | b'x' => TypeCase::Function,
-        b'v' => TypeCase::Vector,
-        b'p' => TypeCase::Expansion,
-        b'F' => TypeCase::Float,
-        b'B' | b'U' => TypeCase::Row,
+    match bytes {
+        [b'o' | b'w' | b'x', ..] => TypeCase::Function,
+        [b'v', ..] => TypeCase::Vector,
+        [b'p', ..] => TypeCase::Expansion,
+        [b'F', ..] => TypeCase::Float,
+        [b'B' | b'U', ..] => TypeCase::Row,
         _ => TypeCase::Builtin,
     }
 }

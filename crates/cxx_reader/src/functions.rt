@@ -1,18 +1,19 @@
-//! What of a function type holds no type.
-#![tactic(auto, using(crate::proofs::Kept::readers), unfolding(cxx_tree::specs::Stored::stands, cxx_tree::specs::Grows::Makes, cxx_grammar::specs::Parses::past_word_if, cxx_grammar::specs::Types::parse_function_mark, cxx_grammar::specs::Types::parse_dimension, cxx_grammar::specs::Leaves::parse_size, cxx_grammar::specs::Leaves::parse_float_type))]
+//! What of types holds no type.
+#![tactic(auto, using(crate::proofs::Kept::readers), unfolding(cxx_tree::specs::Stored::stands, cxx_tree::specs::Stored::tree_of, cxx_tree::specs::Stored::plain_tree, cxx_tree::specs::Stored::IsBelow, cxx_tree::specs::Stored::IsPlainBelow, cxx_tree::specs::Grows::Makes, cxx_grammar::specs::Parses::past_word_if, cxx_grammar::specs::Types::parse_function_mark, cxx_grammar::specs::Types::parse_dimension, cxx_grammar::specs::Leaves::parse_size, cxx_grammar::specs::Leaves::parse_float_type))]
 
 ghost use Rattle.std.specs.Prelude.{◌≡◌, ℕ, ◌<◌, ◌≤◌, ◌++◌, codes, length, take, OnOk, IfSome, Some, option_map};
 ghost use Rattle.cxx_tree.specs.Stored.{stands};
 ghost use Rattle.cxx_tree.specs.Kept.{KeepsNodes, IsNode};
 ghost use Rattle.cxx_grammar.specs.Leaves as leaves;
+ghost use Rattle.cxx_grammar.specs.Parses.{make};
 ghost use Rattle.cxx_grammar.specs.Types as spec;
 ghost use Rattle.cxx_reader.specs.Outcome.{state, trees_behind, Keeps, Moves, Gives, GivesOption, GivesText, GivesUnit};
 
-use crate::cases::begins_digit;
+use crate::cases::{begins_brain, begins_digit};
 use crate::reader::Reader;
 use abi_scalars::numerals::Radix;
 use abi_scalars::texts::digits;
-use cxx_tree::{Cv, Node, Plain, Stop};
+use cxx_tree::{Cv, Node, NodeText, Plain, Stop};
 
 impl<'a> Reader<'a> {
     /// Reads `Do`.
@@ -116,7 +117,7 @@ impl<'a> Reader<'a> {
         ensures moves { OnOk result (Moves self.old self.new) }
     {
         self.skip(2);
-        if let [b'1', b'6', b'b', ..] = self.rest {
+        if begins_brain(self.rest) {
             self.skip(3);
             return self.arena.make_fixed(b"std::bfloat16_t");
         }
@@ -133,11 +134,28 @@ impl<'a> Reader<'a> {
         ensures reads { Gives result self.new (leaves.make_name (codes "_Float" ++ (number.now ++ behind.now))
             (state self.old)) }
         ensures keeps { OnOk result (Keeps self.old self.new) }
-        ensures rest { self.new.rest.now ≡ self.old.rest.now }
+        ensures rest { OnOk result (self.new.rest.now ≡ self.old.rest.now) }
     {
         match self.arena.joined_text(b"_Float", number, behind) {
             Ok(name) => self.make(Node::Plain(Plain::Name(name))),
             Err(_) => Err(Stop::Memory),
         }
+    }
+
+    /// Makes a complex or an imaginary type.
+    pub fn make_suffixed(&mut self, t: u32, is_complex: bool) -> Result<u32, Stop>
+        requires t { IsNode self.old.arena t }
+        ensures reads { Gives result self.new (make (spec.suffixed_by is_complex (stands self.old.arena t))
+            (state self.old)) }
+        ensures keeps { OnOk result (Keeps self.old self.new) }
+        ensures rest { OnOk result (self.new.rest.now ≡ self.old.rest.now) }
+    {
+        if is_complex {
+            return self
+                .arena
+                .make_suffixed(t, NodeText::Fixed(b" complex"), NodeText::Fixed(b" _Complex"));
+        }
+        self.arena
+            .make_suffixed(t, NodeText::Fixed(b" imaginary"), NodeText::Fixed(b" _Imaginary"))
     }
 }

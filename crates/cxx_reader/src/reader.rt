@@ -10,7 +10,7 @@ ghost use Rattle.cxx_grammar.specs.Leaves as leaves;
 ghost use Rattle.cxx_grammar.specs.Names as names;
 ghost use Rattle.cxx_grammar.specs.Words as words;
 ghost use Rattle.cxx_reader.specs.Sources as sources;
-ghost use Rattle.cxx_reader.specs.Outcome.{state, Keeps, Moves, Gives};
+ghost use Rattle.cxx_reader.specs.Outcome.{state, Keeps, Moves, Gives, GivesText, Copies};
 
 use crate::cases::begins;
 use crate::words::{builtin_of, d_builtin_of, operator_of};
@@ -243,7 +243,7 @@ impl<'a> Reader<'a> {
 
     /// Copies a text.
     pub fn text(&mut self, bytes: &[u8]) -> Result<NodeText, Stop>
-        ensures text { OnText result self.new.arena bytes.now }
+        ensures text { Copies result self.new.arena bytes.now }
         ensures keeps { Keeps self.old self.new }
         ensures state { state self.new ≡ state self.old }
     {

@@ -1,4 +1,11 @@
 //! Symbols (Itanium C++ ABI 5.1.1).
+#![tactic(auto, using(crate::proofs::Kept::readers), unfolding(cxx_tree::specs::Stored::stands, crate::specs::Outcome::reading_at, cxx_grammar::specs::Parses::past_word_if, cxx_grammar::specs::Symbol::parse_mangled_name, cxx_grammar::specs::Symbol::parse_block_mark, cxx_grammar::specs::Symbol::parse_closed_type))]
+
+ghost use Rattle.std.specs.Prelude.{◌≡◌, ℕ, ◌≤◌, length, OnOk};
+ghost use Rattle.cxx_grammar.specs.Symbol as spec;
+ghost use Rattle.cxx_grammar.specs.Symbol.{productions};
+ghost use Rattle.cxx_reader.specs.Outcome.{state, Keeps, Gives, GivesReading, GivesText, GivesUnit, CopiesSuffix};
+
 use crate::cases::begins;
 use crate::encodings::read_encoding;
 use crate::reader::Reader;
@@ -19,6 +26,7 @@ pub struct Reading {
 /// Reads `<mangled-name> ::= _Z <encoding> [. <vendor-specific suffix>]`, which is all of the bytes. At most `depth`
 /// counted productions may nest.
 pub fn read_symbol(reader: &mut Reader, depth: usize) -> Result<Reading, Stop>
+    ensures reads { GivesReading result reader.new (spec.parse_mangled_name (productions depth) (state reader.old)) }
 {
     match reader.rest {
         [b'_', b'Z', ..] => read_plain_symbol(reader, depth, 2),
@@ -31,6 +39,8 @@ pub fn read_symbol(reader: &mut Reader, depth: usize) -> Result<Reading, Stop>
 
 // Reads `<encoding> [. <vendor-specific suffix>]`, behind a prefix of n bytes.
 fn read_plain_symbol(reader: &mut Reader, depth: usize, n: usize) -> Result<Reading, Stop>
+    ensures reads { GivesReading result reader.new (spec.parse_plain_symbol (productions depth) n
+        (state reader.old)) }
 {
     reader.skip(n);
     let tree = tri!(read_encoding(reader, depth));
@@ -45,6 +55,8 @@ fn read_plain_symbol(reader: &mut Reader, depth: usize, n: usize) -> Result<Read
 
 // Reads `<encoding> _block_invoke [<digit>+ | _ <digit>+] [. <vendor-specific suffix>]`, behind a prefix of n bytes.
 fn read_block_symbol(reader: &mut Reader, depth: usize, n: usize) -> Result<Reading, Stop>
+    ensures reads { GivesReading result reader.new (spec.parse_block_symbol (productions depth) n
+        (state reader.old)) }
 {
     reader.skip(n);
     let tree = tri!(read_encoding(reader, depth));
@@ -60,6 +72,7 @@ fn read_block_symbol(reader: &mut Reader, depth: usize, n: usize) -> Result<Read
 /// Reads `<type>`, which is all of the bytes and has no template parameter. At most `depth` counted productions may
 /// nest.
 pub fn read_type_alone(reader: &mut Reader, depth: usize) -> Result<u32, Stop>
+    ensures reads { Gives result reader.new (spec.parse_closed_type (productions depth) (state reader.old)) }
 {
     let t = tri!(read_type(reader, depth, false));
     if !reader.rest.is_empty() {
@@ -71,6 +84,8 @@ pub fn read_type_alone(reader: &mut Reader, depth: usize) -> Result<u32, Stop>
 impl<'a> Reader<'a> {
     // Reads all bytes that are left: none, or a dot and others.
     fn read_rest(&mut self) -> Result<&'a [u8], Stop>
+        ensures reads { GivesText result self.new (spec.parse_rest (state self.old)) }
+        ensures arena { self.new.arena ≡ self.old.arena }
     {
         let rest = self.rest;
         if !rest.is_empty() && !begins(rest, b'.') {
@@ -82,6 +97,9 @@ impl<'a> Reader<'a> {
 
     // Makes the text of a suffix, if there is one.
     fn make_suffix(&mut self, rest: &[u8]) -> Result<Option<NodeText>, Stop>
+        ensures suffix { CopiesSuffix result self.new.arena (spec.suffix_of rest.now) }
+        ensures keeps { Keeps self.old self.new }
+        ensures state { state self.new ≡ state self.old }
     {
         if rest.is_empty() {
             return Ok(None);
@@ -92,11 +110,13 @@ impl<'a> Reader<'a> {
 
     // Skips `_block_invoke [<digit>+ | _ <digit>+]`.
     fn skip_block_mark(&mut self) -> Result<(), Stop>
+        ensures reads { GivesUnit result self.new (spec.parse_block_mark (state self.old)) }
+        ensures arena { self.new.arena ≡ self.old.arena }
     {
-        if !self.rest.starts_with(b"_block_invoke") {
-            return Err(Stop::Unreadable);
+        match self.rest {
+            [b'_', b'b', b'l', b'o', b'c', b'k', b'_', b'i', b'n', b'v', b'o', b'k', b'e', ..] => self.skip(13),
+            _ => return Err(Stop::Unreadable),
         }
-        self.skip(b"_block_invoke".len());
         if self.skip_letter(b'_') {
             tri!(self.read_some_digits());
             return Ok(());

@@ -10,7 +10,7 @@ ghost use Rattle.std.specs.Prelude.{◌≡◌, ℕ, ◌<◌, ◌≤◌, length, 
 ghost use Rattle.cxx_tree.specs.Tree.{expansion, pointer};
 ghost use Rattle.cxx_tree.specs.Stored.{forest, size, stands};
 ghost use Rattle.cxx_tree.specs.Kept.{IsNode};
-ghost use Rattle.cxx_grammar.specs.Parses.{make, saved};
+ghost use Rattle.cxx_grammar.specs.Parses.{saved};
 ghost use Rattle.cxx_grammar.specs.Productions.{name_tree};
 ghost use Rattle.cxx_grammar.specs.Rows.{type_row_of, parse_row_of};
 ghost use Rattle.cxx_grammar.specs.Types as spec;
@@ -27,7 +27,7 @@ use crate::specials::type_row;
 use crate::vendors::{read_vendor_qualified, read_vendor_type};
 use cxx_grammar::cases::TypeCase;
 use cxx_grammar::rows::Item;
-use cxx_tree::{Node, NodeText, Plain, Stop};
+use cxx_tree::{Node, Plain, Stop};
 
 /// Reads `<type>`. At most `depth` counted productions may nest, this one included.
 #[cycle(reader)]
@@ -239,23 +239,4 @@ fn read_class(reader: &mut Reader, depth: usize) -> Result<u32, Stop>
     let name = tri!(read_name_tree(reader, depth));
     tri!(reader.arena.save(name));
     Ok(name)
-}
-
-impl<'a> Reader<'a> {
-    // Makes a complex or an imaginary type.
-    fn make_suffixed(&mut self, t: u32, is_complex: bool) -> Result<u32, Stop>
-        requires t { IsNode self.old.arena t }
-        ensures reads { Gives result self.new (make (spec.suffixed_by is_complex (stands self.old.arena t))
-            (state self.old)) }
-        ensures keeps { OnOk result (Keeps self.old self.new) }
-        ensures rest { self.new.rest.now ≡ self.old.rest.now }
-    {
-        if is_complex {
-            return self
-                .arena
-                .make_suffixed(t, NodeText::Fixed(b" complex"), NodeText::Fixed(b" _Complex"));
-        }
-        self.arena
-            .make_suffixed(t, NodeText::Fixed(b" imaginary"), NodeText::Fixed(b" _Imaginary"))
-    }
 }

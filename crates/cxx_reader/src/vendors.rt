@@ -1,11 +1,15 @@
 //! Types and qualifiers of vendors (Itanium C++ ABI 5.1.5).
 #![tactic(auto, using(crate::proofs::Rules::productions), unfolding(cxx_tree::specs::Grows::Makes, cxx_tree::specs::Stored::tree_of, cxx_tree::specs::Stored::plain_tree, cxx_tree::specs::Stored::IsBelow, cxx_tree::specs::Stored::IsPlainBelow, cxx_tree::specs::Stored::stands, crate::specs::Outcome::list_trees))]
 
-ghost use Rattle.std.specs.Prelude.{◌≡◌, ℕ, ◌<◌, ◌≤◌, length, OnOk};
-ghost use Rattle.cxx_grammar.specs.Parses.{saved};
+ghost use Rattle.std.specs.Prelude.{◌≡◌, ℕ, ◌<◌, ◌≤◌, length, OnOk, IfSome, option_map};
+ghost use Rattle.cxx_tree.specs.Kept.{IsNode};
+ghost use Rattle.cxx_tree.specs.Phrases.{vendor_qualified};
+ghost use Rattle.cxx_tree.specs.Stored.{size, stands, IsListBelow};
+ghost use Rattle.cxx_tree.specs.Tree.{objc_protocol};
+ghost use Rattle.cxx_grammar.specs.Parses.{make, saved};
 ghost use Rattle.cxx_grammar.specs.Types as spec;
 ghost use Rattle.cxx_grammar.specs.Symbol.{productions};
-ghost use Rattle.cxx_reader.specs.Outcome.{state, Keeps, Moves, Gives, GivesOptionList};
+ghost use Rattle.cxx_reader.specs.Outcome.{state, list_trees, Keeps, Moves, Gives, GivesOptionList};
 
 use crate::args::read_args;
 use crate::cases::begins;
@@ -133,6 +137,12 @@ impl<'a> Reader<'a> {
         qualifier: &[u8],
         args: Option<List>,
     ) -> Result<u32, Stop>
+        requires t { IsNode self.old.arena t }
+        requires args { IfSome args (IsListBelow self.old.arena.held (size self.old.arena)) }
+        ensures reads { Gives result self.new (make (vendor_qualified (stands self.old.arena t) qualifier.now
+            (option_map (list_trees self.old.arena) args)) (state self.old)) }
+        ensures keeps { OnOk result (Keeps self.old self.new) }
+        ensures rest { OnOk result (self.new.rest.now ≡ self.old.rest.now) }
     {
         let qualifier = tri!(self.text(qualifier));
         self.arena.make_vendor_qualified(t, qualifier, args)
@@ -140,6 +150,11 @@ impl<'a> Reader<'a> {
 
     // Makes a type with an Objective-C protocol.
     fn make_objc(&mut self, t: u32, protocol: &[u8]) -> Result<u32, Stop>
+        requires t { IsNode self.old.arena t }
+        ensures reads { Gives result self.new (make (objc_protocol (stands self.old.arena t) protocol.now)
+            (state self.old)) }
+        ensures keeps { OnOk result (Keeps self.old self.new) }
+        ensures rest { OnOk result (self.new.rest.now ≡ self.old.rest.now) }
     {
         let protocol = tri!(self.text(protocol));
         self.make(Node::Plain(Plain::ObjcProtocol(t, protocol)))

@@ -6,11 +6,11 @@ use Rattle.cxx_tree.specs.Stored.{Store, stands}
 use Rattle.cxx_tree.proofs.Grown.{nodes-taken, saved-taken}
 use Rattle.cxx_grammar.specs.State.{State, LearnedName}
 use Rattle.cxx_grammar.specs.Binds.{bind_encoding}
-use Rattle.cxx_grammar.specs.Encodings.{parse_some_params, parse_named_encoding}
+use Rattle.cxx_grammar.specs.Encodings.{parse_named_encoding}
 use Rattle.cxx_grammar.specs.declared.rows.End.TheVariants as end
 use Rattle.cxx_grammar.specs.declared.rows.Item.TheVariants as item
 use Rattle.cxx_grammar.specs.Parses.{skip, item_more, is_e, repeat}
-use Rattle.cxx_grammar.specs.Rows.{ends, tree_as, item_as, parse_items, list_after}
+use Rattle.cxx_grammar.specs.Rows.{ends, tree_as, item_as, parse_items, list_after, parse_some_params}
 use Rattle.cxx_grammar.specs.Names.{parse_next, parse_components}
 use Rattle.cxx_grammar.specs.Symbol.{productions}
 use Rattle.cxx_reader.specs.declared.reader.Reader.{Reader}
@@ -30,8 +30,8 @@ pub rows::collect-returns-clause-reads : goal.rows::collect-returns-clause-reads
 rows::collect-returns-clause-reads t c =
     let mid = c.read_tree.new.reader in
     let read = c.in-Ok.ensures {u = tt} in
-    let after : Reader = record { rest = mid.rest; arena = c.add.new.self; replaced = mid.replaced; alloc = mid.alloc } in
-    collected c.add.result c.args.reader.now mid after c.in-Ok.value c.args.from (tree_as (productions c.args.depth) c.args.item) c.add.ensures.memory read.moves.keeps c.add.ensures.same c.add.ensures.saved c.add.ensures.pending refl refl read.reads
+    let after : Reader = record { rest = mid.rest; arena = c.add.new.self; replaced = mid.replaced; level = mid.level; alloc = mid.alloc } in
+    collected c.add.result c.args.reader.now mid after c.in-Ok.value c.args.from (tree_as (productions c.args.depth) c.args.item) c.add.ensures.memory read.moves.keeps c.add.ensures.same c.add.ensures.saved c.add.ensures.pending refl refl refl read.reads
     c.requires.within c.requires.nodes
 
 pub rows::read_items-returns-in-Err-clause-reads : goal.rows::read_items-returns-in-Err-clause-reads
@@ -93,42 +93,42 @@ rows::read_row-returns-clause-reads t c =
     (none-yet c.skip.new.self.arena from c.pending_len-from.ensures.value) (c.in-Ok.ensures {u = tt}).reads.1) in
     subst (Gives c.make_row.result c.make_row.new.self) (sym (row_read p row (state c.args.reader.now) (state mid) (trees_behind from mid.arena) parsed)) c.make_row.ensures.reads
 
-pub args::read_list-returns-in-Err-clause-reads : goal.args::read_list-returns-in-Err-clause-reads
-args::read_list-returns-in-Err-clause-reads t c =
+pub rows::read_list-returns-in-Err-clause-reads : goal.rows::read_list-returns-in-Err-clause-reads
+rows::read_list-returns-in-Err-clause-reads t c =
     let p = productions c.args.depth in
     let after = c.read_items.new.reader in
     let from = c.pending_len-from.result in
-    list_stop c.in-Err.error from after p (state c.args.reader.now)
-    (subst (λ (u : State). GivesFrom (Err c.in-Err.error) from after (list_after p item.Arg end.E [] u)) c.skip.ensures.state
-    (subst (λ (ts : List Tree). GivesFrom (Err c.in-Err.error) from after (list_after p item.Arg end.E ts (state c.skip.new.self)))
+    list_stop c.in-Err.error from after p c.args.n c.args.item (state c.args.reader.now)
+    (subst (λ (u : State). GivesFrom (Err c.in-Err.error) from after (list_after p c.args.item end.E [] u)) c.skip.ensures.state
+    (subst (λ (ts : List Tree). GivesFrom (Err c.in-Err.error) from after (list_after p c.args.item end.E ts (state c.skip.new.self)))
     (none-yet c.skip.new.self.arena from c.pending_len-from.ensures.value) (c.in-Err.ensures {u = tt}).reads))
 
-pub args::read_list-returns-clause-reads : goal.args::read_list-returns-clause-reads
+pub rows::read_list-returns-clause-reads : goal.rows::read_list-returns-clause-reads
 unfolding ends
-args::read_list-returns-clause-reads t c =
+rows::read_list-returns-clause-reads t c =
     let p = productions c.args.depth in
     let mid = c.read_items.new.reader in
     let r = c.skip-2.new.self in
     let read = c.in-Ok.ensures {u = tt} in
     let from = c.pending_len-from.result in
     let back = sym c.skip-2.ensures.arena in
-    let after : Reader = record { rest = r.rest; arena = c.list_from.new.self; replaced = r.replaced; alloc = r.alloc } in
-    let parsed : list_after p item.Arg end.E [] (skip 1 (state c.args.reader.now)) ≡ Some (trees_behind from r.arena, state mid) =
-    subst (λ (u : State). list_after p item.Arg end.E [] u ≡ Some (trees_behind from r.arena, state mid)) c.skip.ensures.state
-    (subst (λ (ts : List Tree). list_after p item.Arg end.E ts (state c.skip.new.self) ≡ Some (trees_behind from r.arena, state mid)) (none-yet c.skip.new.self.arena from c.pending_len-from.ensures.value)
-    (subst (λ (x : Store). list_after p item.Arg end.E (trees_behind from c.skip.new.self.arena) (state c.skip.new.self) ≡ Some (trees_behind from x, state mid)) back read.reads.1)) in
-    close_gives c.list_from.result after r.arena from p (state c.args.reader.now) (state mid) parsed read.end c.list_from.ensures.list c.list_from.ensures.below (nodes-taken from r.arena c.list_from.new.self c.list_from.ensures.grows)
+    let after : Reader = record { rest = r.rest; arena = c.list_from.new.self; replaced = r.replaced; level = r.level; alloc = r.alloc } in
+    let parsed : list_after p c.args.item end.E [] (skip c.args.n (state c.args.reader.now)) ≡ Some (trees_behind from r.arena, state mid) =
+    subst (λ (u : State). list_after p c.args.item end.E [] u ≡ Some (trees_behind from r.arena, state mid)) c.skip.ensures.state
+    (subst (λ (ts : List Tree). list_after p c.args.item end.E ts (state c.skip.new.self) ≡ Some (trees_behind from r.arena, state mid)) (none-yet c.skip.new.self.arena from c.pending_len-from.ensures.value)
+    (subst (λ (x : Store). list_after p c.args.item end.E (trees_behind from c.skip.new.self.arena) (state c.skip.new.self) ≡ Some (trees_behind from x, state mid)) back read.reads.1)) in
+    close_gives c.list_from.result after r.arena from p c.args.n c.args.item (state c.args.reader.now) (state mid) parsed read.end c.list_from.ensures.list c.list_from.ensures.below (nodes-taken from r.arena c.list_from.new.self c.list_from.ensures.grows)
     (subst (λ (x : Store). AllByRecursion (IsNode x) (drop from x.pending)) back read.reads.0)
-    (ap (λ (l : List Tree). record { rest = r.rest.now; saved = l; replaced = r.replaced }) (c.list_from.ensures.grows.saved ∙ saved-taken from r.arena) ∙ c.skip-2.ensures.state)
+    (ap (λ (l : List Tree). record { rest = r.rest.now; saved = l; replaced = r.replaced; level = r.level }) (c.list_from.ensures.grows.saved ∙ saved-taken from r.arena) ∙ c.skip-2.ensures.state)
     c.list_from.ensures.memory
 
-pub args::read_list-returns-clause-moves : goal.args::read_list-returns-clause-moves
+pub rows::read_list-returns-clause-moves : goal.rows::read_list-returns-clause-moves
 unfolding ends
-args::read_list-returns-clause-moves t c =
+rows::read_list-returns-clause-moves t c =
     let r = c.skip-2.new.self in
     let read = c.in-Ok.ensures {u = tt} in
     let from = c.pending_len-from.result in
-    let after : Reader = record { rest = r.rest; arena = c.list_from.new.self; replaced = r.replaced; alloc = r.alloc } in
+    let after : Reader = record { rest = r.rest; arena = c.list_from.new.self; replaced = r.replaced; level = r.level; alloc = r.alloc } in
     close_moves c.list_from.result c.args.reader.now c.skip.new.self c.read_items.new.reader after from c.skip.ensures.arena (omega (arith, c.skip.ensures.takes)) read.keeps c.pending_len-from.ensures.value read.end
     (subst (λ (x : Store). KeepsNodes x c.list_from.new.self) c.skip-2.ensures.arena (nodes-taken from r.arena c.list_from.new.self c.list_from.ensures.grows)) (c.list_from.ensures.grows.pending ∙ ap (λ (x : Store). take from x.pending) c.skip-2.ensures.arena) c.skip-2.ensures.takes
 
@@ -173,16 +173,16 @@ names::read_inherited_ctor-returns-clause-moves t c =
     let name = Moves-front old c.class_of.new.self c.read_name.new.reader class (c.in-Ok-read_name.ensures {u = tt}).moves in
     Moves-after c.make_ctor.result old c.read_name.new.reader c.make_ctor.new.self name c.make_ctor.ensures.keeps
 
-pub types::read_member_pointer-returns-clause-moves : goal.types::read_member_pointer-returns-clause-moves
-types::read_member_pointer-returns-clause-moves t c =
+pub compounds::read_member_pointer-returns-clause-moves : goal.compounds::read_member_pointer-returns-clause-moves
+compounds::read_member_pointer-returns-clause-moves t c =
     let old = c.args.reader.now in
     let class = Moves-skip old c.skip.new.self c.read_type.new.reader c.skip.ensures.arena (omega (arith, c.skip.ensures.takes)) (c.in-Ok.ensures {u = tt}).moves in
     let member = Moves-trans old c.read_type.new.reader c.read_type-2.new.reader class (c.in-Ok-read_type.ensures {u = tt}).moves.keeps in
     Moves-after c.make_saved.result old c.read_type-2.new.reader c.make_saved.new.self member c.make_saved.ensures.keeps
 
-pub encodings::read_some_params-returns-clause-reads : goal.encodings::read_some_params-returns-clause-reads
+pub rows::read_some_params-returns-clause-reads : goal.rows::read_some_params-returns-clause-reads
 unfolding ends tree_as
-encodings::read_some_params-returns-clause-reads t c =
+rows::read_some_params-returns-clause-reads t c =
     let p = productions c.args.depth in
     let old = c.args.reader.now in
     let mid = c.read_type.new.reader in
@@ -190,15 +190,15 @@ encodings::read_some_params-returns-clause-reads t c =
     let read = c.in-Ok.ensures {u = tt} in
     let from = c.pending_len-from.result in
     let is = c.pending_len-from.ensures.value in
-    let start : Reader = record { rest = mid.rest; arena = c.add.new.self; replaced = mid.replaced; alloc = mid.alloc } in
-    let one : Pushed (p.type (state old)) old start i =
-    pushed old mid start i read.moves.keeps c.add.ensures.same c.add.ensures.saved (c.in-Ok-add.ensures {u = tt}).pending refl refl read.reads in
+    let start : Reader = record { rest = mid.rest; arena = c.add.new.self; replaced = mid.replaced; level = mid.level; alloc = mid.alloc } in
+    let one : Pushed (p.type false (state old)) old start i =
+    pushed old mid start i read.moves.keeps c.add.ensures.same c.add.ensures.saved (c.in-Ok-add.ensures {u = tt}).pending refl refl refl read.reads in
     let trees : trees_behind from start.arena ≡ stands start.arena i ∷ [] =
     one-more old.arena start.arena from i one.grows (none-below old.arena from is) (omega (arith, is)) one.pending ∙ ap (λ (ts : List Tree). ts ++ stands start.arena i ∷ []) (none-yet old.arena from is) in
-    let parsed : parse_some_params p (state old) ≡ list_after p item.Type end.Encoding (stands start.arena i ∷ []) (state start) = rw one.parsed refl in
+    let parsed : parse_some_params p c.args.end (state old) ≡ list_after p item.Type c.args.end (stands start.arena i ∷ []) (state start) = rw one.parsed refl in
     let gives = GivesFrom c.read_items.result from c.read_items.new.reader in
-    subst (λ (n : ℕ). GivesFrom c.read_items.result n c.read_items.new.reader (parse_some_params p (state old))) is
-    (subst gives (sym parsed) (subst (λ (ts : List Tree). gives (list_after p item.Type end.Encoding ts (state start))) trees c.read_items.ensures.reads))
+    subst (λ (n : ℕ). GivesFrom c.read_items.result n c.read_items.new.reader (parse_some_params p c.args.end (state old))) is
+    (subst gives (sym parsed) (subst (λ (ts : List Tree). gives (list_after p item.Type c.args.end ts (state start))) trees c.read_items.ensures.reads))
 
 pub encodings::read_named-returns-clause-reads : goal.encodings::read_named-returns-clause-reads
 encodings::read_named-returns-clause-reads t c =

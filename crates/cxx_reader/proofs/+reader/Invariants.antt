@@ -12,9 +12,6 @@ use Rattle.cxx_reader.proofs.+reader.Given as goal
 abbrev pub decreases-args::read_args : goal.decreases-args::read_args
 decreases-args::read_args l = 32 * l.depth + 6
 
-abbrev pub decreases-args::read_list : goal.decreases-args::read_list
-decreases-args::read_list l = 32 * l.depth + 5
-
 abbrev pub decreases-args::read_arg : goal.decreases-args::read_arg
 decreases-args::read_arg l = 32 * l.depth + 0
 
@@ -27,95 +24,131 @@ decreases-args::read_literal l = 32 * l.depth + 2
 abbrev pub decreases-args::read_typed : goal.decreases-args::read_typed
 decreases-args::read_typed l = 32 * l.depth + 1
 
+abbrev pub decreases-compounds::read_function_type : goal.decreases-compounds::read_function_type
+decreases-compounds::read_function_type l = 32 * l.depth + 8
+
+abbrev pub decreases-compounds::read_exception : goal.decreases-compounds::read_exception
+decreases-compounds::read_exception l = 32 * l.depth + 7
+
+abbrev pub decreases-compounds::read_throw : goal.decreases-compounds::read_throw
+decreases-compounds::read_throw l = 32 * l.depth + 6
+
+abbrev pub decreases-compounds::read_function_params : goal.decreases-compounds::read_function_params
+decreases-compounds::read_function_params l = 32 * l.depth + 5
+
+abbrev pub decreases-compounds::read_array_type : goal.decreases-compounds::read_array_type
+decreases-compounds::read_array_type l = 32 * l.depth + 1
+
+abbrev pub decreases-compounds::read_vector_type : goal.decreases-compounds::read_vector_type
+decreases-compounds::read_vector_type l = 32 * l.depth + 2
+
+abbrev pub decreases-compounds::read_element : goal.decreases-compounds::read_element
+decreases-compounds::read_element l = 32 * l.depth + 1
+
+abbrev pub decreases-compounds::read_member_pointer : goal.decreases-compounds::read_member_pointer
+decreases-compounds::read_member_pointer l = 32 * l.depth + 1
+
+abbrev pub decreases-encodings::read_signature : goal.decreases-encodings::read_signature
+decreases-encodings::read_signature l = 32 * l.depth + 8
+
+abbrev pub decreases-encodings::read_function : goal.decreases-encodings::read_function
+decreases-encodings::read_function l = 32 * l.depth + 7
+
+abbrev pub decreases-encodings::read_return_type : goal.decreases-encodings::read_return_type
+decreases-encodings::read_return_type l = 32 * l.depth + 1
+
+abbrev pub decreases-encodings::read_encoding : goal.decreases-encodings::read_encoding
+decreases-encodings::read_encoding l = 32 * l.depth + 0
+
+abbrev pub decreases-encodings::read_encoding_case : goal.decreases-encodings::read_encoding_case
+decreases-encodings::read_encoding_case l = 32 * l.depth + 11
+
+abbrev pub decreases-encodings::read_special : goal.decreases-encodings::read_special
+decreases-encodings::read_special l = 32 * l.depth + 7
+
+abbrev pub decreases-encodings::read_named : goal.decreases-encodings::read_named
+decreases-encodings::read_named l = 32 * l.depth + 10
+
+abbrev pub decreases-encodings::read_inside : goal.decreases-encodings::read_inside
+decreases-encodings::read_inside l = 32 * l.depth + 9
+
+abbrev pub decreases-locals::read_local_name : goal.decreases-locals::read_local_name
+decreases-locals::read_local_name l = 32 * l.depth + 4
+
+abbrev pub decreases-locals::read_local : goal.decreases-locals::read_local
+decreases-locals::read_local l = 32 * l.depth + 3
+
+abbrev pub decreases-locals::read_entity : goal.decreases-locals::read_entity
+decreases-locals::read_entity l = 32 * l.depth + 2
+
+abbrev pub decreases-locals::read_default_arg : goal.decreases-locals::read_default_arg
+decreases-locals::read_default_arg l = 32 * l.depth + 2
+
+abbrev pub decreases-locals::read_entity_in : goal.decreases-locals::read_entity_in
+decreases-locals::read_entity_in l = 32 * l.depth + 1
+
 abbrev pub decreases-names::read_name : goal.decreases-names::read_name
 decreases-names::read_name l = 32 * l.depth + 0
 
 abbrev pub decreases-names::read_std_name : goal.decreases-names::read_std_name
-decreases-names::read_std_name l = 32 * l.depth + 10
+decreases-names::read_std_name l = 32 * l.depth + 15
 
 abbrev pub decreases-names::read_unscoped : goal.decreases-names::read_unscoped
-decreases-names::read_unscoped l = 32 * l.depth + 10
+decreases-names::read_unscoped l = 32 * l.depth + 15
 
 abbrev pub decreases-names::read_substituted : goal.decreases-names::read_substituted
 decreases-names::read_substituted l = 32 * l.depth + 8
 
 abbrev pub decreases-names::read_in_place : goal.decreases-names::read_in_place
-decreases-names::read_in_place l = 32 * l.depth + 9
+decreases-names::read_in_place l = 32 * l.depth + 14
 
 abbrev pub decreases-names::read_named_args : goal.decreases-names::read_named_args
 decreases-names::read_named_args l = 32 * l.depth + 7
 
 abbrev pub decreases-names::read_unqualified_name : goal.decreases-names::read_unqualified_name
-decreases-names::read_unqualified_name l = 32 * l.depth + 4
+decreases-names::read_unqualified_name l = 32 * l.depth + 13
 
 abbrev pub decreases-names::read_other_name : goal.decreases-names::read_other_name
-decreases-names::read_other_name l = 32 * l.depth + 3
+decreases-names::read_other_name l = 32 * l.depth + 12
 
 abbrev pub decreases-names::read_part : goal.decreases-names::read_part
-decreases-names::read_part l = 32 * l.depth + 2
+decreases-names::read_part l = 32 * l.depth + 11
+
+abbrev pub decreases-names::read_base_part : goal.decreases-names::read_base_part
+decreases-names::read_base_part l = 32 * l.depth + 10
+
+abbrev pub decreases-names::read_base : goal.decreases-names::read_base
+decreases-names::read_base l = 32 * l.depth + 9
+
+abbrev pub decreases-names::read_conversion : goal.decreases-names::read_conversion
+decreases-names::read_conversion l = 32 * l.depth + 1
 
 abbrev pub decreases-names::read_inherited_ctor : goal.decreases-names::read_inherited_ctor
 decreases-names::read_inherited_ctor l = 32 * l.depth + 1
 
 abbrev pub decreases-names::read_nested_name : goal.decreases-names::read_nested_name
-decreases-names::read_nested_name l = 32 * l.depth + 13
+decreases-names::read_nested_name l = 32 * l.depth + 17
 
 abbrev pub decreases-names::read_first : goal.decreases-names::read_first
-decreases-names::read_first l = 32 * l.depth + 11
+decreases-names::read_first l = 32 * l.depth + 16
 
 abbrev pub decreases-names::read_first_std : goal.decreases-names::read_first_std
-decreases-names::read_first_std l = 32 * l.depth + 10
+decreases-names::read_first_std l = 32 * l.depth + 15
 
 abbrev pub decreases-names::read_first_substitution : goal.decreases-names::read_first_substitution
-decreases-names::read_first_substitution l = 32 * l.depth + 10
+decreases-names::read_first_substitution l = 32 * l.depth + 15
 
 abbrev pub decreases-names::read_components : goal.decreases-names::read_components
-decreases-names::read_components l = 32 * l.depth + 11
+decreases-names::read_components l = 32 * l.depth + 16
 
 abbrev pub decreases-names::read_next : goal.decreases-names::read_next
-decreases-names::read_next l = 32 * l.depth + 10
+decreases-names::read_next l = 32 * l.depth + 15
 
 abbrev pub decreases-names::read_component : goal.decreases-names::read_component
-decreases-names::read_component l = 32 * l.depth + 9
+decreases-names::read_component l = 32 * l.depth + 14
 
 abbrev pub decreases-names::read_more_args : goal.decreases-names::read_more_args
 decreases-names::read_more_args l = 32 * l.depth + 8
-
-abbrev pub decreases-types::read_type : goal.decreases-types::read_type
-decreases-types::read_type l = 32 * l.depth + 0
-
-abbrev pub decreases-types::read_saved_type : goal.decreases-types::read_saved_type
-decreases-types::read_saved_type l = 32 * l.depth + 1
-
-abbrev pub decreases-types::read_qualified_type : goal.decreases-types::read_qualified_type
-decreases-types::read_qualified_type l = 32 * l.depth + 0
-
-abbrev pub decreases-types::read_qualified : goal.decreases-types::read_qualified
-decreases-types::read_qualified l = 32 * l.depth + 1
-
-abbrev pub decreases-types::read_expansion : goal.decreases-types::read_expansion
-decreases-types::read_expansion l = 32 * l.depth + 1
-
-abbrev pub decreases-types::read_pointer : goal.decreases-types::read_pointer
-decreases-types::read_pointer l = 32 * l.depth + 1
-
-abbrev pub decreases-types::read_reference : goal.decreases-types::read_reference
-decreases-types::read_reference l = 32 * l.depth + 1
-
-abbrev pub decreases-types::read_member_pointer : goal.decreases-types::read_member_pointer
-decreases-types::read_member_pointer l = 32 * l.depth + 1
-
-abbrev pub decreases-types::read_param_type : goal.decreases-types::read_param_type
-decreases-types::read_param_type l = 32 * l.depth + 7
-
-abbrev pub decreases-types::read_substituted_type : goal.decreases-types::read_substituted_type
-decreases-types::read_substituted_type l = 32 * l.depth + 7
-
-abbrev pub decreases-types::read_type_args : goal.decreases-types::read_type_args
-decreases-types::read_type_args l = 32 * l.depth + 6
-
-abbrev pub decreases-types::read_class : goal.decreases-types::read_class
-decreases-types::read_class l = 32 * l.depth + 2
 
 abbrev pub decreases-rows::read_row : goal.decreases-rows::read_row
 decreases-rows::read_row l = 32 * l.depth + 6
@@ -129,41 +162,92 @@ decreases-rows::read_item l = 32 * l.depth + 4
 abbrev pub decreases-rows::read_items : goal.decreases-rows::read_items
 decreases-rows::read_items l = 32 * l.depth + 4
 
+abbrev pub decreases-rows::read_list : goal.decreases-rows::read_list
+decreases-rows::read_list l = 32 * l.depth + 5
+
+abbrev pub decreases-rows::read_params : goal.decreases-rows::read_params
+decreases-rows::read_params l = 32 * l.depth + 6
+
+abbrev pub decreases-rows::read_some_params : goal.decreases-rows::read_some_params
+decreases-rows::read_some_params l = 32 * l.depth + 5
+
 abbrev pub decreases-rows::collect : goal.decreases-rows::collect
 decreases-rows::collect l = 32 * l.depth + 3
 
 abbrev pub decreases-rows::read_tree : goal.decreases-rows::read_tree
 decreases-rows::read_tree l = 32 * l.depth + 2
 
+abbrev pub decreases-rows::read_param : goal.decreases-rows::read_param
+decreases-rows::read_param l = 32 * l.depth + 1
+
 abbrev pub decreases-rows::read_name_tree : goal.decreases-rows::read_name_tree
 decreases-rows::read_name_tree l = 32 * l.depth + 1
 
-abbrev pub decreases-encodings::read_encoding : goal.decreases-encodings::read_encoding
-decreases-encodings::read_encoding l = 32 * l.depth + 0
+abbrev pub decreases-types::read_type : goal.decreases-types::read_type
+decreases-types::read_type l = 32 * l.depth + 0
 
-abbrev pub decreases-encodings::read_special : goal.decreases-encodings::read_special
-decreases-encodings::read_special l = 32 * l.depth + 7
+abbrev pub decreases-types::read_saved_type : goal.decreases-types::read_saved_type
+decreases-types::read_saved_type l = 32 * l.depth + 1
 
-abbrev pub decreases-encodings::read_named : goal.decreases-encodings::read_named
-decreases-encodings::read_named l = 32 * l.depth + 10
+abbrev pub decreases-types::read_qualified_type : goal.decreases-types::read_qualified_type
+decreases-types::read_qualified_type l = 32 * l.depth + 0
 
-abbrev pub decreases-encodings::read_signature : goal.decreases-encodings::read_signature
-decreases-encodings::read_signature l = 32 * l.depth + 9
+abbrev pub decreases-types::read_cv_qualified : goal.decreases-types::read_cv_qualified
+decreases-types::read_cv_qualified l = 32 * l.depth + 1
 
-abbrev pub decreases-encodings::read_function : goal.decreases-encodings::read_function
-decreases-encodings::read_function l = 32 * l.depth + 8
+abbrev pub decreases-types::read_expansion : goal.decreases-types::read_expansion
+decreases-types::read_expansion l = 32 * l.depth + 1
 
-abbrev pub decreases-encodings::read_return_type : goal.decreases-encodings::read_return_type
-decreases-encodings::read_return_type l = 32 * l.depth + 5
+abbrev pub decreases-types::read_pointer : goal.decreases-types::read_pointer
+decreases-types::read_pointer l = 32 * l.depth + 1
 
-abbrev pub decreases-encodings::read_params : goal.decreases-encodings::read_params
-decreases-encodings::read_params l = 32 * l.depth + 7
+abbrev pub decreases-types::read_reference : goal.decreases-types::read_reference
+decreases-types::read_reference l = 32 * l.depth + 1
 
-abbrev pub decreases-encodings::read_some_params : goal.decreases-encodings::read_some_params
-decreases-encodings::read_some_params l = 32 * l.depth + 6
+abbrev pub decreases-types::read_suffixed : goal.decreases-types::read_suffixed
+decreases-types::read_suffixed l = 32 * l.depth + 1
+
+abbrev pub decreases-types::read_type_row : goal.decreases-types::read_type_row
+decreases-types::read_type_row l = 32 * l.depth + 7
 
 abbrev pub decreases-types::read_saved_row : goal.decreases-types::read_saved_row
-decreases-types::read_saved_row l = 32 * l.depth + 7
+decreases-types::read_saved_row l = 32 * l.depth + 8
+
+abbrev pub decreases-types::read_param_type : goal.decreases-types::read_param_type
+decreases-types::read_param_type l = 32 * l.depth + 7
+
+abbrev pub decreases-types::read_substituted_type : goal.decreases-types::read_substituted_type
+decreases-types::read_substituted_type l = 32 * l.depth + 7
+
+abbrev pub decreases-types::read_type_args : goal.decreases-types::read_type_args
+decreases-types::read_type_args l = 32 * l.depth + 6
+
+abbrev pub decreases-types::read_class : goal.decreases-types::read_class
+decreases-types::read_class l = 32 * l.depth + 2
+
+abbrev pub decreases-unnamed::read_closure : goal.decreases-unnamed::read_closure
+decreases-unnamed::read_closure l = 32 * l.depth + 8
+
+abbrev pub decreases-unnamed::read_lambda_sig : goal.decreases-unnamed::read_lambda_sig
+decreases-unnamed::read_lambda_sig l = 32 * l.depth + 7
+
+abbrev pub decreases-vendors::read_vendor_type : goal.decreases-vendors::read_vendor_type
+decreases-vendors::read_vendor_type l = 32 * l.depth + 2
+
+abbrev pub decreases-vendors::read_vendor_inside : goal.decreases-vendors::read_vendor_inside
+decreases-vendors::read_vendor_inside l = 32 * l.depth + 1
+
+abbrev pub decreases-vendors::read_vendor_qualified : goal.decreases-vendors::read_vendor_qualified
+decreases-vendors::read_vendor_qualified l = 32 * l.depth + 9
+
+abbrev pub decreases-vendors::read_other_qualified : goal.decreases-vendors::read_other_qualified
+decreases-vendors::read_other_qualified l = 32 * l.depth + 8
+
+abbrev pub decreases-vendors::read_vendor_args : goal.decreases-vendors::read_vendor_args
+decreases-vendors::read_vendor_args l = 32 * l.depth + 7
+
+abbrev pub decreases-vendors::read_objc_qualified : goal.decreases-vendors::read_objc_qualified
+decreases-vendors::read_objc_qualified l = 32 * l.depth + 1
 
 abbrev pub invariant-rows::read_row_items-loop-item : goal.invariant-rows::read_row_items-loop-item
 invariant-rows::read_row_items-loop-item l = record {
