@@ -11,28 +11,31 @@ use std::alloc::{AllocError, Global};
 pub fn ordinal(alloc: Global, digits: &[u8]) -> Result<Vec<u8>, AllocError>
     ensures value { IfOk result (λ number. number.items ≡ spec.ordinal_digits digits.now) }
 {
-    let mut number = Vec::new(alloc);
-    number.extend_from_slice(b"0")?;
-    number.extend_from_slice(digits)?;
-    add_one(&mut number);
-    if !digits.is_empty() {
-        add_one(&mut number);
+    if digits.is_empty() {
+        return one_more(alloc, b"0");
     }
-    Ok(number)
+    let mut number = Vec::new(alloc);
+    number.push(b'0')?;
+    number.extend_from_slice(digits)?;
+    let more = one_more(alloc, &number)?;
+    one_more(alloc, &more)
 }
 
-// Adds 1 to the number that these digits write.
-fn add_one(digits: &mut [u8])
-    ensures value { digits.new ≡ spec.one_more digits.old }
+// Returns the digits of the number that is one more, as many as there are.
+fn one_more(alloc: Global, digits: &[u8]) -> Result<Vec<u8>, AllocError>
+    ensures value { IfOk result (λ more. more.items ≡ spec.one_more digits.now) }
 {
     let mut k = digits.len();
     while k > 0 && digits[k - 1] >= b'9' {
         k -= 1;
-        digits[k] = b'0';
     }
+    let mut more = Vec::new(alloc);
     if k > 0 {
-        digits[k - 1] += 1;
+        more.extend_from_slice(&digits[..k - 1])?;
+        more.push(digits[k - 1] + 1)?;
     }
+    more.resize(digits.len(), b'0')?;
+    Ok(more)
 }
 
 /// Returns the digits without the zeros in front.
