@@ -3,6 +3,8 @@ use Prim.Native.String.{String}
 use Rattle.std.specs.Prelude.{ℕ, List, [], ◌∷◌, codes, Bool, true, false, ◌||◌, ◌&&◌, if◌then◌else◌, drop, is_some}
 use Rattle.abi_scalars.specs.Bytes.{begins, begins_between, begins_digit, begins_one_of, past_letter, letter}
 use Rattle.cxx_grammar.specs.Words.{builtin_of, integer_of}
+use Rattle.cxx_grammar.specs.declared.cases.PrefixCase.{PrefixCase}
+use Rattle.cxx_grammar.specs.declared.cases.PrefixCase.TheVariants as prefix
 use Rattle.cxx_grammar.specs.declared.cases.EncodingCase.{EncodingCase}
 use Rattle.cxx_grammar.specs.declared.cases.EncodingCase.TheVariants as encoding
 use Rattle.cxx_grammar.specs.declared.cases.NameCase.{NameCase}
@@ -28,6 +30,16 @@ use Rattle.cxx_grammar.specs.declared.cases.LiteralCase.TheVariants as literal
 abbrev pub case_in : {C : Type 0} → List (String × C) → C → List ℕ → C
 case_in [] other bytes = other
 case_in ((code, case) ∷ table) other bytes = if begins (codes code) bytes then case else case_in table other bytes
+
+abbrev pub prefixes : List (String × PrefixCase)
+prefixes =
+    ("_Z", prefix.Plain 2) ∷
+    ("__Z", prefix.Plain 3) ∷
+    ("___Z", prefix.Block 4) ∷
+    ("____Z", prefix.Block 5) ∷ []
+
+abbrev pub case_of_prefix : List ℕ → PrefixCase
+case_of_prefix bytes = case_in prefixes prefix.None bytes
 
 -- an encoding ends at the end of the symbol, or before `E`, `.` or `_`
 abbrev pub is_encoding_end : List ℕ → Bool

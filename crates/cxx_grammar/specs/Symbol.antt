@@ -3,7 +3,10 @@ use Rattle.std.specs.Prelude.{ℕ, zero, suc, List, [], ◌∷◌, codes, Bool, 
 use Rattle.cxx_tree.specs.Tree.{Tree}
 use Rattle.abi_scalars.specs.Bytes.{begins}
 use Rattle.cxx_grammar.specs.State.{State, start}
-use Rattle.cxx_grammar.specs.Parses.{Parses, ◌>>=◌, ◌>>◌, pure, refused, check, look, past, expect, optional, set_rest, if_next}
+use Rattle.cxx_grammar.specs.Parses.{Parses, ◌>>=◌, ◌>>◌, pure, refused, check, look, past, expect, optional, set_rest, by}
+use Rattle.cxx_grammar.specs.declared.cases.PrefixCase.{PrefixCase}
+use Rattle.cxx_grammar.specs.declared.cases.PrefixCase.TheVariants as prefix
+use Rattle.cxx_grammar.specs.Cases.{case_of_prefix}
 use Rattle.cxx_grammar.specs.Leaves.{parse_digits, parse_some_digits}
 use Rattle.cxx_grammar.specs.Binds.{parse_closed}
 use Rattle.cxx_grammar.specs.Productions.{Productions, no_productions}
@@ -86,15 +89,16 @@ parse_block_symbol p n = do
   parse_rest
   pure (record { tree = t; is_block = true; suffix = None })
 
+unfoldable pub symbol_as : Productions → PrefixCase → Parses Reading
+symbol_as p (prefix.Plain n) = parse_plain_symbol p n
+symbol_as p (prefix.Block n) = parse_block_symbol p n
+symbol_as p prefix.None = refused
+
 -- <mangled-name> ::= _Z <encoding>
 --                ::= _Z <encoding> . <vendor-specific suffix>
 -- A further underscore may stand in front, and two more in front of the function of a block
-unfoldable pub parse_mangled_name : Productions → Parses Reading
-parse_mangled_name p =
-    if_next "_Z" (parse_plain_symbol p 2)
-    (if_next "__Z" (parse_plain_symbol p 3)
-    (if_next "___Z" (parse_block_symbol p 4)
-    (if_next "____Z" (parse_block_symbol p 5) refused)))
+abbrev pub parse_mangled_name : Productions → Parses Reading
+parse_mangled_name p = by case_of_prefix (symbol_as p)
 
 abbrev pub found_of : {A : Type 0} → Option (A × State) → Option A
 found_of None = None

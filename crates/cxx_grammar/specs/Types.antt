@@ -65,6 +65,13 @@ parse_function_end cv exception ret params = do
   expect "E"
   make (function_of ret (trees_from_list params) cv ref exception)
 
+-- <bare-function-type> [<ref-qualifier>] E
+abbrev pub parse_function_inside : Productions → Cv → Option Tree → Parses Tree
+parse_function_inside p cv exception = do
+  ret ← p.type false
+  params ← parse_function_params p
+  parse_function_end cv exception ret params
+
 -- <function-type> ::= [<CV-qualifiers>] [<exception-spec>] [Dx] F [Y] <bare-function-type> [<ref-qualifier>] E
 -- <exception-spec> ::= Do
 --                  ::= Dw <type>+ E
@@ -73,9 +80,7 @@ parse_function_type p = do
   cv ← parse_cv
   exception ← by case_of_exception (exception_as p)
   parse_function_mark
-  ret ← p.type false
-  params ← parse_function_params p
-  parse_function_end cv exception ret params
+  parse_function_inside p cv exception
 
 -- Arrays, vectors, pointers to members.
 

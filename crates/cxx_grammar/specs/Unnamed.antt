@@ -1,6 +1,6 @@
 -- Unnamed types and closures (Itanium C++ ABI 5.1.7).
 use Rattle.std.specs.Prelude.{ℕ, ◌+◌, List, [], ◌∷◌, Option, None, false, if◌then◌else◌, nat_lt}
-use Rattle.cxx_tree.specs.Tree.{Tree, no_trees}
+use Rattle.cxx_tree.specs.Tree.{Tree, Trees, no_trees}
 use Rattle.cxx_tree.specs.Stored.{trees_from_list}
 use Rattle.cxx_tree.specs.Phrases.{closure, unnamed}
 use Rattle.cxx_grammar.specs.declared.rows.End.TheVariants as end
@@ -32,23 +32,23 @@ parse_block = do
   parse_count
   make_word "'block-literal'"
 
-abbrev pub closure_tree : List Tree → List ℕ → Tree
-closure_tree params count = closure no_trees None (trees_from_list params) None count (ordinal_of count)
+abbrev pub closure_tree : Trees → List ℕ → Tree
+closure_tree params count = closure no_trees None params None count (ordinal_of count)
 
 -- [<number>] _, behind the parameters of a closure. The closure binds the template parameters of its level: each is
 -- `auto`
-abbrev pub parse_closure_end : ℕ → List Tree → Parses Tree
+abbrev pub parse_closure_end : ℕ → Trees → Parses Tree
 parse_closure_end binder params = do
   count ← parse_count
   t ← make (closure_tree params count)
   bind_closure binder t
 
 -- <lambda-sig> E
-abbrev pub parse_lambda_sig : Productions → Parses (List Tree)
+abbrev pub parse_lambda_sig : Productions → Parses Trees
 parse_lambda_sig p = do
   params ← parse_params p end.E
   expect "E"
-  pure params
+  pure (trees_from_list params)
 
 -- <closure-type-name> ::= Ul <lambda-sig> E [<number>] _
 -- <lambda-sig> ::= v | <parameter type>+

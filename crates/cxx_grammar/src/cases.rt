@@ -1,5 +1,16 @@
 //! The cases of productions, by the bytes that are next.
 
+/// The cases of a symbol, by its prefix, with the number of its bytes.
+#[derive(Clone, Copy)]
+pub enum PrefixCase {
+    /// `_Z` or `__Z`
+    Plain(usize),
+    /// `___Z` or `____Z`: the function of a block.
+    Block(usize),
+    /// No prefix.
+    None,
+}
+
 /// The cases of an `<encoding>`.
 #[derive(Clone, Copy)]
 pub enum EncodingCase {

@@ -11,7 +11,8 @@ use Rattle.cxx_reader.specs.declared.reader.Reader.{Reader}
 use Rattle.cxx_tree.specs.declared.arena.Stop.{Stop}
 use Rattle.cxx_tree.specs.declared.arena.Stop.TheVariants.{Unreadable, Memory}
 use Rattle.cxx_tree.specs.Stored.{Store, stands}
-use Rattle.cxx_reader.specs.Outcome.{Gives, GivesFrom}
+use Rattle.cxx_reader.specs.Outcome.{Gives, GivesFrom, list_trees}
+use Rattle.std.specs.Prelude.{IfSome, option_map}
 use Rattle.cxx_reader.proofs.Kept.{map-stands}
 use Rattle.cxx_reader.proofs.Lists.{drop-all}
 
@@ -51,6 +52,16 @@ list_below-keeps a b l g h = IsListBelow-more a.held b.held g.extends (size a) (
 
 pub listed-grows : (a b : Store) → KeepsNodes a b → (l : handle.List) → IsListBelow a.held (size a) l → listed b l ≡ listed a l
 listed-grows a b g l h = ap (map (stands b)) (list_at-more a.held b.held g.extends l h.0) ∙ map-stands a b g (list_at a.held l) h.1
+
+-- the same of a list or none
+pub some-below : (a b : Store) → KeepsNodes a b → (o : Option handle.List) → IfSome o (IsListBelow a.held (size a)) → IfSome o (IsListBelow b.held (size b))
+some-below a b g None h = tt
+some-below a b g (Some l) h = list_below-keeps a b l g h
+
+pub some-trees : (a b : Store) → KeepsNodes a b → (o : Option handle.List) → IfSome o (IsListBelow a.held (size a)) → option_map (list_trees b) o ≡ option_map (list_trees a) o
+unfolding list_trees
+some-trees a b g None h = refl
+some-trees a b g (Some l) h = ap (λ ts. Some (trees_from_list ts)) (listed-grows a b g l h)
 
 map-drop : {A B : Type 0} (f : A → B) (k : ℕ) (xs : List A) → map f (drop k xs) ≡ drop k (map f xs)
 map-drop f zero xs = refl

@@ -3,7 +3,7 @@ use Rattle.std.proofs.Common.{ℕ, ◌≡◌, ◌+◌, ◌-◌, ◌<◌, ◌≤�
 use Rattle.std.specs.List.{AllByRecursion}
 use Rattle.std.proofs.Math.ListN.{get_or}
 use Rattle.std.proofs.lemmas.List.{map-append}
-use Rattle.cxx_tree.specs.Tree.{Tree}
+use Rattle.cxx_tree.specs.Tree.{Tree, Trees}
 use Rattle.cxx_tree.specs.Kept.{KeepsNodes, SameNodes, IsNode}
 use Rattle.cxx_tree.specs.declared.node.List as handle
 use Rattle.std.specs.Prelude.{IfOk, OnOk, IsOkUnless, codes}
@@ -193,19 +193,43 @@ pub components_end : (p : Productions) (n : LearnedName) (s mid : State) (is_mar
 unfolding parse_components
 components_end p n s mid is_mark m l e = rw (m, steps_end l e, e) refl
 
--- all arguments are read
+-- a list is made of the nodes that are collected
+pub listed_gives : (r : Result handle.List Stop) (after : Reader) (a : Store) (from : ℕ) (u : State) {whole : Option (Trees × State)}
+    → whole ≡ Some (trees_from_list (trees_behind from a), u)
+    → IfOk r (λ l. list_at after.arena.held l ≡ drop from a.pending)
+    → IfOk r (λ l. IsListBelow after.arena.held (size after.arena) l)
+    → KeepsNodes a after.arena → AllByRecursion (IsNode a) (drop from a.pending)
+    → state after ≡ u → IsOkUnless r Memory → GivesList r after whole
+unfolding list_trees
+listed_gives (Ok l) after a from u done is below g all st m =
+    let trees : map (stands a) (drop from a.pending) ≡ map (stands after.arena) (list_at after.arena.held l) = sym (ap (map (stands after.arena)) is ∙ map-stands a after.arena g (drop from a.pending) all) in
+    (below, done ∙ ap (λ (ts : List Tree). Some (trees_from_list ts, u)) trees ∙ ap (λ (v : State). Some (list_trees after.arena l, v)) (sym st))
+listed_gives (Err Unreadable) after a from u done is below g all st m = absurd (let f = m in cc)
+listed_gives (Err Memory) after a from u done is below g all st m = tt
+
+-- all items are read
 pub close_gives : (r : Result handle.List Stop) (after : Reader) (a : Store) (from : ℕ) (p : Productions) (n : ℕ) (item : Item) (s u : State)
     → list_after p item end.E [] (skip n s) ≡ Some (trees_behind from a, u) → is_e u.rest ≡ true
     → IfOk r (λ l. list_at after.arena.held l ≡ drop from a.pending)
     → IfOk r (λ l. IsListBelow after.arena.held (size after.arena) l)
     → KeepsNodes a after.arena → AllByRecursion (IsNode a) (drop from a.pending)
     → state after ≡ skip 1 u → IsOkUnless r Memory → GivesList r after (parse_list p n item s)
-unfolding list_trees parse_list
-close_gives (Ok l) after a from p n item s u done e is below g all st m =
-    let trees : map (stands a) (drop from a.pending) ≡ map (stands after.arena) (list_at after.arena.held l) = sym (ap (map (stands after.arena)) is ∙ map-stands a after.arena g (drop from a.pending) all) in
-    (below, rw (done, e) (ap (λ (ts : List Tree). Some (trees_from_list ts, skip 1 u)) trees ∙ ap (λ (v : State). Some (list_trees after.arena l, v)) (sym st)))
-close_gives (Err Unreadable) after a from p n item s u done e is below g all st m = absurd (let f = m in cc)
-close_gives (Err Memory) after a from p n item s u done e is below g all st m = tt
+unfolding parse_list
+close_gives r after a from p n item s u done e is below g all st m = listed_gives r after a from (skip 1 u) (rw (done, e) refl) is below g all st m
+
+-- a list is read, and a byte behind it
+pub list_moves : {A : Type 0} (r : Result A Stop) (old mid after : Reader) (from : ℕ) → from ≡ length old.arena.pending → KeepsFront from old mid
+    → KeepsNodes mid.arena after.arena → after.arena.pending ≡ take from mid.arena.pending → length after.rest.now < length mid.rest.now → OnOk r (Moves old after)
+list_moves (Ok l) old mid after from e k g p n =
+    record {
+      keeps = record {
+        grows = nodes-trans old.arena mid.arena after.arena k.grows g;
+        pending = p ∙ k.front ∙ ap (λ (j : ℕ). take j old.arena.pending) e ∙ take-length old.arena.pending;
+        within = omega (arith, k.within, n);
+      };
+      takes = omega (arith, k.within, n);
+    }
+list_moves (Err stop) old mid after from e k g p n = tt
 
 begins_some : (bytes : List ℕ) → is_e bytes ≡ true → 0 < length bytes
 begins_some [] e = absurd (let f = e in cc)

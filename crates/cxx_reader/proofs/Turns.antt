@@ -1,5 +1,5 @@
 -- The loops over the items of lists and over components.
-use Rattle.std.proofs.Common.{ℕ, ◌≡◌, ◌+◌, ◌-◌, ◌<◌, List, [], ◌∷◌, length, refl, ◌∙◌, arith, zero, suc, Option, Some, None, true, false, Bool}
+use Rattle.std.proofs.Common.{Err, ℕ, ◌≡◌, ◌+◌, ◌-◌, ◌<◌, List, [], ◌∷◌, length, refl, ◌∙◌, arith, zero, suc, Option, Some, None, true, false, Bool}
 use Rattle.std.specs.Prelude.{if◌then◌else◌}
 use Rattle.cxx_tree.specs.declared.arena.Stop.{Stop}
 use Rattle.cxx_tree.specs.declared.arena.Stop.TheVariants.{Unreadable, Memory}
@@ -8,6 +8,8 @@ use Rattle.cxx_grammar.specs.declared.rows.Item.{Item}
 use Rattle.cxx_grammar.specs.State.{State}
 use Rattle.cxx_grammar.specs.Productions.{Productions}
 use Rattle.cxx_grammar.specs.Rows.{item_as, parse_items}
+use Rattle.cxx_reader.specs.declared.reader.Reader.{Reader}
+use Rattle.cxx_reader.specs.Outcome.{Gives}
 use Rattle.cxx_grammar.specs.Parses.{Parses, ◌>>=◌, pure, repeat, repeat_at_most}
 
 -- what steps give, after some of them
@@ -41,6 +43,12 @@ steps_more {is_end = is_end} {step = step} {a = a} {s = s} l e f shorter =
       enough = omega (arith, l.enough);
       is = l.is ∙ repeat_opens is_end step l.turns a s (omega (arith, l.enough)) ∙ rw (e, f) refl;
     }
+
+-- a step that gives a tree fails
+pub tree_stop : (e : Stop) (after : Reader) {whole : Option (Tree × State)} {is_end : List ℕ → Bool} {step : Tree → Parses Tree} {t : Tree} {s : State}
+    → SoFar whole is_end step t s → is_end s.rest ≡ false → Gives (Err e) after (step t s) → Gives (Err e) after whole
+tree_stop Unreadable after l e f = steps_fail l e f
+tree_stop Memory after l e f = tt
 
 -- what the items of a row give, after some of them
 pub record ItemsSoFar (whole : Option (List Tree × State)) (p : Productions) (trees : List Tree) (items : List Item) (s : State) : Type 0 where

@@ -17,6 +17,7 @@ use Rattle.cxx_grammar.specs.State as grammar
 use Rattle.cxx_grammar.specs.Names as names
 use Rattle.cxx_grammar.specs.Bases.{args_of}
 use Rattle.cxx_grammar.specs.Symbol as symbols
+use Rattle.cxx_reader.specs.declared.counts.Count.{Count}
 use Rattle.cxx_reader.specs.declared.names.Part.{Part}
 use Rattle.cxx_reader.specs.declared.names.Place.{Place}
 use Rattle.cxx_reader.specs.declared.reader.Info.{Info}
@@ -95,6 +96,14 @@ abbrev pub Copies : Result NodeText Stop → Store → List ℕ → Type 0
 Copies (Ok t) a bytes = IsText a.held t × (text_at a.held t ≡ bytes)
 Copies (Err Unreadable) a bytes = ⊥
 Copies (Err Memory) a bytes = Unit {0}
+
+-- a count that is copied, and its ordinal
+abbrev pub CopiesCount : Result Count Stop → Store → List ℕ → List ℕ → Type 0
+CopiesCount (Ok c) a count ordinal =
+    (IsText a.held c.text × IsText a.held c.ordinal)
+    × ((text_at a.held c.text ≡ count) × (text_at a.held c.ordinal ≡ ordinal))
+CopiesCount (Err Unreadable) a count ordinal = ⊥
+CopiesCount (Err Memory) a count ordinal = Unit {0}
 
 -- a number as it is written, of which the parser gives what is printed
 abbrev pub GivesNumber : Result (Bor (List ℕ)) Stop → Reader → Option (List ℕ × grammar.State) → Type 0

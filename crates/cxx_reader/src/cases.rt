@@ -9,7 +9,7 @@ ghost use Rattle.cxx_grammar.specs.Cases as spec;
 use crate::words::{builtin_of, integer_of};
 use cxx_grammar::cases::{
     ArgCase, BaseCase, ComponentCase, EncodingCase, ExceptionCase, FirstCase, LiteralCase, LocalCase,
-    NameCase, TypeCase,
+    NameCase, PrefixCase, TypeCase,
 };
 
 /// Returns whether a letter is next.
@@ -60,6 +60,19 @@ pub fn is_function_end(bytes: &[u8]) -> bool
     match bytes {
         [b'E', ..] | [b'R' | b'O', b'E', ..] => true,
         _ => false,
+    }
+}
+
+/// Returns the case of a symbol.
+pub fn prefix_case(bytes: &[u8]) -> PrefixCase
+    ensures value { result ≡ spec.case_of_prefix bytes.now }
+{
+    match bytes {
+        [b'_', b'Z', ..] => PrefixCase::Plain(2),
+        [b'_', b'_', b'Z', ..] => PrefixCase::Plain(3),
+        [b'_', b'_', b'_', b'Z', ..] => PrefixCase::Block(4),
+        [b'_', b'_', b'_', b'_', b'Z', ..] => PrefixCase::Block(5),
+        _ => PrefixCase::None,
     }
 }
 

@@ -31,12 +31,28 @@ pub fn read_function_type(reader: &mut Reader, depth: usize) -> Result<u32, Stop
     let cv = reader.read_cv();
     let exception = tri!(read_exception(reader, depth));
     tri!(reader.skip_function_mark());
+    let t = tri!(read_function_inside(reader, depth, cv, exception));
+    tri!(reader.arena.save(t));
+    Ok(t)
+}
+
+// Reads `<bare-function-type> [<ref-qualifier>] E`.
+#[cycle(reader)]
+fn read_function_inside(
+    reader: &mut Reader,
+    depth: usize,
+    cv: Cv,
+    exception: Option<u32>,
+) -> Result<u32, Stop>
+    requires exception { IfSome exception (IsNode reader.old.arena) }
+    ensures reads { Gives result reader.new (spec.parse_function_inside (productions depth) cv
+        (option_map (stands reader.old.arena) exception) (state reader.old)) }
+    ensures keeps { OnOk result (Keeps reader.old reader.new) }
+{
     let ret = tri!(read_type(reader, depth, false));
     let from = reader.arena.pending_len();
     tri!(read_function_params(reader, depth));
-    let t = tri!(reader.make_function_type(cv, exception, ret, from));
-    tri!(reader.arena.save(t));
-    Ok(t)
+    reader.make_function_type(cv, exception, ret, from)
 }
 
 // Reads `[<exception-spec>]`.

@@ -18,6 +18,7 @@ mod bases;
 mod binds;
 mod cases;
 mod compounds;
+mod counts;
 mod encodings;
 mod functions;
 mod literals;

@@ -130,9 +130,8 @@ impl<'a> Reader<'a> {
         };
         self.rest = rest;
         tri!(self.expect(b'_'));
-        let ordinal = tri!(self.make_ordinal(without_sign(number)));
-        let number = tri!(self.text(number));
-        self.arena.make_default_arg(scope, number, ordinal)
+        let count = tri!(self.make_count(number, without_sign(number)));
+        self.arena.make_default_arg(scope, count.text, count.ordinal)
     }
 
     // Skips `[<discriminator>]`.

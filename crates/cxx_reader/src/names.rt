@@ -306,8 +306,12 @@ fn read_conversion(reader: &mut Reader, depth: usize) -> Result<u32, Stop>
 {
     reader.skip(2);
     let t = tri!(read_type(reader, depth, true));
-    let words = NodeText::Fixed(b"operator ");
-    reader.arena.make_prefixed(words, words, t, Prec::Primary)
+    reader.arena.make_prefixed(
+        NodeText::Fixed(b"operator "),
+        NodeText::Fixed(b"operator "),
+        t,
+        Prec::Primary,
+    )
 }
 
 // Reads `CI1 <name>` or `CI2 <name>`.

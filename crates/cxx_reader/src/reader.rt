@@ -246,6 +246,7 @@ impl<'a> Reader<'a> {
         ensures text { Copies result self.new.arena bytes.now }
         ensures keeps { Keeps self.old self.new }
         ensures state { state self.new ≡ state self.old }
+        ensures rest { self.new.rest.now ≡ self.old.rest.now }
     {
         match self.arena.text(bytes) {
             Ok(text) => Ok(text),

@@ -1,5 +1,5 @@
 //! Lists of items, and productions that are a row of items.
-#![tactic(auto, using(crate::proofs::Rules::productions), unfolding(cxx_tree::specs::Grows::Makes, cxx_tree::specs::Stored::stands, crate::specs::Outcome::named_at, cxx_grammar::specs::Rows::tree_as, cxx_grammar::specs::Rows::item_as, cxx_grammar::specs::Rows::ends))]
+#![tactic(auto, using(crate::proofs::Rules::productions), unfolding(cxx_tree::specs::Grows::Makes, cxx_tree::specs::Stored::stands, crate::specs::Outcome::named_at, cxx_grammar::specs::Rows::tree_as, cxx_grammar::specs::Rows::item_as, cxx_grammar::specs::Rows::ends, cxx_grammar::specs::Rows::parse_params))]
 
 ghost use Rattle.std.specs.Prelude.{◌≡◌, ℕ, ◌<◌, ◌≤◌, length, drop, true, OnOk};
 ghost use Rattle.std.specs.List.{AllByRecursion};

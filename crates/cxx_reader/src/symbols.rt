@@ -1,15 +1,16 @@
 //! Symbols (Itanium C++ ABI 5.1.1).
-#![tactic(auto, using(crate::proofs::Kept::readers), unfolding(cxx_tree::specs::Stored::stands, crate::specs::Outcome::reading_at, cxx_grammar::specs::Parses::past_word_if, cxx_grammar::specs::Symbol::parse_mangled_name, cxx_grammar::specs::Symbol::parse_block_mark, cxx_grammar::specs::Symbol::parse_closed_type))]
+#![tactic(auto, using(crate::proofs::Kept::readers), unfolding(cxx_tree::specs::Stored::stands, crate::specs::Outcome::reading_at, cxx_grammar::specs::Parses::past_word_if, cxx_grammar::specs::Symbol::symbol_as, cxx_grammar::specs::Symbol::parse_block_mark, cxx_grammar::specs::Symbol::parse_closed_type))]
 
 ghost use Rattle.std.specs.Prelude.{◌≡◌, ℕ, ◌≤◌, length, OnOk};
 ghost use Rattle.cxx_grammar.specs.Symbol as spec;
 ghost use Rattle.cxx_grammar.specs.Symbol.{productions};
 ghost use Rattle.cxx_reader.specs.Outcome.{state, Keeps, Gives, GivesReading, GivesText, GivesUnit, CopiesSuffix};
 
-use crate::cases::begins;
+use crate::cases::{begins, prefix_case};
 use crate::encodings::read_encoding;
 use crate::reader::Reader;
 use crate::types::read_type;
+use cxx_grammar::cases::PrefixCase;
 use cxx_tree::{NodeText, Stop};
 
 /// What a symbol is read as.
@@ -28,12 +29,10 @@ pub struct Reading {
 pub fn read_symbol(reader: &mut Reader, depth: usize) -> Result<Reading, Stop>
     ensures reads { GivesReading result reader.new (spec.parse_mangled_name (productions depth) (state reader.old)) }
 {
-    match reader.rest {
-        [b'_', b'Z', ..] => read_plain_symbol(reader, depth, 2),
-        [b'_', b'_', b'Z', ..] => read_plain_symbol(reader, depth, 3),
-        [b'_', b'_', b'_', b'Z', ..] => read_block_symbol(reader, depth, 4),
-        [b'_', b'_', b'_', b'_', b'Z', ..] => read_block_symbol(reader, depth, 5),
-        _ => Err(Stop::Unreadable),
+    match prefix_case(reader.rest) {
+        PrefixCase::Plain(n) => read_plain_symbol(reader, depth, n),
+        PrefixCase::Block(n) => read_block_symbol(reader, depth, n),
+        PrefixCase::None => Err(Stop::Unreadable),
     }
 }
 

@@ -1,25 +1,31 @@
-use Rattle.std.proofs.Common.{ℕ, ◌≡◌, List, [], ◌∷◌, ◌++◌, drop, take, ◌∙◌, length, sym, ap, subst, arith, rules, refl, Some, Err}
+use Rattle.std.proofs.Common.{ℕ, ◌≡◌, List, [], ◌∷◌, ◌++◌, drop, take, ◌∙◌, length, sym, ap, subst, arith, rules, refl, Some, Ok, Err, true, false}
 use Rattle.std.specs.List.{AllByRecursion}
-use Rattle.cxx_tree.specs.Tree.{Tree}
+use Rattle.cxx_tree.specs.Tree.{Tree, Trees}
 use Rattle.cxx_tree.specs.Kept.{KeepsNodes, IsNode}
-use Rattle.cxx_tree.specs.Stored.{Store, stands}
+use Rattle.cxx_tree.specs.Stored.{Store, stands, trees_from_list}
 use Rattle.cxx_tree.proofs.Grown.{nodes-taken, saved-taken}
 use Rattle.cxx_grammar.specs.State.{State, LearnedName}
 use Rattle.cxx_grammar.specs.Binds.{bind_encoding}
 use Rattle.cxx_grammar.specs.Encodings.{parse_named_encoding}
 use Rattle.cxx_grammar.specs.declared.rows.End.TheVariants as end
 use Rattle.cxx_grammar.specs.declared.rows.Item.TheVariants as item
-use Rattle.cxx_grammar.specs.Parses.{skip, item_more, is_e, repeat}
-use Rattle.cxx_grammar.specs.Rows.{ends, tree_as, item_as, parse_items, list_after, parse_some_params}
+use Rattle.cxx_grammar.specs.Parses.{◌>>=◌, skip, item_more, is_e, repeat, make}
+use Rattle.cxx_grammar.specs.Rows.{ends, tree_as, item_as, parse_items, list_after, parse_some_params, parse_params}
 use Rattle.cxx_grammar.specs.Names.{parse_next, parse_components}
 use Rattle.cxx_grammar.specs.Symbol.{productions}
 use Rattle.cxx_reader.specs.declared.reader.Reader.{Reader}
 use Rattle.cxx_reader.specs.Rows.{row_at}
-use Rattle.cxx_reader.specs.Outcome.{state, trees_behind, IsNamed, named_at, place_at, Gives, GivesNamed, GivesFrom}
-use Rattle.cxx_reader.proofs.Kept.{named_stays, Keeps-trans, Keeps-arena, Moves-skip, Moves-front, Moves-trans, Moves-after}
+use Rattle.cxx_reader.specs.Outcome.{state, trees_behind, IsNamed, named_at, place_at, list_trees, Gives, GivesNamed, GivesFrom, KeepsFront}
+use Rattle.cxx_reader.proofs.Kept.{gives_made, named_stays, Keeps-trans, Keeps-arena, Moves-skip, Moves-front, Moves-trans, Moves-after}
 use Rattle.cxx_reader.proofs.Turns.{SoFar, steps_start, steps_more, steps_end, ItemsSoFar, row_start, row_more, row_end}
-use Rattle.cxx_reader.proofs.Lists.{Pushed, none-yet, none-below, one-more, close_gives, close_moves, pushed, KeepsFront-trans, collected, item_stop, items_stop, next_item, no_item, row_none, row_read, row_stop, list_stop, components_stop, components_end}
+use Rattle.cxx_reader.proofs.Lists.{Pushed, none-yet, none-below, one-more, close_gives, close_moves, pushed, KeepsFront-trans, collected, item_stop, items_stop, next_item, no_item, row_none, row_read, row_stop, list_stop, listed_gives, list_moves, components_stop, components_end}
+use Rattle.cxx_reader.proofs.Bound.{some-below, some-trees}
 use Rattle.cxx_reader.proofs.Sources.{source_named}
+use Rattle.cxx_grammar.specs.Types.{parse_other_qualified}
+use Rattle.cxx_tree.specs.Phrases.{prefixed, vendor_qualified}
+use Rattle.cxx_tree.specs.declared.kinds.Prec.TheVariants.{Primary}
+use Rattle.cxx_grammar.specs.Unnamed.{parse_lambda_sig}
+use Rattle.std.specs.Prelude.{Option, option_map, codes}
 use Rattle.cxx_reader.proofs.+reader.Goals as goal
 
 pub rows::collect-returns-in-Err-clause-reads : goal.rows::collect-returns-in-Err-clause-reads
@@ -204,12 +210,70 @@ pub encodings::read_named-returns-clause-reads : goal.encodings::read_named-retu
 encodings::read_named-returns-clause-reads t c =
     let s = state c.args.reader.now in
     let mid = c.read_name.new.reader in
-    let end = c.read_signature.new.reader in
+    let end = c.read_inside.new.reader in
     let read = c.in-Ok.ensures {u = tt} in
-    let signed = c.in-Ok-read_signature.ensures {u = tt} in
+    let signed = c.in-Ok-read_inside.ensures {u = tt} in
     let name = c.in-Ok.value in
-    let t = stands end.arena c.in-Ok-read_signature.value in
+    let t = stands end.arena c.in-Ok-read_inside.value in
     let same : named_at end.arena name ≡ named_at mid.arena name = named_stays mid.arena end.arena name signed.keeps.grows read.reads.0 in
     let is : parse_named_encoding (productions c.args.depth) s ≡ bind_encoding (named_at mid.arena name) t (state end) = rw (read.reads.1, signed.reads.1) refl in
     subst (Gives c.bind.result c.bind.new.self) (sym is)
     (subst (λ (n : LearnedName). Gives c.bind.result c.bind.new.self (bind_encoding n t (state end))) same c.bind.ensures.reads)
+
+pub vendors::read_other_qualified-make_vendor_qualified-requires-clause-args : goal.vendors::read_other_qualified-make_vendor_qualified-requires-clause-args
+vendors::read_other_qualified-make_vendor_qualified-requires-clause-args t c =
+    some-below c.read_vendor_args.new.reader.arena c.read_qualified_type.new.reader.arena (c.in-Ok-read_qualified_type.ensures {u = tt}).moves.keeps.grows c.in-Ok.value (c.in-Ok.ensures {u = tt}).reads.0
+
+pub vendors::read_other_qualified-returns-clause-reads : goal.vendors::read_other_qualified-returns-clause-reads
+vendors::read_other_qualified-returns-clause-reads t c =
+    let p = productions c.args.depth in
+    let s = state c.args.reader.now in
+    let mid = c.read_vendor_args.new.reader in
+    let end = c.read_qualified_type.new.reader in
+    let args = c.in-Ok.value in
+    let read = c.in-Ok.ensures {u = tt} in
+    let inner = c.in-Ok-read_qualified_type.ensures {u = tt} in
+    let t = stands end.arena c.in-Ok-read_qualified_type.value in
+    let same = some-trees mid.arena end.arena inner.moves.keeps.grows args read.reads.0 in
+    let is : parse_other_qualified p c.args.is_bare c.args.qualifier.now s ≡ make (vendor_qualified t c.args.qualifier.now (option_map (list_trees mid.arena) args)) (state end) = rw (read.reads.1, inner.reads.1) refl in
+    subst (Gives c.make_vendor_qualified.result c.make_vendor_qualified.new.self) (sym is)
+    (subst (λ (o : Option Trees). Gives c.make_vendor_qualified.result c.make_vendor_qualified.new.self (make (vendor_qualified t c.args.qualifier.now o) (state end))) same c.make_vendor_qualified.ensures.reads)
+
+pub names::read_conversion-returns-clause-reads : goal.names::read_conversion-returns-clause-reads
+names::read_conversion-returns-clause-reads t c =
+    let p = productions c.args.depth in
+    let r = c.read_type.new.reader in
+    let after : Reader = record { rest = r.rest; arena = c.make_prefixed.new.self; replaced = r.replaced; level = r.level; alloc = r.alloc } in
+    subst (λ (u : State). Gives c.make_prefixed.result after ((p.type true >>= λ (t : Tree). make (prefixed (codes "operator ") (codes "operator ") t Primary)) u)) c.skip.ensures.state
+    (rw (c.in-Ok.ensures {u = tt}).reads.1 (gives_made c.make_prefixed.result after _ _ _ c.make_prefixed.ensures.makes refl))
+
+pub unnamed::read_lambda_sig-returns-clause-reads : goal.unnamed::read_lambda_sig-returns-clause-reads
+unnamed::read_lambda_sig-returns-clause-reads t c =
+    let p = productions c.args.depth in
+    let old = c.args.reader.now in
+    let mid = c.read_params.new.reader in
+    let r = c.expect.new.self in
+    let from = c.pending_len-from.result in
+    let is : from ≡ length old.arena.pending = c.pending_len-from.ensures.value in
+    let read = subst (λ (n : ℕ). GivesFrom (Ok tt) n mid (parse_params p end.E (state old))) (sym is) (c.in-Ok.ensures {u = tt}).reads in
+    let same : r.arena ≡ mid.arena = c.expect.ensures.arena in
+    let after : Reader = record { rest = r.rest; arena = c.list_from.new.self; replaced = r.replaced; level = r.level; alloc = r.alloc } in
+    let parsed : parse_lambda_sig p (state old) ≡ Some (trees_from_list (trees_behind from mid.arena), state r) = rw (read.1, (c.in-Ok-expect.ensures {u = tt}).reads) refl in
+    listed_gives c.list_from.result after r.arena from (state r)
+    (subst (λ (x : Store). parse_lambda_sig p (state old) ≡ Some (trees_from_list (trees_behind from x), state r)) (sym same) parsed)
+    c.list_from.ensures.list c.list_from.ensures.below (nodes-taken from r.arena c.list_from.new.self c.list_from.ensures.grows)
+    (subst (λ (x : Store). AllByRecursion (IsNode x) (drop from x.pending)) (sym same) read.0)
+    (ap (λ (l : List Tree). record { rest = r.rest.now; saved = l; replaced = r.replaced; level = r.level }) (c.list_from.ensures.grows.saved ∙ saved-taken from r.arena))
+    c.list_from.ensures.memory
+
+pub unnamed::read_lambda_sig-returns-clause-moves : goal.unnamed::read_lambda_sig-returns-clause-moves
+unnamed::read_lambda_sig-returns-clause-moves t c =
+    let old = c.args.reader.now in
+    let mid = c.read_params.new.reader in
+    let r = c.expect.new.self in
+    let from = c.pending_len-from.result in
+    let is : from ≡ length old.arena.pending = c.pending_len-from.ensures.value in
+    let after : Reader = record { rest = r.rest; arena = c.list_from.new.self; replaced = r.replaced; level = r.level; alloc = r.alloc } in
+    list_moves c.list_from.result old mid after from is (subst (λ (n : ℕ). KeepsFront n old mid) (sym is) (c.in-Ok.ensures {u = tt}).keeps)
+    (subst (λ (x : Store). KeepsNodes x c.list_from.new.self) c.expect.ensures.arena (nodes-taken from r.arena c.list_from.new.self c.list_from.ensures.grows))
+    (c.list_from.ensures.grows.pending ∙ ap (λ (x : Store). take from x.pending) c.expect.ensures.arena) (c.in-Ok-expect.ensures {u = tt}).takes

@@ -27,6 +27,9 @@ decreases-args::read_typed l = 32 * l.depth + 1
 abbrev pub decreases-compounds::read_function_type : goal.decreases-compounds::read_function_type
 decreases-compounds::read_function_type l = 32 * l.depth + 8
 
+abbrev pub decreases-compounds::read_function_inside : goal.decreases-compounds::read_function_inside
+decreases-compounds::read_function_inside l = 32 * l.depth + 6
+
 abbrev pub decreases-compounds::read_exception : goal.decreases-compounds::read_exception
 decreases-compounds::read_exception l = 32 * l.depth + 7
 

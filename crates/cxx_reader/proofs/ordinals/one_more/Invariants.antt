@@ -1,12 +1,12 @@
 use Rattle.std.proofs.Common.{◌≡◌, ◌-◌, ◌≤◌, length, drop, true}
-use Rattle.std.specs.List.{repeat}
+use Rattle.std.specs.Prelude.{replicate}
 use Rattle.cxx_grammar.specs.Ordinals.{more_of}
 use Rattle.cxx_reader.proofs.ordinals.one_more.Given as goal
 
 abbrev pub invariant-loop-k : goal.invariant-loop-k
 invariant-loop-k l = record {
-  within : l.k ≤ length l.digits.now;
-  more : more_of (drop l.k l.digits.now) ≡ record { carries = true; digits = repeat 48 (length l.digits.now - l.k) };
+  within : l.k ≤ length l.digits;
+  more : more_of (drop l.k l.digits) ≡ record { carries = true; digits = replicate (length l.digits - l.k) 48 };
 }
 
 abbrev pub decreases-loop-k : goal.decreases-loop-k

@@ -9,18 +9,9 @@ use Rattle.cxx_grammar.specs.Parses.{make}
 use Rattle.cxx_grammar.specs.State.{State}
 use Rattle.cxx_reader.specs.declared.reader.Reader.{Reader}
 use Rattle.cxx_reader.specs.Outcome.{state, list_trees, Gives}
-use Rattle.cxx_reader.proofs.Bound.{list_below-keeps, listed-grows}
+use Rattle.cxx_reader.proofs.Bound.{some-below, some-trees}
 use Rattle.cxx_reader.proofs.Kept.{gives_made}
 use Rattle.cxx_reader.proofs.reader.Reader.make_vendor_qualified.Goals as goal
-
-some-below : (a b : Store) → KeepsNodes a b → (o : Option handle.List) → IfSome o (IsListBelow a.held (size a)) → IfSome o (IsListBelow b.held (size b))
-some-below a b g None h = tt
-some-below a b g (Some l) h = list_below-keeps a b l g h
-
-some-trees : (a b : Store) → KeepsNodes a b → (o : Option handle.List) → IfSome o (IsListBelow a.held (size a)) → option_map (list_trees b) o ≡ option_map (list_trees a) o
-unfolding list_trees
-some-trees a b g None h = refl
-some-trees a b g (Some l) h = ap (λ ts. Some (trees_from_list ts)) (listed-grows a b g l h)
 
 pub make_vendor_qualified-requires-clause-args : goal.make_vendor_qualified-requires-clause-args
 make_vendor_qualified-requires-clause-args c =
