@@ -6,3 +6,4 @@ pub mod Lists
 pub mod Bound
 pub mod Unbound
 pub mod Sources
+pub mod Digits

@@ -31,7 +31,7 @@ drop-all zero (x ∷ xs) h = absurd (omega (arith, h))
 drop-all (suc n) [] h = refl
 drop-all (suc n) (x ∷ xs) h = drop-all n xs (omega (arith, h))
 
-drop-length : (xs : List ℕ) → drop (length xs) xs ≡ []
+pub drop-length : (xs : List ℕ) → drop (length xs) xs ≡ []
 drop-length [] = refl
 drop-length (x ∷ xs) = drop-length xs
 
@@ -145,7 +145,7 @@ pub row_stop : (e : Stop) (from : ℕ) (after : Reader) {whole : Option (List Tr
 row_stop Unreadable from after r f = row_fail r f
 row_stop Memory from after r f = tt
 
-drop-index : {A : Type 0} (d : A) (k : ℕ) (xs : List A) → k < length xs → drop k xs ≡ get_or xs k d ∷ drop (k + 1) xs
+pub drop-index : {A : Type 0} (d : A) (k : ℕ) (xs : List A) → k < length xs → drop k xs ≡ get_or xs k d ∷ drop (k + 1) xs
 drop-index d k [] h = absurd (omega (arith, h))
 drop-index d zero (x ∷ xs) h = refl
 drop-index d (suc k) (x ∷ xs) h =

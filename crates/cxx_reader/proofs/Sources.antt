@@ -1,22 +1,22 @@
 -- Source names that are read together with their scope.
-use Rattle.std.proofs.Common.{ℕ, ◌≡◌, List, [], ◌∷◌, refl, ◌∙◌, arith, Option, Some, None, true, false, Bool}
+use Rattle.std.proofs.Common.{ℕ, ◌≡◌, List, [], ◌∷◌, refl, arith, Option, Some, None, true, false, Bool}
 use Rattle.std.proofs.lemmas.Grind.{common_steps}
-use Rattle.std.specs.Prelude.{if◌then◌else◌, ◌||◌, codes}
+use Rattle.std.specs.Prelude.{◌||◌, codes}
 use Rattle.abi_scalars.specs.Bytes.{begins}
 use Rattle.abi_scalars.specs.Texts.{identifier, begins_source}
 use Rattle.abi_scalars.specs.Scalars.{source_text}
-use Rattle.cxx_tree.specs.Tree.{Tree, named, scoped}
+use Rattle.cxx_tree.specs.Tree.{Tree, named}
 use Rattle.cxx_tree.specs.Measure.{measure}
 use Rattle.cxx_tree.proofs.InScope.{name-limit}
 use Rattle.cxx_grammar.specs.declared.cases.BaseCase.TheVariants as base
 use Rattle.cxx_grammar.specs.declared.cases.ComponentCase.TheVariants as component
 use Rattle.cxx_grammar.specs.State.{State, Info, LearnedName}
-use Rattle.cxx_grammar.specs.Parses.{Parses, ◌>>=◌, ◌>>◌, and_then, pure, given, with_rest, make, past_word_if}
+use Rattle.cxx_grammar.specs.Parses.{Parses, ◌>>=◌, and_then, pure, with_rest, past_word_if}
 use Rattle.cxx_grammar.specs.Cases.{case_of_component, case_of_base}
-use Rattle.cxx_grammar.specs.Leaves.{parse_source_name, parse_abi_tag, parse_abi_tags, is_tags_end}
-use Rattle.cxx_grammar.specs.Names.{Place, Part, parse_unqualified_name, part_as, base_as, make_in_scope}
+use Rattle.cxx_grammar.specs.Leaves.{parse_abi_tag, parse_abi_tags, is_tags_end}
+use Rattle.cxx_grammar.specs.Names.{Place, parse_unqualified_name, part_as, base_as, make_in_scope}
 use Rattle.cxx_grammar.specs.Productions.{Productions}
-use Rattle.cxx_reader.specs.Sources.{source_in, parse_source_at}
+use Rattle.cxx_reader.specs.Sources.{parse_source_at}
 use Rattle.cxx_reader.proofs.Turns.{steps_start, steps_end}
 
 no_mark : (s : State) → begins_source s.rest ≡ true → past_word_if (codes "L") s ≡ Some (false, s)
@@ -54,12 +54,15 @@ source_at p scope is_nested info s e (Some n) f = go (measure (named (source_tex
   where
     after : State
     after = with_rest n.1 s
+
     named_by : Tree → Parses LearnedName
     named_by t = pure (record { tree = t; info = info })
+
     tagged_same : (scope : Option Tree) (o : Option (Tree × State))
         → and_then o (λ tagged. make_in_scope scope tagged >>= named_by) ≡ and_then (and_then o (λ tagged. make_in_scope scope tagged)) named_by
     tagged_same scope None = refl
     tagged_same scope (Some t) = refl
+
     go : (fits is_tagged : Bool) (scope : Option Tree) → (measure (named (source_text n.0))).fits ≡ fits → begins (codes "B") n.1 ≡ is_tagged
         → parse_unqualified_name p (at scope is_nested info) s ≡ parse_source_at (at scope is_nested info) s
     go true true scope g h = rw (no_mark s e, unqualified s.rest e, source s.rest e, f, g, h, or_false info.no_return) (tagged_same scope (parse_abi_tags (named (source_text n.0)) after))

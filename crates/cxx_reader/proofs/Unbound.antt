@@ -1,5 +1,5 @@
 -- Encodings that the arguments of their names don't change.
-use Rattle.std.proofs.Common.{ℕ, ◌≡◌, ◌+◌, List, [], ◌∷◌, ◌++◌, length, refl, sym, ap, arith, zero, suc, Option, Some, None, true, false, Bool, ◌&&◌}
+use Rattle.std.proofs.Common.{ℕ, ◌≡◌, ◌+◌, List, [], ◌∷◌, ◌++◌, length, refl, sym, arith, zero, suc, Option, Some, None, true, false, Bool, ◌&&◌}
 use Rattle.std.specs.Prelude.{if◌then◌else◌}
 use mathlib.Core.Bool.{true≢false}
 use Rattle.cxx_tree.specs.Tree.{Tree, Trees, named, leaf, std_name, phrase, scoped, with_args, abi_tag, in_module, data_name, objc_protocol, listed, expansion, param, type_param, non_type_param, template_param, pack_param, qualified, pointer, reference, member_pointer, array, function, encoding, pack, no_trees, more_trees}

@@ -1,9 +1,9 @@
 -- Source names that are read together with their scope.
-use Rattle.std.specs.Prelude.{ℕ, List, codes, false, Option, Some, None}
+use Rattle.std.specs.Prelude.{ℕ, List, false, Option, Some, None}
 use Rattle.abi_scalars.specs.Scalars.{source_text}
 use Rattle.cxx_tree.specs.Tree.{Tree, named, scoped}
 use Rattle.cxx_grammar.specs.State.{LearnedName}
-use Rattle.cxx_grammar.specs.Parses.{Parses, ◌>>=◌, ◌>>◌, pure, if_next, make}
+use Rattle.cxx_grammar.specs.Parses.{Parses, ◌>>=◌, pure, if_next, make}
 use Rattle.cxx_grammar.specs.Leaves.{parse_identifier, parse_abi_tags}
 use Rattle.cxx_grammar.specs.Names.{Place, make_in_scope}
 

@@ -8,8 +8,8 @@ ghost use Rattle.cxx_grammar.specs.Cases as spec;
 
 use crate::words::{builtin_of, integer_of};
 use cxx_grammar::cases::{
-    ArgCase, BaseCase, ComponentCase, EncodingCase, ExceptionCase, FirstCase, LiteralCase, LocalCase,
-    NameCase, PrefixCase, TypeCase,
+    ArgCase, BaseCase, ComponentCase, EncodingCase, ExceptionCase, FirstCase, LiteralCase,
+    LocalCase, NameCase, PrefixCase, TypeCase,
 };
 
 /// Returns whether a letter is next.

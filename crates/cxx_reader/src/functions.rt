@@ -151,11 +151,16 @@ impl<'a> Reader<'a> {
         ensures rest { OnOk result (self.new.rest.now ≡ self.old.rest.now) }
     {
         if is_complex {
-            return self
-                .arena
-                .make_suffixed(t, NodeText::Fixed(b" complex"), NodeText::Fixed(b" _Complex"));
+            return self.arena.make_suffixed(
+                t,
+                NodeText::Fixed(b" complex"),
+                NodeText::Fixed(b" _Complex"),
+            );
         }
-        self.arena
-            .make_suffixed(t, NodeText::Fixed(b" imaginary"), NodeText::Fixed(b" _Imaginary"))
+        self.arena.make_suffixed(
+            t,
+            NodeText::Fixed(b" imaginary"),
+            NodeText::Fixed(b" _Imaginary"),
+        )
     }
 }

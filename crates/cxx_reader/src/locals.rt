@@ -131,7 +131,8 @@ impl<'a> Reader<'a> {
         self.rest = rest;
         tri!(self.expect(b'_'));
         let count = tri!(self.make_count(number, without_sign(number)));
-        self.arena.make_default_arg(scope, count.text, count.ordinal)
+        self.arena
+            .make_default_arg(scope, count.text, count.ordinal)
     }
 
     // Skips `[<discriminator>]`.

@@ -1,7 +1,7 @@
 //! The numbers of entities that have no name, counted from 1.
 #![tactic(auto, unfolding(cxx_grammar::specs::Ordinals::without_zeros, cxx_grammar::specs::Ordinals::ordinal_digits))]
 
-ghost use Rattle.std.specs.Prelude.{◌≡◌, IfOk};
+ghost use Rattle.std.specs.Prelude.{◌≡◌, ◌<◌, ◌≤◌, ◌-◌, length, drop, replicate, slice_index, true, IfOk};
 ghost use Rattle.cxx_grammar.specs.Ordinals as spec;
 
 use std::alloc::{AllocError, Global};
@@ -25,17 +25,32 @@ pub fn ordinal(alloc: Global, digits: &[u8]) -> Result<Vec<u8>, AllocError>
 fn one_more(alloc: Global, digits: &[u8]) -> Result<Vec<u8>, AllocError>
     ensures value { IfOk result (λ more. more.items ≡ spec.one_more digits.now) }
 {
+    let k = before_nines(digits);
+    let mut more = Vec::new(alloc);
+    if k == 0 {
+        more.resize(digits.len(), b'0')?;
+        return Ok(more);
+    }
+    more.extend_from_slice(&digits[..k - 1])?;
+    more.push(digits[k - 1] + 1)?;
+    more.resize(digits.len(), b'0')?;
+    Ok(more)
+}
+
+// Returns how many digits stand in front of the nines at the end.
+fn before_nines(digits: &[u8]) -> usize
+    ensures within { result ≤ length digits.now }
+    ensures more { spec.more_of (drop result digits.now) ≡ record {
+      carries = true;
+      digits = replicate (length digits.now - result) 48;
+    } }
+    ensures digit { 0 < result → slice_index digits.now (result - 1) < 57 }
+{
     let mut k = digits.len();
     while k > 0 && digits[k - 1] >= b'9' {
         k -= 1;
     }
-    let mut more = Vec::new(alloc);
-    if k > 0 {
-        more.extend_from_slice(&digits[..k - 1])?;
-        more.push(digits[k - 1] + 1)?;
-    }
-    more.resize(digits.len(), b'0')?;
-    Ok(more)
+    k
 }
 
 /// Returns the digits without the zeros in front.

@@ -113,7 +113,22 @@ impl<'a> Reader<'a> {
         ensures arena { self.new.arena ≡ self.old.arena }
     {
         match self.rest {
-            [b'_', b'b', b'l', b'o', b'c', b'k', b'_', b'i', b'n', b'v', b'o', b'k', b'e', ..] => self.skip(13),
+            [
+                b'_',
+                b'b',
+                b'l',
+                b'o',
+                b'c',
+                b'k',
+                b'_',
+                b'i',
+                b'n',
+                b'v',
+                b'o',
+                b'k',
+                b'e',
+                ..
+            ] => self.skip(13),
             _ => return Err(Stop::Unreadable),
         }
         if self.skip_letter(b'_') {

@@ -120,7 +120,18 @@ fn protocol_of(qualifier: &[u8]) -> Option<&[u8]>
     ensures value { option_map (λ inside. inside.now) result ≡ spec.protocol_of qualifier.now }
 {
     match qualifier {
-        [b'o', b'b', b'j', b'c', b'p', b'r', b'o', b't', b'o', inside @ ..] => if inside.is_empty() {
+        [
+            b'o',
+            b'b',
+            b'j',
+            b'c',
+            b'p',
+            b'r',
+            b'o',
+            b't',
+            b'o',
+            inside @ ..,
+        ] => if inside.is_empty() {
             None
         } else {
             Some(inside)

@@ -9,15 +9,15 @@ use Rattle.cxx_grammar.specs.Binds.{bind_encoding}
 use Rattle.cxx_grammar.specs.Encodings.{parse_named_encoding}
 use Rattle.cxx_grammar.specs.declared.rows.End.TheVariants as end
 use Rattle.cxx_grammar.specs.declared.rows.Item.TheVariants as item
-use Rattle.cxx_grammar.specs.Parses.{◌>>=◌, skip, item_more, is_e, repeat, make}
-use Rattle.cxx_grammar.specs.Rows.{ends, tree_as, item_as, parse_items, list_after, parse_some_params, parse_params}
-use Rattle.cxx_grammar.specs.Names.{parse_next, parse_components}
+use Rattle.cxx_grammar.specs.Parses.{◌>>=◌, skip, make}
+use Rattle.cxx_grammar.specs.Rows.{ends, tree_as, parse_items, list_after, parse_some_params, parse_params}
+use Rattle.cxx_grammar.specs.Names.{parse_components}
 use Rattle.cxx_grammar.specs.Symbol.{productions}
 use Rattle.cxx_reader.specs.declared.reader.Reader.{Reader}
 use Rattle.cxx_reader.specs.Rows.{row_at}
 use Rattle.cxx_reader.specs.Outcome.{state, trees_behind, IsNamed, named_at, place_at, list_trees, Gives, GivesNamed, GivesFrom, KeepsFront}
 use Rattle.cxx_reader.proofs.Kept.{gives_made, named_stays, Keeps-trans, Keeps-arena, Moves-skip, Moves-front, Moves-trans, Moves-after}
-use Rattle.cxx_reader.proofs.Turns.{SoFar, steps_start, steps_more, steps_end, ItemsSoFar, row_start, row_more, row_end}
+use Rattle.cxx_reader.proofs.Turns.{steps_more, steps_end, row_more, row_end}
 use Rattle.cxx_reader.proofs.Lists.{Pushed, none-yet, none-below, one-more, close_gives, close_moves, pushed, KeepsFront-trans, collected, item_stop, items_stop, next_item, no_item, row_none, row_read, row_stop, list_stop, listed_gives, list_moves, components_stop, components_end}
 use Rattle.cxx_reader.proofs.Bound.{some-below, some-trees}
 use Rattle.cxx_reader.proofs.Sources.{source_named}
@@ -240,6 +240,7 @@ vendors::read_other_qualified-returns-clause-reads t c =
     (subst (λ (o : Option Trees). Gives c.make_vendor_qualified.result c.make_vendor_qualified.new.self (make (vendor_qualified t c.args.qualifier.now o) (state end))) same c.make_vendor_qualified.ensures.reads)
 
 pub names::read_conversion-returns-clause-reads : goal.names::read_conversion-returns-clause-reads
+unfolding stands
 names::read_conversion-returns-clause-reads t c =
     let p = productions c.args.depth in
     let r = c.read_type.new.reader in

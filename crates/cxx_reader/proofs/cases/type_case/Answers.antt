@@ -1,5 +1,4 @@
-use Rattle.std.proofs.Common.{rules, arith}
-use Rattle.std.proofs.lemmas.Grind.{common_steps}
+use Rattle.std.proofs.Common.{rules}
 use Rattle.cxx_reader.proofs.cases.type_case.Goals as goal
 
 pub returns-else-is_some : goal.returns-else-is_some

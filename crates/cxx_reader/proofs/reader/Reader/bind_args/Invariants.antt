@@ -1,9 +1,8 @@
-use Rattle.std.proofs.Common.{◌≡◌, ◌≤◌, [], length, map, drop, take}
+use Rattle.std.proofs.Common.{◌≡◌, ◌≤◌, [], length, drop, take}
 use Rattle.std.specs.List.{AllByRecursion}
 use Rattle.cxx_tree.specs.Kept.{KeepsNodes, IsNode}
 use Rattle.cxx_tree.specs.Stored.{list_at}
 use Rattle.cxx_grammar.specs.Binds.{bind_args}
-use Rattle.cxx_tree.specs.Stored.{stands}
 use Rattle.cxx_reader.specs.Outcome.{state, trees_behind, list_trees}
 use Rattle.cxx_reader.proofs.Bound.{BoundSoFar, listed}
 use Rattle.cxx_reader.proofs.reader.Reader.bind_args.Given as goal

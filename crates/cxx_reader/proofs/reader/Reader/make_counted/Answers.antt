@@ -1,7 +1,7 @@
-use Rattle.std.proofs.Common.{ℕ, List, ◌≡◌, ap, subst, None}
+use Rattle.std.proofs.Common.{ℕ, List, ap, subst, None}
 use Rattle.cxx_tree.specs.Phrases.{closure}
 use Rattle.cxx_tree.specs.Stored.{text_at, trees_from_list}
-use Rattle.cxx_tree.specs.Tree.{Tree, Trees, no_trees}
+use Rattle.cxx_tree.specs.Tree.{Trees, no_trees}
 use Rattle.cxx_grammar.specs.Ordinals.{ordinal_of}
 use Rattle.cxx_grammar.specs.Parses.{make}
 use Rattle.cxx_grammar.specs.State.{State}

@@ -1,4 +1,4 @@
-use Rattle.std.proofs.Common.{◌≡◌, refl, ◌∙◌, ap, subst}
+use Rattle.std.proofs.Common.{◌≡◌, ◌∙◌, ap, subst}
 use Rattle.std.specs.Prelude.{OnOk}
 use Rattle.cxx_tree.specs.Grows.{Grows}
 use Rattle.cxx_tree.specs.Kept.{KeepsNodes, taken}
@@ -21,7 +21,7 @@ returns-clause-reads c =
     let listed = simp (c.list_from.ensures.forest, (c.in-Ok-list_from.ensures {u = tt}).trees) at c.make_function_type.ensures.makes in
     let made = simp same at listed in
     let gives = gives_taken c.make_function_type.result after a c.args.from _ _ (Makes-after c.make_function_type.result (taken c.args.from a) b d _ grows made)
-        (ap (λ (x : Store). record { rest = r.rest.now; saved = saved_trees x; replaced = r.replaced; level = r.level }) same) in
+    (ap (λ (x : Store). record { rest = r.rest.now; saved = saved_trees x; replaced = r.replaced; level = r.level }) same) in
     rw (c.read_ref_qual-ref_qual.ensures.reads, (c.in-Ok.ensures {u = tt}).reads) gives
 
 pub returns-clause-grows : goal.returns-clause-grows

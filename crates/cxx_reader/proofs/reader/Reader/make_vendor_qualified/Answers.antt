@@ -1,9 +1,7 @@
-use Rattle.std.proofs.Common.{ℕ, List, ◌≡◌, refl, sym, ap, ◌∙◌, subst, Option, Some, None}
-use Rattle.std.specs.Prelude.{IfSome, option_map}
-use Rattle.cxx_tree.specs.declared.node.List as handle
-use Rattle.cxx_tree.specs.Kept.{KeepsNodes}
+use Rattle.std.proofs.Common.{ℕ, List, refl, subst, Option}
+use Rattle.std.specs.Prelude.{option_map}
 use Rattle.cxx_tree.specs.Phrases.{vendor_qualified}
-use Rattle.cxx_tree.specs.Stored.{Store, stands, size, trees_from_list, IsListBelow}
+use Rattle.cxx_tree.specs.Stored.{stands}
 use Rattle.cxx_tree.specs.Tree.{Tree, Trees}
 use Rattle.cxx_grammar.specs.Parses.{make}
 use Rattle.cxx_grammar.specs.State.{State}

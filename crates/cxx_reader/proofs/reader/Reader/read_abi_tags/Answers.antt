@@ -1,7 +1,6 @@
-use Rattle.std.proofs.Common.{◌∙◌, ap, sym, Err}
-use Rattle.std.specs.Prelude.{not, codes}
+use Rattle.std.proofs.Common.{◌∙◌, ap, sym}
+use Rattle.std.specs.Prelude.{not}
 use Rattle.cxx_grammar.specs.Leaves.{parse_abi_tags}
-use Rattle.cxx_reader.specs.Outcome.{Gives}
 use Rattle.cxx_reader.proofs.Kept.{Keeps-trans}
 use Rattle.cxx_reader.proofs.Turns.{steps_more, steps_end, tree_stop}
 use Rattle.cxx_reader.proofs.reader.Reader.read_abi_tags.Goals as goal

@@ -1,11 +1,11 @@
-use Rattle.std.proofs.Common.{◌≡◌, refl, sym, ap, ◌∙◌, subst, true}
+use Rattle.std.proofs.Common.{◌≡◌, refl, sym, ◌∙◌, subst, true}
 use Rattle.std.specs.Prelude.{codes}
 use Rattle.abi_scalars.specs.Bytes.{begins}
 use Rattle.cxx_grammar.specs.State.{State}
-use Rattle.cxx_grammar.specs.Parses.{skip, if_next, ◌>>◌, past}
+use Rattle.cxx_grammar.specs.Parses.{if_next, ◌>>◌, past}
 use Rattle.cxx_grammar.specs.Leaves.{make_word, parse_float_type, parse_numbered_float}
 use Rattle.cxx_reader.specs.declared.reader.Reader.{Reader}
-use Rattle.cxx_reader.specs.Outcome.{state, Gives}
+use Rattle.cxx_reader.specs.Outcome.{Gives}
 use Rattle.cxx_reader.proofs.Kept.{gives_made}
 use Rattle.cxx_reader.proofs.reader.Reader.read_float_type.Goals as goal
 

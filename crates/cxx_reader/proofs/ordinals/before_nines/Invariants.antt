@@ -1,7 +1,7 @@
 use Rattle.std.proofs.Common.{◌≡◌, ◌-◌, ◌≤◌, length, drop, true}
 use Rattle.std.specs.Prelude.{replicate}
 use Rattle.cxx_grammar.specs.Ordinals.{more_of}
-use Rattle.cxx_reader.proofs.ordinals.one_more.Given as goal
+use Rattle.cxx_reader.proofs.ordinals.before_nines.Given as goal
 
 abbrev pub invariant-loop-k : goal.invariant-loop-k
 invariant-loop-k l = record {
