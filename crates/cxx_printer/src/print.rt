@@ -552,15 +552,26 @@ fn print_any_item(
     let before = out.len();
     tri!(write_separator(is_first, out));
     let start = out.len();
-    if env.is_llvm() {
-        tri!(print_operand(arena, env, Prec::Comma, false, t, out));
-    } else {
-        tri!(print(arena, env, t, out));
-    }
+    tri!(print_item_text(arena, env, t, out));
     if out.len() == start {
         out.truncate(before);
     }
     Ok(())
+}
+
+// Appends what an item prints. Its parentheses are written here, so that no call of `print_enclosed` takes stack.
+#[inline(always)]
+#[cycle(printer)]
+fn print_item_text(arena: &Arena, env: Env, t: u32, out: &mut Text) -> Result<(), AllocError>
+    requires within { t < size arena.now }
+    ensures prints { Prints result out.old out.new (spec.item_text env (item (tree_at (forest arena.now) t))) }
+{
+    if !env.is_llvm() || is_tight(prec_of(arena, t), Prec::Comma, false) {
+        return print(arena, env, t, out);
+    }
+    tri!(write(out, b"("));
+    tri!(print(arena, env.enclosed(), t, out));
+    write(out, b")")
 }
 
 // Appends an operand: the tree, in parentheses if it is looser than the precedence, or as loose and `loose` is false.

@@ -77,6 +77,10 @@ const SHAPES: &[(&str, Shape)] = &[
     ("count", |a, t, _| manner(a, Manner::Count(true), t)),
     ("folded", |a, t, _| manner(a, Manner::Folded, t)),
     ("items", |a, t, _| listing(a, Listing::Items, t)),
+    ("items, second", |a, t, x| {
+        let list = a.list(&[x, t])?;
+        phrase(a, Guard::Open, Part::Trees(Listing::Items, list))
+    }),
     ("items, enclosed", |a, t, _| listing(a, Listing::Enclosed, t)),
     ("parentheses", |a, t, _| listing(a, Listing::Parens, t)),
     ("angle brackets", |a, t, _| listing(a, Listing::Angles, t)),

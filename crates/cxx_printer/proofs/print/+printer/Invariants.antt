@@ -130,6 +130,9 @@ decreases-print_expansion l = 64 * height_at l.arena.now l.t + 47
 abbrev pub decreases-print_item : goal.decreases-print_item
 decreases-print_item l = 64 * height_at l.arena.now l.t + 48
 
+abbrev pub decreases-print_item_text : goal.decreases-print_item_text
+decreases-print_item_text l = 64 * height_at l.arena.now l.t + 42
+
 abbrev pub decreases-print_operand : goal.decreases-print_operand
 decreases-print_operand l = 64 * height_at l.arena.now l.t + 42
 
