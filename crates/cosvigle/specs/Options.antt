@@ -20,7 +20,7 @@ use Rattle.cosvigle.specs.declared.symbols.Printing.TheVariants.{Names, Signatur
 use Rattle.cxx_printer.specs.declared.symbol.Mode.{Mode}
 use Rattle.cxx_printer.specs.declared.symbol.Mode.TheVariants as mode
 use Rattle.cxx_printer.specs.declared.env.Style.{Style}
-use Rattle.cxx_printer.specs.declared.env.Style.TheVariants.{Llvm, Gnu}
+use Rattle.cxx_printer.specs.declared.env.Style.TheVariants.{Llvm, Gnu, GnuShort}
 use Rattle.cosvigle.specs.declared.option_names.Found.{Found}
 use Rattle.cosvigle.specs.declared.option_names.Found.TheVariants.{Nothing, Prefix, Several, Exact}
 use Rattle.cosvigle.specs.declared.option_names.LongOption.{LongOption}
@@ -55,6 +55,9 @@ with_no_return on flags = record flags { no_return = on }
 abbrev pub with_style : Style → Flags → Flags
 with_style style flags = record flags { style = style }
 
+abbrev pub with_brief : Bool → Flags → Flags
+with_brief on flags = record flags { brief = on }
+
 -- how much of a declaration is printed: the name where parameters are left out, and else the return type too unless it
 -- is left out
 abbrev pub mode_with : Params → Bool → Mode
@@ -65,6 +68,15 @@ mode_with Printed no_return = if no_return then mode.Signature else mode.Declara
 abbrev pub mode_of : Flags → Mode
 mode_of flags = mode_with flags.params flags.no_return
 
+-- the style of declarations: in GNU's style the abbreviations of `std` are written out, unless they are to stay
+abbrev pub style_with : Style → Bool → Style
+style_with Llvm brief = Llvm
+style_with Gnu brief = if brief then GnuShort else Gnu
+style_with GnuShort brief = GnuShort
+
+abbrev pub style_of : Flags → Style
+style_of flags = style_with flags.style flags.brief
+
 -- without declarations: names, unless parameters are asked for
 abbrev pub plain_printing : Params → Printing
 plain_printing Unsaid = Names
@@ -74,7 +86,7 @@ plain_printing LeftOut = Names
 -- what is printed for a symbol
 abbrev pub printing_of : Flags → Printing
 printing_of flags =
-    if flags.declarations then Declarations (record { mode = mode_of flags; style = flags.style; limit = None }) else
+    if flags.declarations then Declarations (record { mode = mode_of flags; style = style_of flags; limit = None }) else
     plain_printing flags.params
 
 -- what a format asks for
@@ -89,6 +101,7 @@ abbrev pub after_style : Flags → List ℕ → OptionState
 after_style flags style =
     if same (codes "llvm") style then Ready (with_style Llvm flags) else
     if same (codes "gnu") style then Ready (with_style Gnu flags) else
+    if same (codes "gnu-short") style then Ready (with_style GnuShort flags) else
     Exit instead.UnknownStyle
 
 -- what the value of an option asks for
@@ -104,7 +117,8 @@ after_letter flags letter =
     if is "l" letter then Ready (with_lines true flags) else
     if is "p" letter then Ready (with_params LeftOut flags) else
     if is "P" letter then Ready (with_params Printed flags) else
-    if one_of (codes "irR") letter then Ready flags else
+    if is "i" letter then Ready (with_brief true flags) else
+    if one_of (codes "rR") letter then Ready flags else
     if is "s" letter then NeedsValue flags valued.Format else
     if is "t" letter then Exit instead.TypesAlone else
     if is "h" letter then Exit instead.Help else
@@ -252,6 +266,7 @@ no_flags = record {
   declarations = false;
   no_return = false;
   style = Llvm;
+  brief = false;
 }
 
 -- the bytes of texts

@@ -9,17 +9,17 @@ Without symbols it copies standard input, with names in place of symbols.
 
   -_, --strip-underscore     a symbol may begin with ___Z
   -n, --no-strip-underscores a symbol may not begin with ___Z (default)
-  -P, --params               print names with their parameters
-  -p, --no-params            print names without parameters (default)
+  -P, --params; -p, --no-params  print parameters; leave them out (default)
   -l, --lines                each line of the input is one symbol; -_ is ignored
   -s, --format=FORMAT        auto or gnu-v3: read symbols; none: read no symbol
       --declarations         print declarations, with their return types
       --no-return            print declarations without return types
-      --style=STYLE          print declarations as llvm (default) or gnu does
+      --style=STYLE          as llvm prints them (default), gnu or gnu-short
+  -i, --no-verbose           print gnu-short where gnu is asked for
   -h, --help; -v, --version  print this text; print the version
   @FILE                      stands for the words of this file
   --                         all arguments after it are symbols
-  no effect: -i, --no-verbose; -r, --no-recurse-limit; -R, --recurse-limit
+  no effect: -r, --no-recurse-limit; -R, --recurse-limit
 Letters may be grouped, and long names may be shortened.
 
 examples:

@@ -36,6 +36,8 @@ pub struct Flags {
     pub no_return: bool,
     /// The style of declarations.
     pub style: Style,
+    /// Whether GNU's style has the abbreviations of `std` as they are.
+    pub brief: bool,
 }
 
 /// Returns how much of a declaration is printed.
@@ -49,6 +51,16 @@ fn mode_of(flags: Flags) -> Mode
     }
 }
 
+/// Returns the style in which declarations are printed.
+fn style_of(flags: Flags) -> Style
+    ensures value { result ≡ spec.style_of flags }
+{
+    match flags.style {
+        Style::Gnu if flags.brief => Style::GnuShort,
+        style => style,
+    }
+}
+
 /// Returns what is printed for a symbol.
 pub fn printing_of(flags: Flags) -> Printing
     ensures value { result ≡ spec.printing_of flags }
@@ -56,7 +68,7 @@ pub fn printing_of(flags: Flags) -> Printing
     if flags.declarations {
         return Printing::Declarations(cxx_demangle::Printing {
             mode: mode_of(flags),
-            style: flags.style,
+            style: style_of(flags),
             limit: None,
         });
     }
@@ -150,6 +162,10 @@ fn after_style(flags: Flags, style: &[u8]) -> OptionState
             style: Style::Gnu,
             ..flags
         }),
+        [b'g', b'n', b'u', b'-', b's', b'h', b'o', b'r', b't'] => OptionState::Ready(Flags {
+            style: Style::GnuShort,
+            ..flags
+        }),
         _ => OptionState::Exit(EarlyExit::UnknownStyle),
     }
 }
@@ -189,7 +205,11 @@ fn after_letter(flags: Flags, letter: u8) -> OptionState
             params: Params::Printed,
             ..flags
         }),
-        b'i' | b'r' | b'R' => OptionState::Ready(flags),
+        b'i' => OptionState::Ready(Flags {
+            brief: true,
+            ..flags
+        }),
+        b'r' | b'R' => OptionState::Ready(flags),
         b's' => OptionState::NeedsValue(flags, Valued::Format),
         b't' => OptionState::Exit(EarlyExit::TypesAlone),
         b'h' => OptionState::Exit(EarlyExit::Help),
@@ -328,6 +348,7 @@ pub fn read_arguments<'a>(alloc: Global, arguments: &[&'a [u8]]) -> Result<Reque
         declarations: false,
         no_return: false,
         style: Style::Llvm,
+        brief: false,
     });
     let mut symbols = Vec::new(alloc);
     // The last argument that was an option or the value of one.

@@ -1,5 +1,5 @@
 -- Answers by computation.
-use Rattle.std.proofs.Common.{◌≡◌, ℕ, List, [], ◌∷◌, true, Option, Some, None, refl, sym, codes, length, ◌≤◌, arith}
+use Rattle.std.proofs.Common.{◌≡◌, ℕ, List, true, Option, Some, None, refl, sym, codes, length, ◌≤◌, arith}
 use Rattle.std.specs.Prelude.{option_map}
 use Rattle.std.specs.Str.{is_utf8, chars}
 use Rattle.std.proofs.lemmas.Str.{IsUtf8-from_is_utf8}

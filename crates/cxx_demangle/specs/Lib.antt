@@ -1,3 +1,4 @@
 pub mod Answer
 pub mod Demangler
 pub mod Examples
+pub mod Parts

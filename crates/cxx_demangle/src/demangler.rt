@@ -10,10 +10,17 @@ ghost use Rattle.cxx_tree.specs.Stored.{stands};
 ghost use Rattle.cxx_tree.specs.Kept.{IsNode};
 ghost use Rattle.cxx_demangle.specs.Answer as spec;
 ghost use Rattle.cxx_demangle.specs.Answer.{IsAnswer, HasAtMostOneReading, HasBounds, IsText, text_of};
-ghost use Rattle.cxx_demangle.specs.Demangler.{GivesWhole};
+ghost use Rattle.cxx_demangle.specs.Demangler.{GivesWhole, last_tree};
+ghost use Rattle.cxx_demangle.specs.Parts as parts;
+ghost use Rattle.cxx_grammar.specs.Symbol.{parse_symbol};
+ghost use Rattle.cxx_printer.specs.Parts.{base_name_text, context_text, parameters_text, return_type_text};
+ghost use Rattle.cxx_printer.specs.Prints.{Prints};
 
 use abi_scalars::utf8::is_utf8;
-use cxx_printer::{Mode, Style, Symbol, print_symbol};
+use cxx_printer::{
+    Kind, Mode, Style, Symbol, has_qualifiers, kind_of, print_base_name, print_context,
+    print_parameters, print_return_type, print_symbol,
+};
 use cxx_reader::{Reader, Reading, read_symbol};
 use cxx_tree::{Arena, Stop};
 use growing_text::Text;
@@ -45,12 +52,15 @@ pub struct Printing {
     pub limit: Option<usize>,
 }
 
-/// Demangles symbol after symbol in the same memory, and keeps the last answer.
+/// Demangles symbol after symbol in the same memory, and keeps the last answer, and the tree that the last symbol was
+/// read as.
 #[derive(Drop)]
 pub struct Demangler {
     // Whether the last symbol had an answer, which is the text.
     is_answered: bool,
     text: Text,
+    // The node of the last symbol's tree, if it was read.
+    node: Option<u32>,
     // Where symbols are read. Its memory stays.
     arena: Arena,
 }
@@ -148,12 +158,13 @@ impl Demangler {
 
     /// Returns a value that has read no symbol. Allocates nothing.
     pub fn new(alloc: Global) -> Self
-        ensures empty { result.text ≡ None }
+        ensures empty { (result.text ≡ None) × (result.node ≡ None) }
         ensures nothing { IsWithin 0 result.store }
     {
         Demangler {
             is_answered: false,
             text: Text::new(alloc),
+            node: None,
             arena: Arena::new(alloc),
         }
     }
@@ -181,15 +192,18 @@ impl Demangler {
         ensures found { IfOk result (λ found. found ≡ is_some self.new.text) }
         ensures one { HasAtMostOneReading symbol.now }
         ensures no_prefix { symbols.after_prefix symbol.now ≡ None → (result ≡ Ok false) × (self.new.text ≡ None) }
-        ensures err { OnErr result (self.new.text ≡ None) }
+        ensures err { OnErr result ((self.new.text ≡ None) × (self.new.node ≡ None)) }
+        ensures reads { IfOk result (λ _. parse_symbol symbol.now ≡ last_tree self.new) }
         ensures bounds { HasBounds printing symbol.now self.new.store }
     {
         self.is_answered = false;
+        self.node = None;
         let limit = limit_of(printing.limit, symbol.len());
         let Some(reading) = read(&mut self.arena, alloc, symbol.as_bytes(), limit)? else {
             return Ok(false);
         };
         print(&self.arena, reading, printing, &mut self.text)?;
+        self.reading = Some(reading);
         let is_answered = is_answer(self.text.as_slice());
         self.is_answered = is_answered;
         Ok(is_answered)
@@ -222,11 +236,76 @@ impl Demangler {
         ensures* kept { sem 𝓛 (follows_so the_row the_row self.entry.ghost_name none (λ _ _. ⊤)
             (λ last. MatchResult result
             (λ found. (last.text ≡ option_map (λ text. text.now) found)
+            × (parse_symbol symbol.now ≡ last_tree last)
             × HasBounds printing symbol.now last.store)
-            (λ _. (last.text ≡ None) × HasBounds printing symbol.now last.store))) }
+            (λ _. (last.text ≡ None) × (last.node ≡ None) × HasBounds printing symbol.now last.store))) }
     {
         self.prepare(alloc, symbol, printing)?;
         Ok(self.text())
+    }
+
+    /// Returns what the last symbol stands for, whether it had an answer or not. Returns `None` if it wasn't read, after
+    /// an error, and before the first symbol.
+    pub fn kind(&self) -> Option<Kind>
+        ensures value { result ≡ parts.kind_of (last_tree self.now) }
+    {
+        match self.node {
+            None => None,
+            Some(tree) => Some(kind_of(&self.arena, tree)),
+        }
+    }
+
+    /// Returns whether the last symbol is that of a member function with qualifiers, such as `const` or `&&`.
+    pub fn has_qualifiers(&self) -> bool
+        ensures value { result ≡ parts.has_qualifiers (last_tree self.now) }
+    {
+        match self.node {
+            None => false,
+            Some(tree) => has_qualifiers(&self.arena, tree),
+        }
+    }
+
+    /// Appends the base of the name of the last symbol, if that is the one of a function or of data: what is left
+    /// without scopes, template arguments, ABI tags and module. Where `kind` is another, nothing is appended by this
+    /// method, nor by the next three.
+    pub fn print_base_name(&self, style: Style, out: &mut Text) -> Result<(), AllocError>
+        ensures prints { Prints result out.old out.new (parts.part_of base_name_text style (last_tree self.now)) }
+    {
+        match self.node {
+            None => Ok(()),
+            Some(tree) => print_base_name(&self.arena, tree, style, out),
+        }
+    }
+
+    /// Appends the scopes around the base of the name, from the outermost one, with `::` between. A name that isn't in
+    /// a scope has none.
+    pub fn print_context(&self, style: Style, out: &mut Text) -> Result<(), AllocError>
+        ensures prints { Prints result out.old out.new (parts.part_of context_text style (last_tree self.now)) }
+    {
+        match self.node {
+            None => Ok(()),
+            Some(tree) => print_context(&self.arena, tree, style, out),
+        }
+    }
+
+    /// Appends the parameters of a function, in parentheses.
+    pub fn print_parameters(&self, style: Style, out: &mut Text) -> Result<(), AllocError>
+        ensures prints { Prints result out.old out.new (parts.part_of parameters_text style (last_tree self.now)) }
+    {
+        match self.node {
+            None => Ok(()),
+            Some(tree) => print_parameters(&self.arena, tree, style, out),
+        }
+    }
+
+    /// Appends the return type of a function, if its symbol has one.
+    pub fn print_return_type(&self, style: Style, out: &mut Text) -> Result<(), AllocError>
+        ensures prints { Prints result out.old out.new (parts.part_of return_type_text style (last_tree self.now)) }
+    {
+        match self.node {
+            None => Ok(()),
+            Some(tree) => print_return_type(&self.arena, tree, style, out),
+        }
     }
 }
 

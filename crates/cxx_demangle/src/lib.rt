@@ -9,4 +9,5 @@ mod demangler;
 pub mod laws;
 
 pub use crate::demangler::{Demangler, MAX_DEPTH, MAX_TEXT, Printing};
-pub use cxx_printer::{Mode, Style};
+pub use cxx_printer::{Kind, Mode, Style};
+pub use growing_text::Text;

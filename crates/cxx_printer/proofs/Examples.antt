@@ -5,7 +5,8 @@ use Rattle.cxx_printer.specs.Words.{ending, short_std_text, long_std_text, std_t
 use Rattle.cxx_printer.specs.Heads.{prec_of, rank, is_simple, has_args, is_designator, is_scoped, is_objc_object, protocol_of, count_item, count_items, count_of}
 use Rattle.cxx_printer.specs.Print.{print, list_from, last_ends, sequence, separated, repeated}
 use Rattle.cxx_printer.specs.Symbol.{mode_text, block_text, is_digit_first, is_piece, between, pieces_behind, pieces_text, in_parens, suffix_text, symbol_in}
-use Rattle.cxx_printer.specs.Examples.{WorkedNames, WorkedTypes, WorkedExpressions}
+use Rattle.cxx_printer.specs.Parts.{kind_of, has_qualifiers, is_some_cv, is_some_ref, named_of, split, colons, joined, parameters_text, return_type_text}
+use Rattle.cxx_printer.specs.Examples.{WorkedNames, WorkedTypes, WorkedExpressions, WorkedParts}
 
 pub worked_names : WorkedNames
 unfolding print list_from last_ends sequence separated repeated ending short_std_text long_std_text std_text cv_text
@@ -113,4 +114,21 @@ worked_expressions = record {
   address_of_a_member = (refl, refl);
   greater = (refl, refl);
   cast = (refl, refl);
+}
+
+pub worked_parts : WorkedParts
+unfolding print list_from last_ends sequence separated repeated ending short_std_text long_std_text std_text cv_text
+    ref_text mark opened member_opened closed prec_of rank is_simple has_args is_designator is_scoped is_objc_object
+    protocol_of count_item count_items count_of measure count
+    kind_of has_qualifiers is_some_cv is_some_ref named_of split colons joined parameters_text return_type_text
+worked_parts = record {
+  member_function = (refl, refl);
+  reference_qualifier = (refl, refl);
+  without_qualifiers = (refl, refl);
+  member = (refl, refl);
+  vtable = (refl, refl);
+  of_function = record { base_name = refl; scopes = refl; parameters = refl; return_type = refl };
+  of_return_type = record { base_name = refl; scopes = refl; parameters = refl; return_type = refl };
+  of_data = record { base_name = refl; scopes = refl; parameters = refl; return_type = refl };
+  of_vtable = record { base_name = refl; scopes = refl; parameters = refl; return_type = refl };
 }

@@ -11,7 +11,7 @@ use Rattle.cxx_tree.specs.declared.node.Part.TheVariants as part
 use Rattle.cxx_tree.specs.declared.node.Plain.{Plain}
 use Rattle.cxx_tree.specs.declared.node.Declaration.{Declaration}
 use Rattle.cxx_tree.specs.declared.node.Node.{Node}
-use Rattle.cxx_tree.specs.Tree.{Tree, Parts, no_parts, text, tree, trees}
+use Rattle.cxx_tree.specs.Tree.{Parts, no_parts, text, tree, trees}
 use Rattle.cxx_tree.specs.Measure.{Measure, measure, measure_parts, part_measure}
 use Rattle.cxx_tree.specs.Stored.{Store, forest, tree_at, trees_at, tree_of, plain_tree, declaration_tree, option_at, list_at, parts_at, parts_of, parts_in}
 use Rattle.cxx_printer.specs.Asked.{height, highest}

@@ -1,6 +1,6 @@
 -- Trees of symbols, with the declarations that they print. The symbol stands above each.
 use Prim.Native.String.{String}
-use Rattle.std.specs.Prelude.{◌≡◌, true, false, Some, None, codes}
+use Rattle.std.specs.Prelude.{◌≡◌, Bool, true, false, Some, None, codes}
 use Rattle.cxx_tree.specs.declared.kinds.Cv.{Cv}
 use Rattle.cxx_tree.specs.declared.kinds.Prec.TheVariants.{Primary, Postfix, Unary, Cast, Additive, Relational}
 use Rattle.cxx_tree.specs.declared.kinds.RefQual.TheVariants as refqual
@@ -14,8 +14,12 @@ use Rattle.cxx_tree.specs.Phrases.{prefixed, enclosing, binary, prefix_op, membe
 use Rattle.cxx_tree.specs.Phrases.{init_list, typed_literal}
 use Rattle.cxx_printer.specs.declared.env.Style.{Style}
 use Rattle.cxx_printer.specs.declared.env.Style.TheVariants.{Llvm, Gnu, GnuShort}
+use Rattle.cxx_printer.specs.declared.parts.Kind.{Kind}
+use Rattle.cxx_printer.specs.declared.parts.Kind.TheVariants.{Function, Data, Special}
 use Rattle.cxx_printer.specs.declared.symbol.Mode.TheVariants.{Declaration}
+use Rattle.cxx_printer.specs.Parts.{kind_of, has_qualifiers, base_name_text, context_text, parameters_text, return_type_text}
 use Rattle.cxx_printer.specs.Symbol.{Symbol, symbol_text}
+use Rattle.cxx_printer.specs.Words.{top}
 
 -- Trees that occur often.
 
@@ -425,3 +429,47 @@ pub record WorkedExpressions : Type 0 where
   pub cast :
       DeclaresInBoth (returning (decltype (conversion int (one fp) Cast)) f_of_int (one int))
       "decltype((int)(fp)) f<int>(int)" "decltype ((int){parm#1}) f<int>(int)"
+
+-- a tree with what it stands for, and whether that has qualifiers
+abbrev pub Names : Tree → Kind → Bool → Type 0
+Names t kind has = (kind_of t ≡ kind) × (has_qualifiers t ≡ has)
+
+-- a tree with its parts in a style: the base name, the context, the parameters and the return type
+pub record HasParts (t : Tree) (style : Style) (base context params ret : String) : Type 0 where
+  pub base_name : base_name_text (top style) t ≡ codes base
+  pub scopes : context_text (top style) t ≡ codes context
+  pub parameters : parameters_text (top style) t ≡ codes params
+  pub return_type : return_type_text (top style) t ≡ codes ret
+
+-- what trees stand for, and their parts
+pub record WorkedParts : Type 0 where
+  -- _ZNK1A1fEv
+  pub member_function :
+      Names (function_encoding None (nested (name "A") (name "f")) no_trees None None is_const refqual.None) Function true
+  -- _ZNO1A1fEv
+  pub reference_qualifier :
+      Names (function_encoding None (nested (name "A") (name "f")) no_trees None None unqualified refqual.Rvalue) Function
+      true
+  -- _ZN1A1fEv
+  pub without_qualifiers : Names (plain (nested (name "A") (name "f")) no_trees) Function false
+  -- _ZN1A1xE
+  pub member : Names (data_name (nested (name "A") (name "x"))) Data false
+  -- _ZTV1A
+  pub vtable : Names (prefixed_by "vtable for " (name "A")) Special false
+  -- _ZN1A1BIiE1fB3tagIiEEvSs
+  pub of_function :
+      HasParts
+      (returning void
+      (with_args
+      (abi_tag
+      (nested (nested (name "A") (with_args (name "B") (one int))) (name "f")) (codes "tag")) (one int))
+      (one (std_name StdString false)))
+      Gnu "f" "A::B<int>" "(std::basic_string<char, std::char_traits<char>, std::allocator<char> >)" "void"
+  -- _Z1fIiEPA2_ivSs
+  pub of_return_type :
+      HasParts (returning (pointer (array_of int (Some (name "2")))) f_of_int (one (std_name StdString false))) GnuShort
+      "f" "" "(std::string)" "int (*) [2]"
+  -- _ZN1A1xE
+  pub of_data : HasParts (data_name (nested (name "A") (name "x"))) Llvm "x" "A" "" ""
+  -- _ZTV1A
+  pub of_vtable : HasParts (prefixed_by "vtable for " (name "A")) Llvm "" "" "" ""

@@ -1,5 +1,5 @@
 //! Worked examples. The functions do nothing: each exists for the facts that its contract states.
-ghost use Rattle.cxx_printer.specs.Examples.{WorkedNames, WorkedTypes, WorkedExpressions};
+ghost use Rattle.cxx_printer.specs.Examples.{WorkedNames, WorkedTypes, WorkedExpressions, WorkedParts};
 
 /// States what trees of names, functions and special names print.
 #[tactic(auto, using(crate::proofs::Examples::worked_names))]
@@ -17,4 +17,10 @@ pub fn worked_types()
 #[tactic(auto, using(crate::proofs::Examples::worked_expressions))]
 pub fn worked_expressions()
     ensures expressions { WorkedExpressions }
+{}
+
+/// States what trees stand for, and what their parts print.
+#[tactic(auto, using(crate::proofs::Examples::worked_parts))]
+pub fn worked_parts()
+    ensures parts { WorkedParts }
 {}

@@ -22,5 +22,8 @@ mod words;
 mod writing;
 
 pub use crate::env::Style;
-pub use crate::parts::{print_base_name, print_context, print_parameters, print_return_type};
+pub use crate::parts::{
+    Kind, has_qualifiers, kind_of, print_base_name, print_context, print_parameters,
+    print_return_type,
+};
 pub use crate::symbol::{Mode, Symbol, print_symbol};

@@ -1,6 +1,6 @@
-//! The parts of a symbol of a function or of data: the base of its name, the scopes around it, the parameters and the
-//! return type. Any other symbol has none, and then nothing is appended.
-#![tactic(auto, using(crate::proofs::Appended::prints), unfolding(cxx_tree::specs::Stored::tree_of, cxx_tree::specs::Stored::plain_tree, cxx_tree::specs::Stored::declaration_tree, cxx_tree::specs::Stored::IsBelow, cxx_tree::specs::Stored::IsPlainBelow, crate::specs::Parts::named_of, crate::specs::Parts::split, crate::specs::Parts::colons, crate::specs::Parts::joined, crate::specs::Print::print, crate::specs::Parts::return_type_text, crate::specs::Parts::parameters_text, cxx_tree::specs::Measure::measure))]
+//! What a symbol stands for. The parts of a symbol of a function or of data: the base of its name, the scopes around
+//! it, the parameters and the return type. Any other symbol has none, and then nothing is appended.
+#![tactic(auto, using(crate::proofs::Appended::prints), unfolding(cxx_tree::specs::Stored::tree_of, cxx_tree::specs::Stored::plain_tree, cxx_tree::specs::Stored::declaration_tree, cxx_tree::specs::Stored::IsBelow, cxx_tree::specs::Stored::IsPlainBelow, crate::specs::Parts::kind_of, crate::specs::Parts::has_qualifiers, crate::specs::Parts::is_some_cv, crate::specs::Parts::is_some_ref, crate::specs::Parts::named_of, crate::specs::Parts::split, crate::specs::Parts::colons, crate::specs::Parts::joined, crate::specs::Print::print, crate::specs::Parts::return_type_text, crate::specs::Parts::parameters_text, cxx_tree::specs::Measure::measure))]
 
 ghost use Rattle.std.specs.Prelude.{◌≡◌, ◌<◌, ◌++◌, Some, None, MatchOption, IfSome};
 ghost use Rattle.cxx_tree.specs.Stored.{forest, size, tree_at};
@@ -14,9 +14,58 @@ use crate::env::{Env, Style};
 use crate::print::{print, print_parens, print_scope};
 use crate::shapes::node_at;
 use crate::writing::{write, write_text};
-use cxx_tree::{Arena, Node, Plain};
+use cxx_tree::{Arena, Cv, Node, Plain, RefQual};
 use growing_text::Text;
 use std::alloc::AllocError;
+
+/// What a symbol stands for.
+#[derive(Clone, Copy, PartialEq)]
+pub enum Kind {
+    /// A function.
+    Function,
+    /// Data, or what else is a name alone.
+    Data,
+    /// What has a special name, such as a table, a thunk or a guard variable.
+    Special,
+}
+
+/// Returns what a tree stands for.
+pub fn kind_of(arena: &Arena, i: u32) -> Kind
+    requires within { i < size arena.now }
+    ensures value { result ≡ spec.kind_of (tree_at (forest arena.now) i) }
+{
+    match *node_at(arena, i) {
+        Node::Encoding(_) => Kind::Function,
+        Node::Plain(Plain::Data(_)) => Kind::Data,
+        _ => Kind::Special,
+    }
+}
+
+/// Returns whether a tree is that of a function with qualifiers.
+pub fn has_qualifiers(arena: &Arena, i: u32) -> bool
+    requires within { i < size arena.now }
+    ensures value { result ≡ spec.has_qualifiers (tree_at (forest arena.now) i) }
+{
+    match *node_at(arena, i) {
+        Node::Encoding(ref encoding) => is_some_cv(encoding.cv) || is_some_ref(encoding.ref_qual),
+        _ => false,
+    }
+}
+
+fn is_some_cv(cv: Cv) -> bool
+    ensures value { result ≡ spec.is_some_cv cv }
+{
+    cv.is_const || cv.is_volatile || cv.is_restrict
+}
+
+fn is_some_ref(ref_qual: RefQual) -> bool
+    ensures value { result ≡ spec.is_some_ref ref_qual }
+{
+    match ref_qual {
+        RefQual::None => false,
+        RefQual::Lvalue | RefQual::Rvalue => true,
+    }
+}
 
 /// Appends the base of the name of a function or of data: what is left without scopes, arguments, ABI tags and module.
 /// Of another tree it appends nothing.

@@ -1,11 +1,13 @@
 //! Tests the demangler of declarations at its limits: symbols at and past each limit, families of long symbols with
-//! what they cost, the limit of memory, malformed symbols, allocations that fail, and the stack. Standard input has
-//! symbols, one per line, which are read with little stack. The last line is `N passed, M failed`.
+//! what they cost, the limit of memory, malformed symbols, allocations that fail, and the stack. Tests the parts of
+//! symbols too. Standard input has symbols, one per line, which are read with little stack. The last line is
+//! `N passed, M failed`.
 //!
 //! usage: declarations
 
 mod families;
 mod memory;
+mod parts;
 
 // The crates, and what stands in for Rattle's std below them. They come last, since the macros of the latter would
 // stand in for those of Rust.
@@ -19,6 +21,7 @@ mod extracted;
 
 use crate::extracted::cxx_demangle::{Demangler, Mode, Printing, Style};
 use crate::families::{costly, limited, refused};
+use crate::parts::parts;
 use crate::rattle::alloc::Global;
 use std::io::{self, BufRead};
 use std::process::ExitCode;
@@ -208,7 +211,7 @@ fn main() -> ExitCode {
     let mut counts = Counts::default();
     little_stack(&mut counts);
     let counts = with_stack(STACK, move || {
-        for test in [limits, costs, defaults, lower_limits, refusals, faults, beginnings] {
+        for test in [limits, costs, defaults, lower_limits, refusals, faults, beginnings, parts] {
             test(&mut counts);
         }
         counts

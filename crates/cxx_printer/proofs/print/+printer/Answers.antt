@@ -1,4 +1,4 @@
-use Rattle.std.proofs.Common.{rules, codes, length, Bool, if◌then◌else◌, ◌<◌, [], nat_eq, ℕ, ◌≡◌, ◌+◌, ◌*◌, ◌++◌, true, false, Option, List, sym, subst, ap, ◌∙◌, arith}
+use Rattle.std.proofs.Common.{rules, codes, length, Bool, if◌then◌else◌, ◌<◌, [], nat_eq, ℕ, ◌≡◌, ◌+◌, ◌++◌, true, false, Option, List, sym, subst, ap, ◌∙◌, arith}
 use Rattle.std.proofs.Math.ListN.{get_or}
 use Rattle.std.specs.List.{AllByRecursion}
 use Rattle.cxx_tree.specs.Stored.{forest, tree_at, trees_at, parts_of, list_at, tree_of, plain_tree, declaration_tree, IsPlainBelow, text_at, trees_in, parts_in, size, IsPartBelow}
