@@ -3,8 +3,7 @@ use Rattle.std.proofs.Common.{◌≡◌, ℕ, List, Bool, true, false, Option, S
 use Rattle.std.specs.Str.{is_utf8}
 use Rattle.std.proofs.lemmas.Str.{IsUtf8-from_is_utf8, is_utf8-from_IsUtf8}
 use Rattle.std.proofs.lemmas.Bool.{false≢true, cases_lt}
-use Rattle.cxx_tree.specs.Tree.{Tree}
-use Rattle.cxx_grammar.specs.Symbol.{parse_symbol}
+use Rattle.cxx_grammar.specs.Symbol.{Reading, parse_symbol}
 use Rattle.cxx_demangle.specs.declared.demangler.Printing.{Printing}
 use Rattle.cxx_demangle.specs.Answer.{max_text, Reads, IsText, text_of, IsAnswer}
 use Rattle.cxx_demangle.proofs.Whole.{no_reading, has_answer, no_answer}
@@ -17,15 +16,15 @@ text_or_not text true is = elim (cases_lt max_text (length text)) [
 ]
 text_or_not text false is = inr (λ good. false≢true (sym is ∙ is_utf8-from_IsUtf8 text good.utf8))
 
--- the printing of a tree is the answer, or there is none
-at_tree : (printing : Printing) (symbol : List ℕ) (t : Tree) → Reads symbol t → IsText (text_of printing t) ⊎ (IsText (text_of printing t) → ⊥)
+-- the printing of a reading is the answer, or there is none
+at_reading : (printing : Printing) (symbol : List ℕ) (t : Reading) → Reads symbol t → IsText (text_of printing t) ⊎ (IsText (text_of printing t) → ⊥)
     → (answer : Option (List ℕ)) × IsAnswer printing symbol answer
-at_tree printing symbol t reads (inl good) = (Some (text_of printing t), has_answer printing symbol t (text_of printing t) reads refl good)
-at_tree printing symbol t reads (inr bad) = (None, no_answer printing symbol t (text_of printing t) reads refl bad)
+at_reading printing symbol t reads (inl good) = (Some (text_of printing t), has_answer printing symbol t (text_of printing t) reads refl good)
+at_reading printing symbol t reads (inr bad) = (None, no_answer printing symbol t (text_of printing t) reads refl bad)
 
-at_symbol : (printing : Printing) (symbol : List ℕ) (parsed : Option Tree) → parse_symbol symbol ≡ parsed → (answer : Option (List ℕ)) × IsAnswer printing symbol answer
+at_symbol : (printing : Printing) (symbol : List ℕ) (parsed : Option Reading) → parse_symbol symbol ≡ parsed → (answer : Option (List ℕ)) × IsAnswer printing symbol answer
 at_symbol printing symbol None is = (None, no_reading printing symbol is)
-at_symbol printing symbol (Some t) is = at_tree printing symbol t is (text_or_not (text_of printing t) (is_utf8 (text_of printing t)) refl)
+at_symbol printing symbol (Some t) is = at_reading printing symbol t is (text_or_not (text_of printing t) (is_utf8 (text_of printing t)) refl)
 
 -- each symbol has an answer
 pub each_answered : (printing : Printing) (symbol : List ℕ) → (answer : Option (List ℕ)) × IsAnswer printing symbol answer

@@ -5,20 +5,22 @@ use Rattle.std.specs.Str.{is_utf8, chars}
 use Rattle.std.proofs.lemmas.Str.{IsUtf8-from_is_utf8}
 use Rattle.abi_scalars.specs.Scalars.{front_digits, weighted, number, source_name, index_of}
 use Rattle.abi_scalars.specs.Texts.{digits, number_text, optional_number_text, identifier}
-use Rattle.cxx_tree.specs.Tree.{Tree}
 use Rattle.cxx_tree.specs.Measure.{measure, count}
 use Rattle.cxx_tree.specs.Bind.{bind, as_pack}
 use Rattle.cxx_grammar.specs.Words.{builtin_of, d_builtin_of, integer_of, std_of, operator_of}
 use Rattle.cxx_grammar.specs.Parses.{past_word_if, repeat_at_most}
-use Rattle.cxx_grammar.specs.Bases.{base_name, args_of, is_with_args, is_param, expand}
-use Rattle.cxx_grammar.specs.Binds.{bind_args, parse_closed, bind_encoding}
-use Rattle.cxx_grammar.specs.Leaves.{parse_call_offset, parse_temporary_id, parse_substitution, parse_template_param, parse_cv, parse_ref, parse_builtin, parse_bool, parse_null, parse_integer}
-use Rattle.cxx_grammar.specs.Args.{parse_list, literal_as, arg_as}
+use Rattle.cxx_grammar.specs.Bases.{base_name, args_of, is_with_args, is_param, is_param_class, expand}
+use Rattle.cxx_grammar.specs.Binds.{bind_args, bind_closure, parse_closed, bind_encoding}
+use Rattle.cxx_grammar.specs.Locals.{past_digits, past_discriminator, local_as}
+use Rattle.cxx_grammar.specs.Ordinals.{more_of, without_zeros, ordinal_digits}
+use Rattle.cxx_grammar.specs.Unnamed.{parse_closure}
+use Rattle.cxx_grammar.specs.Leaves.{parse_call_offset, parse_temporary_id, parse_substitution, parse_template_param, parse_cv, parse_ref, parse_builtin, parse_bool, parse_null, parse_integer, parse_size, parse_abi_tags, parse_float_type}
+use Rattle.cxx_grammar.specs.Args.{literal_as, arg_as}
 use Rattle.cxx_grammar.specs.Names.{base_as, parse_class_of, part_as, parse_unqualified_name, parse_named_args, parse_in_place, parse_info, parse_component, first_as, parse_next, parse_components, name_as}
-use Rattle.cxx_grammar.specs.Types.{parse_qualified_type, parse_type_args, type_as}
-use Rattle.cxx_grammar.specs.Rows.{t_special_of, g_special_of, type_row_of, tree_as, item_as, parse_items, make_as, parse_row, ends}
+use Rattle.cxx_grammar.specs.Types.{exception_as, parse_function_mark, parse_dimension, type_as}
+use Rattle.cxx_grammar.specs.Rows.{parse_list, parse_params, t_special_of, g_special_of, type_row_of, tree_as, item_as, parse_items, make_as, parse_row, ends}
 use Rattle.cxx_grammar.specs.Encodings.{parse_signature, encoding_as}
-use Rattle.cxx_grammar.specs.Symbol.{productions, parse_symbol}
+use Rattle.cxx_grammar.specs.Symbol.{Reading, productions, parse_symbol, symbol_as, parse_block_mark}
 use Rattle.cxx_printer.specs.Words.{ending, short_std_text, long_std_text, std_text, cv_text, ref_text, mark, opened, member_opened, closed}
 use Rattle.cxx_printer.specs.Heads.{prec_of, rank, is_simple, has_args, is_designator, is_scoped, is_objc_object, protocol_of, count_item, count_items, count_of}
 use Rattle.cxx_printer.specs.Print.{print, list_from, last_ends, sequence, separated, repeated}
@@ -32,14 +34,16 @@ some_by : (printing : Printing) (symbol answer : List ℕ) → option_map (text_
     → length answer ≤ 1048576 → is_utf8 answer ≡ true → IsAnswer printing symbol (Some answer)
 some_by printing symbol answer is short utf8 = go (parse_symbol symbol) refl is
   where
-    go : (o : Option Tree) → parse_symbol symbol ≡ o → option_map (text_of printing) o ≡ Some answer → IsAnswer printing symbol (Some answer)
+    go : (o : Option Reading) → parse_symbol symbol ≡ o → option_map (text_of printing) o ≡ Some answer → IsAnswer printing symbol (Some answer)
     go None e f = absurd cc
     go (Some t) e f = has_answer printing symbol t answer e (let g = sym f in cc) (record { short = short; utf8 = IsUtf8-from_is_utf8 answer utf8 })
 
 pub worked_symbols : WorkedSymbols
 unfolding productions parse_unqualified_name parse_named_args parse_in_place parse_component parse_next parse_components
-    parse_info parse_class_of part_as base_as first_as name_as parse_list literal_as arg_as type_as parse_qualified_type
-    parse_type_args parse_signature encoding_as t_special_of g_special_of type_row_of tree_as item_as parse_items
+    parse_info parse_class_of part_as base_as first_as name_as parse_list literal_as arg_as type_as exception_as
+    parse_function_mark parse_dimension parse_size parse_abi_tags parse_float_type parse_params bind_closure past_digits
+    past_discriminator local_as more_of without_zeros ordinal_digits parse_closure is_param_class symbol_as parse_block_mark
+    parse_signature encoding_as t_special_of g_special_of type_row_of tree_as item_as parse_items
     make_as parse_row ends past_word_if repeat_at_most parse_call_offset parse_temporary_id parse_substitution
     parse_template_param parse_cv
     parse_ref parse_builtin parse_bool parse_null parse_integer builtin_of d_builtin_of integer_of std_of operator_of
@@ -58,5 +62,13 @@ worked_symbols = record {
   vendor = some_by _ (codes "_Zv13negi") (codes "operator neg(int)") refl (omega arith) refl;
   pack = some_by _ (codes "_Z1fIJicEEvDpT_") (codes "void f<int, char>(int, char)") refl (omega arith) refl;
   no_argument = no_reading whole (codes "_Z1fT_") refl;
-  rest = no_reading whole (codes "_Z1fv.") refl;
+  rest = no_reading whole (codes "_Z1fv,") refl;
+  suffix = some_by _ (codes "_Z1fv.part.0") (codes "f() (.part.0)") refl (omega arith) refl;
+  block = some_by _ (codes "___Z1fv_block_invoke") (codes "invocation function for block in f()") refl (omega arith) refl;
+  tag = some_by _ (codes "_Z1fB3tagv") (codes "f[abi:tag]()") refl (omega arith) refl;
+  local = some_by _ (codes "_ZZ1fvE1x_0") (codes "f()::x") refl (omega arith) refl;
+  closure = some_by _ (codes "_ZZ1fvENKUliE0_clEi") (codes "f()::'lambda0'(int)::operator()(int) const") refl (omega arith) refl;
+  conversion = some_by _ (codes "_ZN1AcvPT_IiEEv") (codes "A::operator int*<int>()") refl (omega arith) refl;
+  array = some_by _ (codes "_Z1fRA2_A3_i") (codes "f(int (&) [2][3])") refl (omega arith) refl;
+  function_type = some_by _ (codes "_Z1fPFPFivEcE") (codes "f(int (* (*)(char))())") refl (omega arith) refl;
 }

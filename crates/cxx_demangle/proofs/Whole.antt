@@ -1,83 +1,58 @@
--- The parser gives the one encoding that all of the bytes are read as.
+-- The parser gives the one reading of a symbol.
 use Rattle.std.proofs.Common.{ℕ, ◌≡◌, ◌≢◌, List, [], ◌∷◌, ◌∙◌, refl, sym, ap, subst, arith, length, map, Option, Some, None, Bool, true, false, Result, Ok, Err}
 use Rattle.cxx_reader.specs.declared.reader.Reader.{Reader}
 use Rattle.cxx_tree.specs.declared.arena.Stop.{Stop}
 use Rattle.cxx_tree.specs.declared.arena.Stop.TheVariants.{Unreadable, Memory}
-use Rattle.cxx_reader.specs.Outcome.{Gives}
+use Rattle.cxx_reader.specs.declared.symbols.Reading as code
+use Rattle.cxx_reader.specs.Outcome.{GivesReading}
 use Rattle.std.specs.Prelude.{min, ◌≤◌}
-use Rattle.abi_scalars.specs.Symbol.{after_prefix}
+use Rattle.cxx_grammar.specs.Cases.{case_of_prefix}
+use Rattle.cxx_grammar.specs.declared.cases.PrefixCase.TheVariants as prefix
 use Rattle.cxx_tree.specs.Tree.{Tree}
 use Rattle.cxx_tree.specs.Stored.{Store, IsWithin, size, saved_trees, stands}
 use Rattle.cxx_grammar.specs.State.{State, start}
-use Rattle.cxx_grammar.specs.Symbol.{productions, max_depth, parse_inside, parse_symbol, whole}
+use Rattle.cxx_grammar.specs.Symbol.{Reading, productions, max_depth, parse_mangled_name, parse_symbol, found_of, symbol_as}
 use Rattle.cxx_demangle.specs.declared.demangler.Printing.{Printing}
 use Rattle.cxx_demangle.specs.Answer.{Reads, IsText, text_of, HasAnswer, HasNoAnswer, HasAtMostOneReading, HasBounds, IsAnswer, limit_of}
 use Rattle.cxx_demangle.specs.Demangler.{answer_of}
-
-abbrev pub parse_front : List ℕ → Option (Tree × State)
-parse_front bytes = (productions max_depth).encoding (start bytes)
-
--- all bytes are read
-pub whole_read : (bytes : List ℕ) (t : Tree) (end : State) → parse_front bytes ≡ Some (t, end) → end.rest ≡ [] → parse_inside bytes ≡ Some t
-whole_read bytes t end e f = rw (e, f) refl
-
--- nothing is read
-pub none_read : (bytes : List ℕ) → parse_front bytes ≡ None → parse_inside bytes ≡ None
-none_read bytes e = rw e refl
-
-left_over : (t : Tree) (end : State) (rest : List ℕ) → end.rest ≡ rest → rest ≢ [] → whole (Some (t, end)) ≡ None
-left_over t end [] e f = absurd (f refl)
-left_over t end (b ∷ bytes) e f = rw e refl
-
--- some bytes aren't read
-pub some_left : (bytes : List ℕ) (t : Tree) (end : State) → parse_front bytes ≡ Some (t, end) → end.rest ≢ [] → parse_inside bytes ≡ None
-some_left bytes t end e f = rw e (left_over t end end.rest refl f)
 
 some_same : {A : Type 0} (x y : A) → Some x ≡ Some y → x ≡ y
 some_same x y e = let g = e in cc
 
 pub one_reading : (symbol : List ℕ) → HasAtMostOneReading symbol
-one_reading symbol = record { agree = λ (t u : Tree) (r : Reads symbol t) (s : Reads symbol u). some_same t u (sym r ∙ s) }
+one_reading symbol = record { agree = λ (t u : Reading) (r : Reads symbol t) (s : Reads symbol u). some_same t u (sym r ∙ s) }
 
 -- the symbol isn't read
 pub no_reading : (printing : Printing) (symbol : List ℕ) → parse_symbol symbol ≡ None → HasNoAnswer printing symbol
 no_reading printing symbol e t r f = absurd cc
 
 -- no prefix
-pub no_prefix : (printing : Printing) (symbol : List ℕ) → after_prefix symbol ≡ None → HasNoAnswer printing symbol
+pub no_prefix : (printing : Printing) (symbol : List ℕ) → case_of_prefix symbol ≡ prefix.None → HasNoAnswer printing symbol
+unfolding symbol_as
 no_prefix printing symbol e = no_reading printing symbol (rw e refl)
 
--- no encoding
-pub no_encoding : (printing : Printing) (symbol inside : List ℕ) → after_prefix symbol ≡ Some inside → parse_inside inside ≡ None → HasNoAnswer printing symbol
-no_encoding printing symbol inside e none = no_reading printing symbol (rw (e, none) refl)
-
 -- a printing that may be an answer
-pub has_answer : (printing : Printing) (symbol : List ℕ) (t : Tree) (text : List ℕ) → Reads symbol t → text ≡ text_of printing t → IsText text → HasAnswer printing symbol text
-has_answer printing symbol t text reads is good = record { tree = t; reads = reads; is = is; text = good }
+pub has_answer : (printing : Printing) (symbol : List ℕ) (t : Reading) (text : List ℕ) → Reads symbol t → text ≡ text_of printing t → IsText text → HasAnswer printing symbol text
+has_answer printing symbol t text reads is good = record { reading = t; reads = reads; is = is; text = good }
 
 -- and one that may not
-pub no_answer : (printing : Printing) (symbol : List ℕ) (t : Tree) (text : List ℕ) → Reads symbol t → text ≡ text_of printing t → ¬ (IsText text) → HasNoAnswer printing symbol
+pub no_answer : (printing : Printing) (symbol : List ℕ) (t : Reading) (text : List ℕ) → Reads symbol t → text ≡ text_of printing t → ¬ (IsText text) → HasNoAnswer printing symbol
 no_answer printing symbol t text reads is bad u r good = bad (subst IsText (ap (text_of printing) ((one_reading symbol).agree u t r reads) ∙ sym is) good)
 
 -- a demangler begins with nothing saved
-pub started : {x : Option (Tree × State)} (bytes : List ℕ) (saved : List Tree) → saved ≡ [] → (productions max_depth).encoding (record { rest = bytes; saved = saved; replaced = 0 }) ≡ x → parse_front bytes ≡ x
-started bytes saved e f = ap (λ (ts : List Tree). (productions max_depth).encoding (record { rest = bytes; saved = ts; replaced = 0 })) (sym e) ∙ f
-
-pub no_bytes : (xs : List ℕ) → length xs ≡ 0 → xs ≡ []
-no_bytes [] h = refl
-no_bytes (x ∷ xs) h = absurd (omega (arith, h))
-
-pub some_bytes : (xs : List ℕ) → length xs ≢ 0 → xs ≢ []
-some_bytes xs h e = h (ap length e)
+pub started : {x : Option (Reading × State)} (symbol : List ℕ) (saved : List Tree) → saved ≡ []
+    → parse_mangled_name (productions max_depth) (record { rest = symbol; saved = saved; replaced = 0; level = 0 }) ≡ x → parse_symbol symbol ≡ found_of x
+started symbol saved e f =
+    ap (λ (ts : List Tree). found_of (parse_mangled_name (productions max_depth) (record { rest = symbol; saved = ts; replaced = 0; level = 0 }))) (sym e) ∙ ap found_of f
 
 -- the answer, after the test of the text
-pub answered : (printing : Printing) (symbol inside : List ℕ) (t : Tree) (text : List ℕ) → after_prefix symbol ≡ Some inside → parse_inside inside ≡ Some t → text ≡ text_of printing t
+pub answered : (printing : Printing) (symbol : List ℕ) (r : Reading) (text : List ℕ) → Reads symbol r → text ≡ text_of printing r
     → (is_answer : Bool) → (is_answer ≡ true → IsText text) → (is_answer ≡ false → ¬ (IsText text)) → IsAnswer printing symbol (answer_of is_answer text)
-answered printing symbol inside t text e r is true good bad = has_answer printing symbol t text (rw (e, r) refl) is (good refl)
-answered printing symbol inside t text e r is false good bad = no_answer printing symbol t text (rw (e, r) refl) is (bad refl)
+answered printing symbol r text reads is true good bad = has_answer printing symbol r text reads is (good refl)
+answered printing symbol r text reads is false good bad = no_answer printing symbol r text reads is (bad refl)
 
 -- nothing is read, as a result
-pub refused : (r : Result ℕ Stop) (after : Reader) (x : Option (Tree × State)) → Gives r after x → r ≡ Err Unreadable → x ≡ None
+pub refused : (r : Result code.Reading Stop) (after : Reader) (x : Option (Reading × State)) → GivesReading r after x → r ≡ Err Unreadable → x ≡ None
 refused (Ok i) after x g e = absurd cc
 refused (Err Unreadable) after x g e = g
 refused (Err Memory) after x g e = absurd cc

@@ -3,10 +3,11 @@ use Rattle.std.specs.Prelude.{◌≡◌, ℕ, List, Bool, true, false, Option, S
 use Rattle.std.specs.Str.{IsUtf8}
 use Rattle.std.specs.declared.alloc.AllocError.{AllocError}
 use Rattle.cxx_tree.specs.Tree.{Tree}
-use Rattle.cxx_tree.specs.Stored.{Store, stands}
-use Rattle.cxx_tree.specs.Kept.{IsNode}
+use Rattle.cxx_tree.specs.Stored.{Store}
+use Rattle.cxx_reader.specs.declared.symbols.Reading as code
+use Rattle.cxx_reader.specs.Outcome.{IsReading, reading_at}
 use Rattle.cxx_demangle.specs.declared.demangler.Demangler.TheInside.{Inside}
-use Rattle.cxx_grammar.specs.Symbol.{parse_inside}
+use Rattle.cxx_grammar.specs.Symbol.{Reading, parse_symbol}
 
 -- the answer to the last symbol, if there is one
 abbrev pub answer_of : Bool → List ℕ → Option (List ℕ)
@@ -16,32 +17,36 @@ answer_of false text = None
 -- what is left of the last symbol
 pub record LastAnswer : Type 0 where
   pub text : Option (List ℕ)  -- its answer, if there is one
-  pub node : Option ℕ  -- the node of the tree that it was read as, if it was read
+  pub kept : Option code.Reading  -- what it was read as, if it was read
   pub store : Store  -- its nodes, what they refer to, and its substitution candidates
 
 -- what the fields mean
 abbrev pub last_answer : Inside → LastAnswer
 last_answer d = record {
   text = answer_of d.is_answered d.text;
-  node = d.node;
+  kept = d.reading;
   store = d.arena;
 }
 
--- the tree that the last symbol was read as, if it was read
+-- what the last symbol was read as, if it was read
+abbrev pub last_reading : LastAnswer → Option Reading
+last_reading last = option_map (reading_at last.store) last.kept
+
+-- its tree
 abbrev pub last_tree : LastAnswer → Option Tree
-last_tree last = option_map (stands last.store) last.node
+last_tree last = option_map (λ r. r.tree) (last_reading last)
 
 -- a text, where there is one, is UTF-8
 abbrev pub IsOptionUtf8 : Option (List ℕ) → Type 0
 IsOptionUtf8 (Some text) = IsUtf8 text
 IsOptionUtf8 None = Unit {0}
 
--- what is kept as an answer is UTF-8, and what is kept as a node is one of the arena
+-- what is kept as an answer is UTF-8, and what is kept as a reading refers to the arena
 abbrev pub KeepsAnswer : Inside → Type 0
-KeepsAnswer d = IsOptionUtf8 (answer_of d.is_answered d.text) × IfSome d.node (IsNode d.arena)
+KeepsAnswer d = IsOptionUtf8 (answer_of d.is_answered d.text) × IfSome d.reading (IsReading d.arena)
 
--- the node of the encoding that all of the bytes are read as; or there is no such encoding
-abbrev pub GivesWhole : Result (Option ℕ) AllocError → Store → List ℕ → Type 0
-GivesWhole (Ok (Some i)) after bytes = IsNode after i × (parse_inside bytes ≡ Some (stands after i))
-GivesWhole (Ok None) after bytes = parse_inside bytes ≡ None
-GivesWhole (Err e) after bytes = Unit {0}
+-- the reading of a symbol; or there is none
+abbrev pub GivesWhole : Result (Option code.Reading) AllocError → Store → List ℕ → Type 0
+GivesWhole (Ok (Some r)) after symbol = IsReading after r × (parse_symbol symbol ≡ Some (reading_at after r))
+GivesWhole (Ok None) after symbol = parse_symbol symbol ≡ None
+GivesWhole (Err e) after symbol = Unit {0}

@@ -26,4 +26,20 @@ pub record WorkedSymbols : Type 0 where
   -- a template parameter that stands for nothing
   pub no_argument : IsAnswer whole (codes "_Z1fT_") None
   -- a byte that isn't read
-  pub rest : IsAnswer whole (codes "_Z1fv.") None
+  pub rest : IsAnswer whole (codes "_Z1fv,") None
+  -- what follows from a dot
+  pub suffix : IsAnswer whole (codes "_Z1fv.part.0") (Some (codes "f() (.part.0)"))
+  -- the function of a block
+  pub block : IsAnswer whole (codes "___Z1fv_block_invoke") (Some (codes "invocation function for block in f()"))
+  -- a name with a tag
+  pub tag : IsAnswer whole (codes "_Z1fB3tagv") (Some (codes "f[abi:tag]()"))
+  -- a local name with its discriminator
+  pub local : IsAnswer whole (codes "_ZZ1fvE1x_0") (Some (codes "f()::x"))
+  -- a closure
+  pub closure : IsAnswer whole (codes "_ZZ1fvENKUliE0_clEi") (Some (codes "f()::'lambda0'(int)::operator()(int) const"))
+  -- a conversion operator, whose arguments follow its type
+  pub conversion : IsAnswer whole (codes "_ZN1AcvPT_IiEEv") (Some (codes "A::operator int*<int>()"))
+  -- arrays
+  pub array : IsAnswer whole (codes "_Z1fRA2_A3_i") (Some (codes "f(int (&) [2][3])"))
+  -- types of functions
+  pub function_type : IsAnswer whole (codes "_Z1fPFPFivEcE") (Some (codes "f(int (* (*)(char))())"))

@@ -1,16 +1,16 @@
 //! `Demangler`, which demangles symbol after symbol.
-#![tactic(auto, using(crate::proofs::Whole::answers), unfolding(cxx_tree::specs::Stored::stands))]
+#![tactic(auto, using(crate::proofs::Whole::answers), unfolding(cxx_tree::specs::Stored::stands, cxx_reader::specs::Outcome::reading_at))]
 
 ghost use Rattle.std.specs.Prelude.{◌≡◌, ◌≤◌, length, min, IfOk, OnOk, OnErr, MatchResult, ⊤, option_map, is_some, true, false, Ok, None};
 ghost use Rattle.std.specs.Borrow.{sem};
 ghost use Rattle.std.specs.Str.{IsUtf8};
-ghost use Rattle.abi_scalars.specs.Symbol as symbols;
+ghost use Rattle.cxx_grammar.specs.Cases.{case_of_prefix};
+ghost use Rattle.cxx_grammar.specs.declared.cases.PrefixCase.TheVariants as prefix;
+ghost use Rattle.cxx_reader.specs.Outcome.{IsReading, reading_at};
 ghost use Rattle.cxx_tree.specs.Stored.{IsWithin};
-ghost use Rattle.cxx_tree.specs.Stored.{stands};
-ghost use Rattle.cxx_tree.specs.Kept.{IsNode};
 ghost use Rattle.cxx_demangle.specs.Answer as spec;
 ghost use Rattle.cxx_demangle.specs.Answer.{IsAnswer, HasAtMostOneReading, HasBounds, IsText, text_of};
-ghost use Rattle.cxx_demangle.specs.Demangler.{GivesWhole, last_tree};
+ghost use Rattle.cxx_demangle.specs.Demangler.{GivesWhole, last_reading, last_tree};
 ghost use Rattle.cxx_demangle.specs.Parts as parts;
 ghost use Rattle.cxx_grammar.specs.Symbol.{parse_symbol};
 ghost use Rattle.cxx_printer.specs.Parts.{base_name_text, context_text, parameters_text, return_type_text};
@@ -59,8 +59,8 @@ pub struct Demangler {
     // Whether the last symbol had an answer, which is the text.
     is_answered: bool,
     text: Text,
-    // The node of the last symbol's tree, if it was read.
-    node: Option<u32>,
+    // What the last symbol was read as, if it was read.
+    reading: Option<Reading>,
     // Where symbols are read. Its memory stays.
     arena: Arena,
 }
@@ -85,22 +85,23 @@ fn limit_of(limit: Option<usize>, len: usize) -> usize
     }
 }
 
-// Reads all of the bytes as a symbol, and keeps at most `limit` of each kind. Returns `None` if there is no reading
+// Reads a symbol, and keeps at most `limit` of each kind. Returns `None` if there is no reading
 // within the limits of the grammar.
 fn read(
     arena: &mut Arena,
     alloc: Global,
-    bytes: &[u8],
+    symbol: &[u8],
     limit: usize,
 ) -> Result<Option<Reading>, AllocError>
-    ensures gives { GivesReading result arena.new bytes.now }
+    ensures gives { GivesWhole result arena.new symbol.now }
+    ensures no_prefix { case_of_prefix symbol.now ≡ prefix.None → result ≡ Ok None }
     ensures within { IsWithin limit arena.new }
 {
     // The reader owns the arena while it reads.
     let mut cleared = replace(arena, Arena::new(alloc));
     cleared.clear(limit);
     let mut reader = Reader {
-        rest: bytes,
+        rest: symbol,
         arena: cleared,
         replaced: 0,
         level: 0,
@@ -158,13 +159,13 @@ impl Demangler {
 
     /// Returns a value that has read no symbol. Allocates nothing.
     pub fn new(alloc: Global) -> Self
-        ensures empty { (result.text ≡ None) × (result.node ≡ None) }
+        ensures empty { (result.text ≡ None) × (result.kept ≡ None) }
         ensures nothing { IsWithin 0 result.store }
     {
         Demangler {
             is_answered: false,
             text: Text::new(alloc),
-            node: None,
+            reading: None,
             arena: Arena::new(alloc),
         }
     }
@@ -172,7 +173,8 @@ impl Demangler {
     /// Reads a symbol and keeps what is printed of it, which `text` returns afterwards. Returns `true` if the symbol
     /// has an answer.
     ///
-    /// The symbol may be any text. It is read as an encoding after the prefix `_Z` or `__Z` (Itanium C++ ABI 5.1.2).
+    /// The symbol may be any text. It is read as an encoding after the prefix `_Z` or `__Z`, with all that follows from a
+    /// dot (Itanium C++ ABI 5.1.1), or as the function of a block after `___Z` or `____Z`.
     ///
     /// A symbol has no answer in three cases. The grammar doesn't read all of it within the limits: at most `MAX_DEPTH`
     /// counted productions nest, no tree is higher than 1,024, none has a work above 1,048,576, and at most 65,536
@@ -191,13 +193,13 @@ impl Demangler {
         ensures answer { IfOk result (λ _. IsAnswer printing symbol.now self.new.text) }
         ensures found { IfOk result (λ found. found ≡ is_some self.new.text) }
         ensures one { HasAtMostOneReading symbol.now }
-        ensures no_prefix { symbols.after_prefix symbol.now ≡ None → (result ≡ Ok false) × (self.new.text ≡ None) }
-        ensures err { OnErr result ((self.new.text ≡ None) × (self.new.node ≡ None)) }
-        ensures reads { IfOk result (λ _. parse_symbol symbol.now ≡ last_tree self.new) }
+        ensures no_prefix { case_of_prefix symbol.now ≡ prefix.None → (result ≡ Ok false) × (self.new.text ≡ None) }
+        ensures err { OnErr result ((self.new.text ≡ None) × (self.new.kept ≡ None)) }
+        ensures reads { IfOk result (λ _. parse_symbol symbol.now ≡ last_reading self.new) }
         ensures bounds { HasBounds printing symbol.now self.new.store }
     {
         self.is_answered = false;
-        self.node = None;
+        self.reading = None;
         let limit = limit_of(printing.limit, symbol.len());
         let Some(reading) = read(&mut self.arena, alloc, symbol.as_bytes(), limit)? else {
             return Ok(false);
@@ -231,14 +233,14 @@ impl Demangler {
     ) -> Result<Option<&'a str>, AllocError>
         ensures answer { IfOk result (λ found. IsAnswer printing symbol.now (option_map (λ text. text.now) found)) }
         ensures one { HasAtMostOneReading symbol.now }
-        ensures no_prefix { symbols.after_prefix symbol.now ≡ None → result ≡ Ok None }
+        ensures no_prefix { case_of_prefix symbol.now ≡ prefix.None → result ≡ Ok None }
         // `last` is the value after the borrow. It keeps the text that was returned, and none after an error.
         ensures* kept { sem 𝓛 (follows_so the_row the_row self.entry.ghost_name none (λ _ _. ⊤)
             (λ last. MatchResult result
             (λ found. (last.text ≡ option_map (λ text. text.now) found)
-            × (parse_symbol symbol.now ≡ last_tree last)
+            × (parse_symbol symbol.now ≡ last_reading last)
             × HasBounds printing symbol.now last.store)
-            (λ _. (last.text ≡ None) × (last.node ≡ None) × HasBounds printing symbol.now last.store))) }
+            (λ _. (last.text ≡ None) × (last.kept ≡ None) × HasBounds printing symbol.now last.store))) }
     {
         self.prepare(alloc, symbol, printing)?;
         Ok(self.text())
@@ -249,9 +251,9 @@ impl Demangler {
     pub fn kind(&self) -> Option<Kind>
         ensures value { result ≡ parts.kind_of (last_tree self.now) }
     {
-        match self.node {
+        match self.reading {
             None => None,
-            Some(tree) => Some(kind_of(&self.arena, tree)),
+            Some(reading) => Some(kind_of(&self.arena, reading.tree)),
         }
     }
 
@@ -259,9 +261,9 @@ impl Demangler {
     pub fn has_qualifiers(&self) -> bool
         ensures value { result ≡ parts.has_qualifiers (last_tree self.now) }
     {
-        match self.node {
+        match self.reading {
             None => false,
-            Some(tree) => has_qualifiers(&self.arena, tree),
+            Some(reading) => has_qualifiers(&self.arena, reading.tree),
         }
     }
 
@@ -271,9 +273,9 @@ impl Demangler {
     pub fn print_base_name(&self, style: Style, out: &mut Text) -> Result<(), AllocError>
         ensures prints { Prints result out.old out.new (parts.part_of base_name_text style (last_tree self.now)) }
     {
-        match self.node {
+        match self.reading {
             None => Ok(()),
-            Some(tree) => print_base_name(&self.arena, tree, style, out),
+            Some(reading) => print_base_name(&self.arena, reading.tree, style, out),
         }
     }
 
@@ -282,9 +284,9 @@ impl Demangler {
     pub fn print_context(&self, style: Style, out: &mut Text) -> Result<(), AllocError>
         ensures prints { Prints result out.old out.new (parts.part_of context_text style (last_tree self.now)) }
     {
-        match self.node {
+        match self.reading {
             None => Ok(()),
-            Some(tree) => print_context(&self.arena, tree, style, out),
+            Some(reading) => print_context(&self.arena, reading.tree, style, out),
         }
     }
 
@@ -292,9 +294,9 @@ impl Demangler {
     pub fn print_parameters(&self, style: Style, out: &mut Text) -> Result<(), AllocError>
         ensures prints { Prints result out.old out.new (parts.part_of parameters_text style (last_tree self.now)) }
     {
-        match self.node {
+        match self.reading {
             None => Ok(()),
-            Some(tree) => print_parameters(&self.arena, tree, style, out),
+            Some(reading) => print_parameters(&self.arena, reading.tree, style, out),
         }
     }
 
@@ -302,9 +304,9 @@ impl Demangler {
     pub fn print_return_type(&self, style: Style, out: &mut Text) -> Result<(), AllocError>
         ensures prints { Prints result out.old out.new (parts.part_of return_type_text style (last_tree self.now)) }
     {
-        match self.node {
+        match self.reading {
             None => Ok(()),
-            Some(tree) => print_return_type(&self.arena, tree, style, out),
+            Some(reading) => print_return_type(&self.arena, reading.tree, style, out),
         }
     }
 }

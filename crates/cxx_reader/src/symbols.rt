@@ -1,8 +1,11 @@
 //! Symbols (Itanium C++ ABI 5.1.1).
 #![tactic(auto, using(crate::proofs::Kept::readers), unfolding(cxx_tree::specs::Stored::stands, crate::specs::Outcome::reading_at, cxx_grammar::specs::Parses::past_word_if, cxx_grammar::specs::Symbol::symbol_as, cxx_grammar::specs::Symbol::parse_block_mark, cxx_grammar::specs::Symbol::parse_closed_type))]
 
-ghost use Rattle.std.specs.Prelude.{◌≡◌, ℕ, ◌≤◌, length, OnOk};
+ghost use Rattle.std.specs.Prelude.{◌≡◌, ℕ, ◌≤◌, length, OnOk, Err};
 ghost use Rattle.cxx_grammar.specs.Symbol as spec;
+ghost use Rattle.cxx_grammar.specs.Cases.{case_of_prefix};
+ghost use Rattle.cxx_grammar.specs.declared.cases.PrefixCase.TheVariants as prefix;
+ghost use Rattle.cxx_tree.specs.declared.arena.Stop.TheVariants.{Unreadable};
 ghost use Rattle.cxx_grammar.specs.Symbol.{productions};
 ghost use Rattle.cxx_reader.specs.Outcome.{state, Keeps, Gives, GivesReading, GivesText, GivesUnit, CopiesSuffix};
 
@@ -28,6 +31,8 @@ pub struct Reading {
 /// counted productions may nest.
 pub fn read_symbol(reader: &mut Reader, depth: usize) -> Result<Reading, Stop>
     ensures reads { GivesReading result reader.new (spec.parse_mangled_name (productions depth) (state reader.old)) }
+    ensures keeps { OnOk result (Keeps reader.old reader.new) }
+    ensures no_prefix { case_of_prefix reader.old.rest.now ≡ prefix.None → result ≡ Err Unreadable }
 {
     match prefix_case(reader.rest) {
         PrefixCase::Plain(n) => read_plain_symbol(reader, depth, n),
@@ -40,6 +45,7 @@ pub fn read_symbol(reader: &mut Reader, depth: usize) -> Result<Reading, Stop>
 fn read_plain_symbol(reader: &mut Reader, depth: usize, n: usize) -> Result<Reading, Stop>
     ensures reads { GivesReading result reader.new (spec.parse_plain_symbol (productions depth) n
         (state reader.old)) }
+    ensures keeps { OnOk result (Keeps reader.old reader.new) }
 {
     reader.skip(n);
     let tree = tri!(read_encoding(reader, depth));
@@ -56,6 +62,7 @@ fn read_plain_symbol(reader: &mut Reader, depth: usize, n: usize) -> Result<Read
 fn read_block_symbol(reader: &mut Reader, depth: usize, n: usize) -> Result<Reading, Stop>
     ensures reads { GivesReading result reader.new (spec.parse_block_symbol (productions depth) n
         (state reader.old)) }
+    ensures keeps { OnOk result (Keeps reader.old reader.new) }
 {
     reader.skip(n);
     let tree = tri!(read_encoding(reader, depth));
@@ -85,6 +92,7 @@ impl<'a> Reader<'a> {
     fn read_rest(&mut self) -> Result<&'a [u8], Stop>
         ensures reads { GivesText result self.new (spec.parse_rest (state self.old)) }
         ensures arena { self.new.arena ≡ self.old.arena }
+        ensures within { length self.new.rest.now ≤ length self.old.rest.now }
     {
         let rest = self.rest;
         if !rest.is_empty() && !begins(rest, b'.') {
@@ -111,6 +119,7 @@ impl<'a> Reader<'a> {
     fn skip_block_mark(&mut self) -> Result<(), Stop>
         ensures reads { GivesUnit result self.new (spec.parse_block_mark (state self.old)) }
         ensures arena { self.new.arena ≡ self.old.arena }
+        ensures within { OnOk result (length self.new.rest.now ≤ length self.old.rest.now) }
     {
         match self.rest {
             [
