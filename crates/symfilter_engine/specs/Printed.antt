@@ -5,6 +5,7 @@ use Rattle.abi_scalars.specs.Symbol.{after_prefix}
 use Rattle.itanium_grammar.specs.Answer.{IsAnswer, IsAnswerOf, IsSignatureOrName}
 use Rattle.itanium_demangle.proofs.Answered.{each_answered, each_signed}
 use Rattle.text_filter.specs.Printed.{AnswersEach}
+use Rattle.text_filter.proofs.LineAnswers.{no_prefix}
 use Rattle.symfilter_engine.specs.declared.symbols.Printing.{Printing}
 use Rattle.symfilter_engine.specs.declared.symbols.Printing.TheVariants.{Names, Signatures}
 
@@ -23,9 +24,10 @@ not_read signature line prefix = λ tree next cost reading deep utf8. let e = sy
 
 -- something is printed for each symbol, or it stays
 pub prints_each : (printing : Printing) → AnswersEach (prints printing)
-prints_each Names = record { each = each_answered; unprefixed = not_read false }
+prints_each Names = record { each = each_answered; unprefixed = λ line ordinary. not_read false line (no_prefix line ordinary) }
 prints_each Signatures =
     record {
       each = λ symbol. let found = each_signed symbol in (found.1.0, (found.0, found.1.1));
-      unprefixed = λ line prefix. (false, (not_read true line prefix, not_read false line prefix));
+      unprefixed = λ line ordinary.
+          let prefix = no_prefix line ordinary in (false, (not_read true line prefix, not_read false line prefix));
     }

@@ -27,8 +27,8 @@ line_with printing text_of line symbol text found answer symbol_is is_utf8 is_an
     (λ s. printing s (Some (text_of answer))) symbol_is (subst
     (λ o. printing symbol (option_map text_of o)) found_is is_answer)))
 
--- a symbol begins with an underscore
-no_prefix : (line : List ℕ) → get_or line 0 0 ≢ 95 → after_prefix line ≡ None
+-- a symbol of the Itanium C++ ABI begins with an underscore
+pub no_prefix : (line : List ℕ) → get_or line 0 0 ≢ 95 → after_prefix line ≡ None
 no_prefix [] ordinary = refl
 no_prefix (byte ∷ bytes) ordinary = rw (ne_eqb byte 95 ordinary) refl
 
@@ -38,4 +38,4 @@ by_utf8 printing line none false bad = not_utf8 (λ good. false≢true (sym bad 
 by_utf8 printing line none true good = unanswered (IsUtf8-from_is_utf8 line good) none
 
 pub other_line : (printing : Printing) (laws : AnswersEach printing) (line : List ℕ) → get_or line 0 0 ≢ 95 → IsLineAnswer printing line line
-other_line printing laws line ordinary = by_utf8 printing line (laws.unprefixed line (no_prefix line ordinary)) (is_utf8 line) refl
+other_line printing laws line ordinary = by_utf8 printing line (laws.unprefixed line ordinary) (is_utf8 line) refl

@@ -1,6 +1,5 @@
 -- What is printed for symbols, and where symbols may be.
-use Rattle.std.specs.Prelude.{◌≡◌, ℕ, List, Bool, Option, None}
-use Rattle.abi_scalars.specs.Symbol.{after_prefix}
+use Rattle.std.specs.Prelude.{◌≢◌, ℕ, List, Bool, Option, None, slice_index}
 use Rattle.text_filter.specs.declared.symbols.Placement as code
 use Rattle.text_filter.specs.declared.symbols.Placement.TheVariants as places
 use Rattle.text_filter.specs.declared.symbols.ReplaceOptions as choices
@@ -9,10 +8,10 @@ use Rattle.text_filter.specs.declared.symbols.ReplaceOptions as choices
 abbrev pub Printing : Type 1
 Printing = List ℕ → Option (List ℕ) → Type 0
 
--- something is printed for each symbol, or it stays, and what begins with neither `_Z` nor `__Z` stays
+-- something is printed for each symbol, or it stays, and what doesn't begin with an underscore stays
 pub record AnswersEach (printing : Printing) : Type 0 where
   pub each : (symbol : List ℕ) → (answer : Option (List ℕ)) × printing symbol answer
-  pub unprefixed : (symbol : List ℕ) → after_prefix symbol ≡ None → printing symbol None
+  pub unprefixed : (symbol : List ℕ) → slice_index symbol 0 ≢ 95 → printing symbol None
 
 -- how symbols in words are replaced
 pub record ReplaceOptions : Type 1 where
