@@ -19,11 +19,11 @@ text_or_not text false is = inr (λ good. false≢true (sym is ∙ is_utf8-from_
 -- the printing of a reading is the answer, or there is none
 at_reading : (printing : Printing) (symbol : List ℕ) (t : Reading) → Reads symbol t → IsText (text_of printing t) ⊎ (IsText (text_of printing t) → ⊥)
     → (answer : Option (List ℕ)) × IsAnswer printing symbol answer
-at_reading printing symbol t reads (inl good) = (Some (text_of printing t), has_answer printing symbol t (text_of printing t) reads refl good)
-at_reading printing symbol t reads (inr bad) = (None, no_answer printing symbol t (text_of printing t) reads refl bad)
+at_reading printing symbol t reads (inl good) = (Some (text_of printing t), has_answer printing (parse_symbol symbol) t (text_of printing t) reads refl good)
+at_reading printing symbol t reads (inr bad) = (None, no_answer printing (parse_symbol symbol) t (text_of printing t) reads refl bad)
 
 at_symbol : (printing : Printing) (symbol : List ℕ) (parsed : Option Reading) → parse_symbol symbol ≡ parsed → (answer : Option (List ℕ)) × IsAnswer printing symbol answer
-at_symbol printing symbol None is = (None, no_reading printing symbol is)
+at_symbol printing symbol None is = (None, no_reading printing (parse_symbol symbol) is)
 at_symbol printing symbol (Some t) is = at_reading printing symbol t is (text_or_not (text_of printing t) (is_utf8 (text_of printing t)) refl)
 
 -- each symbol has an answer

@@ -36,7 +36,7 @@ some_by printing symbol answer is short utf8 = go (parse_symbol symbol) refl is
   where
     go : (o : Option Reading) → parse_symbol symbol ≡ o → option_map (text_of printing) o ≡ Some answer → IsAnswer printing symbol (Some answer)
     go None e f = absurd cc
-    go (Some t) e f = has_answer printing symbol t answer e (let g = sym f in cc) (record { short = short; utf8 = IsUtf8-from_is_utf8 answer utf8 })
+    go (Some t) e f = has_answer printing (parse_symbol symbol) t answer e (let g = sym f in cc) (record { short = short; utf8 = IsUtf8-from_is_utf8 answer utf8 })
 
 pub worked_symbols : WorkedSymbols
 unfolding productions parse_unqualified_name parse_named_args parse_in_place parse_component parse_next parse_components
@@ -61,8 +61,8 @@ worked_symbols = record {
   signature = some_by _ (codes "_Z1fIiEvT_") (codes "f<int>(int)") refl (omega arith) refl;
   vendor = some_by _ (codes "_Zv13negi") (codes "operator neg(int)") refl (omega arith) refl;
   pack = some_by _ (codes "_Z1fIJicEEvDpT_") (codes "void f<int, char>(int, char)") refl (omega arith) refl;
-  no_argument = no_reading whole (codes "_Z1fT_") refl;
-  rest = no_reading whole (codes "_Z1fv,") refl;
+  no_argument = no_reading whole (parse_symbol (codes "_Z1fT_")) refl;
+  rest = no_reading whole (parse_symbol (codes "_Z1fv,")) refl;
   suffix = some_by _ (codes "_Z1fv.part.0") (codes "f() (.part.0)") refl (omega arith) refl;
   block = some_by _ (codes "___Z1fv_block_invoke") (codes "invocation function for block in f()") refl (omega arith) refl;
   tag = some_by _ (codes "_Z1fB3tagv") (codes "f[abi:tag]()") refl (omega arith) refl;

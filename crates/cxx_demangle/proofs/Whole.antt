@@ -11,9 +11,10 @@ use Rattle.cxx_grammar.specs.declared.cases.PrefixCase.TheVariants as prefix
 use Rattle.cxx_tree.specs.Tree.{Tree}
 use Rattle.cxx_tree.specs.Stored.{Store, IsWithin, size, saved_trees, stands}
 use Rattle.cxx_grammar.specs.State.{State, start}
-use Rattle.cxx_grammar.specs.Symbol.{Reading, productions, max_depth, parse_mangled_name, parse_symbol, found_of, symbol_as}
+use Rattle.cxx_grammar.specs.Symbol.{Reading, parse_symbol, found_of, symbol_as}
+use Rattle.cxx_demangle.specs.declared.demangler.Entry.{Entry}
 use Rattle.cxx_demangle.specs.declared.demangler.Printing.{Printing}
-use Rattle.cxx_demangle.specs.Answer.{Reads, IsText, text_of, HasAnswer, HasNoAnswer, HasAtMostOneReading, HasBounds, IsAnswer, limit_of}
+use Rattle.cxx_demangle.specs.Answer.{Reads, IsText, text_of, HasAnswer, HasNoAnswer, HasAtMostOneReading, HasBounds, IsAnswerOf, limit_of, entry_parser, parse_entry}
 use Rattle.cxx_demangle.specs.Demangler.{answer_of}
 
 some_same : {A : Type 0} (x y : A) → Some x ≡ Some y → x ≡ y
@@ -22,34 +23,34 @@ some_same x y e = let g = e in cc
 pub one_reading : (symbol : List ℕ) → HasAtMostOneReading symbol
 one_reading symbol = record { agree = λ (t u : Reading) (r : Reads symbol t) (s : Reads symbol u). some_same t u (sym r ∙ s) }
 
--- the symbol isn't read
-pub no_reading : (printing : Printing) (symbol : List ℕ) → parse_symbol symbol ≡ None → HasNoAnswer printing symbol
-no_reading printing symbol e t r f = absurd cc
+-- nothing is read
+pub no_reading : (printing : Printing) (read : Option Reading) → read ≡ None → HasNoAnswer printing read
+no_reading printing read e t r f = absurd cc
 
 -- no prefix
-pub no_prefix : (printing : Printing) (symbol : List ℕ) → case_of_prefix symbol ≡ prefix.None → HasNoAnswer printing symbol
+pub no_prefix : (printing : Printing) (symbol : List ℕ) → case_of_prefix symbol ≡ prefix.None → HasNoAnswer printing (parse_symbol symbol)
 unfolding symbol_as
-no_prefix printing symbol e = no_reading printing symbol (rw e refl)
+no_prefix printing symbol e = no_reading printing (parse_symbol symbol) (rw e refl)
 
 -- a printing that may be an answer
-pub has_answer : (printing : Printing) (symbol : List ℕ) (t : Reading) (text : List ℕ) → Reads symbol t → text ≡ text_of printing t → IsText text → HasAnswer printing symbol text
-has_answer printing symbol t text reads is good = record { reading = t; reads = reads; is = is; text = good }
+pub has_answer : (printing : Printing) (read : Option Reading) (t : Reading) (text : List ℕ) → read ≡ Some t → text ≡ text_of printing t → IsText text → HasAnswer printing read text
+has_answer printing read t text reads is good = record { reading = t; reads = reads; is = is; text = good }
 
 -- and one that may not
-pub no_answer : (printing : Printing) (symbol : List ℕ) (t : Reading) (text : List ℕ) → Reads symbol t → text ≡ text_of printing t → ¬ (IsText text) → HasNoAnswer printing symbol
-no_answer printing symbol t text reads is bad u r good = bad (subst IsText (ap (text_of printing) ((one_reading symbol).agree u t r reads) ∙ sym is) good)
+pub no_answer : (printing : Printing) (read : Option Reading) (t : Reading) (text : List ℕ) → read ≡ Some t → text ≡ text_of printing t → ¬ (IsText text) → HasNoAnswer printing read
+no_answer printing read t text reads is bad u r good = bad (subst IsText (ap (text_of printing) (some_same u t (sym r ∙ reads)) ∙ sym is) good)
 
 -- a demangler begins with nothing saved
-pub started : {x : Option (Reading × State)} (symbol : List ℕ) (saved : List Tree) → saved ≡ []
-    → parse_mangled_name (productions max_depth) (record { rest = symbol; saved = saved; replaced = 0; level = 0 }) ≡ x → parse_symbol symbol ≡ found_of x
-started symbol saved e f =
-    ap (λ (ts : List Tree). found_of (parse_mangled_name (productions max_depth) (record { rest = symbol; saved = ts; replaced = 0; level = 0 }))) (sym e) ∙ ap found_of f
+pub started : (as : Entry) {x : Option (Reading × State)} (text : List ℕ) (saved : List Tree) → saved ≡ []
+    → entry_parser as (record { rest = text; saved = saved; replaced = 0; level = 0 }) ≡ x → parse_entry as text ≡ found_of x
+started as text saved e f =
+    ap (λ (ts : List Tree). found_of (entry_parser as (record { rest = text; saved = ts; replaced = 0; level = 0 }))) (sym e) ∙ ap found_of f
 
 -- the answer, after the test of the text
-pub answered : (printing : Printing) (symbol : List ℕ) (r : Reading) (text : List ℕ) → Reads symbol r → text ≡ text_of printing r
-    → (is_answer : Bool) → (is_answer ≡ true → IsText text) → (is_answer ≡ false → ¬ (IsText text)) → IsAnswer printing symbol (answer_of is_answer text)
-answered printing symbol r text reads is true good bad = has_answer printing symbol r text reads is (good refl)
-answered printing symbol r text reads is false good bad = no_answer printing symbol r text reads is (bad refl)
+pub answered : (printing : Printing) (read : Option Reading) (r : Reading) (text : List ℕ) → read ≡ Some r → text ≡ text_of printing r
+    → (is_answer : Bool) → (is_answer ≡ true → IsText text) → (is_answer ≡ false → ¬ (IsText text)) → IsAnswerOf printing read (answer_of is_answer text)
+answered printing read r text reads is true good bad = has_answer printing read r text reads is (good refl)
+answered printing read r text reads is false good bad = no_answer printing read r text reads is (bad refl)
 
 -- nothing is read, as a result
 pub refused : (r : Result code.Reading Stop) (after : Reader) (x : Option (Reading × State)) → GivesReading r after x → r ≡ Err Unreadable → x ≡ None

@@ -7,7 +7,7 @@ use Rattle.cxx_tree.specs.Stored.{Store}
 use Rattle.cxx_reader.specs.declared.symbols.Reading as code
 use Rattle.cxx_reader.specs.Outcome.{IsReading, reading_at}
 use Rattle.cxx_demangle.specs.declared.demangler.Demangler.TheInside.{Inside}
-use Rattle.cxx_grammar.specs.Symbol.{Reading, parse_symbol}
+use Rattle.cxx_grammar.specs.Symbol.{Reading}
 
 -- the answer to the last symbol, if there is one
 abbrev pub answer_of : Bool → List ℕ → Option (List ℕ)
@@ -45,8 +45,8 @@ IsOptionUtf8 None = Unit {0}
 abbrev pub KeepsAnswer : Inside → Type 0
 KeepsAnswer d = IsOptionUtf8 (answer_of d.is_answered d.text) × IfSome d.reading (IsReading d.arena)
 
--- the reading of a symbol; or there is none
-abbrev pub GivesWhole : Result (Option code.Reading) AllocError → Store → List ℕ → Type 0
-GivesWhole (Ok (Some r)) after symbol = IsReading after r × (parse_symbol symbol ≡ Some (reading_at after r))
-GivesWhole (Ok None) after symbol = parse_symbol symbol ≡ None
-GivesWhole (Err e) after symbol = Unit {0}
+-- what was read; or nothing was
+abbrev pub GivesWhole : Result (Option code.Reading) AllocError → Store → Option Reading → Type 0
+GivesWhole (Ok (Some r)) after read = IsReading after r × (read ≡ Some (reading_at after r))
+GivesWhole (Ok None) after read = read ≡ None
+GivesWhole (Err e) after read = Unit {0}

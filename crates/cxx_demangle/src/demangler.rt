@@ -1,15 +1,17 @@
 //! `Demangler`, which demangles symbol after symbol.
 #![tactic(auto, using(crate::proofs::Whole::answers), unfolding(cxx_tree::specs::Stored::stands, cxx_reader::specs::Outcome::reading_at))]
 
-ghost use Rattle.std.specs.Prelude.{◌≡◌, ◌≤◌, length, min, IfOk, OnOk, OnErr, MatchResult, ⊤, option_map, is_some, true, false, Ok, None};
+ghost use Rattle.std.specs.Prelude.{◌≡◌, ◌≤◌, length, min, IfOk, OnOk, OnErr, MatchResult, ⊤, option_map, is_some, true, false, Ok, Err, None};
 ghost use Rattle.std.specs.Borrow.{sem};
 ghost use Rattle.std.specs.Str.{IsUtf8};
 ghost use Rattle.cxx_grammar.specs.Cases.{case_of_prefix};
 ghost use Rattle.cxx_grammar.specs.declared.cases.PrefixCase.TheVariants as prefix;
-ghost use Rattle.cxx_reader.specs.Outcome.{IsReading, reading_at};
+ghost use Rattle.cxx_reader.specs.Outcome.{state, Keeps, GivesReading, IsReading, reading_at};
+ghost use Rattle.cxx_tree.specs.declared.arena.Stop.TheVariants.{Unreadable};
+ghost use Rattle.cxx_demangle.specs.declared.demangler.Entry.TheVariants as entries;
 ghost use Rattle.cxx_tree.specs.Stored.{IsWithin};
 ghost use Rattle.cxx_demangle.specs.Answer as spec;
-ghost use Rattle.cxx_demangle.specs.Answer.{IsAnswer, HasAtMostOneReading, HasBounds, IsText, text_of};
+ghost use Rattle.cxx_demangle.specs.Answer.{IsAnswer, IsAnswerOf, IsTypeAnswer, HasAtMostOneReading, HasBounds, IsText, text_of};
 ghost use Rattle.cxx_demangle.specs.Demangler.{GivesWhole, last_reading, last_tree};
 ghost use Rattle.cxx_demangle.specs.Parts as parts;
 ghost use Rattle.cxx_grammar.specs.Symbol.{parse_symbol};
@@ -21,7 +23,7 @@ use cxx_printer::{
     Kind, Mode, Style, Symbol, has_qualifiers, kind_of, print_base_name, print_context,
     print_parameters, print_return_type, print_symbol,
 };
-use cxx_reader::{Reader, Reading, read_symbol};
+use cxx_reader::{Reader, Reading, read_symbol, read_type_alone};
 use cxx_tree::{Arena, Stop};
 use growing_text::Text;
 use std::alloc::{AllocError, Global};
@@ -85,29 +87,58 @@ fn limit_of(limit: Option<usize>, len: usize) -> usize
     }
 }
 
-// Reads a symbol, and keeps at most `limit` of each kind. Returns `None` if there is no reading
+// How a text is read.
+#[derive(Clone, Copy)]
+enum Entry {
+    Symbol,
+    // A type alone.
+    Type,
+}
+
+// Reads all of a text.
+fn read_entry(reader: &mut Reader, entry: Entry) -> Result<Reading, Stop>
+    ensures reads { GivesReading result reader.new (spec.entry_parser entry (state reader.old)) }
+    ensures keeps { OnOk result (Keeps reader.old reader.new) }
+    ensures no_prefix { entry ≡ entries.Symbol → case_of_prefix reader.old.rest.now ≡ prefix.None
+        → result ≡ Err Unreadable }
+{
+    match entry {
+        Entry::Symbol => read_symbol(reader, MAX_DEPTH),
+        Entry::Type => match read_type_alone(reader, MAX_DEPTH) {
+            Ok(tree) => Ok(Reading {
+                tree,
+                is_block: false,
+                suffix: None,
+            }),
+            Err(stop) => Err(stop),
+        },
+    }
+}
+
+// Reads a text, and keeps at most `limit` of each kind. Returns `None` if there is no reading
 // within the limits of the grammar.
 fn read(
     arena: &mut Arena,
     alloc: Global,
-    symbol: &[u8],
+    text: &[u8],
+    entry: Entry,
     limit: usize,
 ) -> Result<Option<Reading>, AllocError>
-    ensures gives { GivesWhole result arena.new symbol.now }
-    ensures no_prefix { case_of_prefix symbol.now ≡ prefix.None → result ≡ Ok None }
+    ensures gives { GivesWhole result arena.new (spec.parse_entry entry text.now) }
+    ensures no_prefix { entry ≡ entries.Symbol → case_of_prefix text.now ≡ prefix.None → result ≡ Ok None }
     ensures within { IsWithin limit arena.new }
 {
     // The reader owns the arena while it reads.
     let mut cleared = replace(arena, Arena::new(alloc));
     cleared.clear(limit);
     let mut reader = Reader {
-        rest: symbol,
+        rest: text,
         arena: cleared,
         replaced: 0,
         level: 0,
         alloc,
     };
-    let read = read_symbol(&mut reader, MAX_DEPTH);
+    let read = read_entry(&mut reader, entry);
     swap(arena, &mut reader.arena);
     // Its clauses say that the limit is kept.
     arena.limit();
@@ -198,10 +229,46 @@ impl Demangler {
         ensures reads { IfOk result (λ _. parse_symbol symbol.now ≡ last_reading self.new) }
         ensures bounds { HasBounds printing symbol.now self.new.store }
     {
+        self.prepare_as(alloc, symbol, Entry::Symbol, printing)
+    }
+
+    /// Reads a type alone, as a program names types at run time, and keeps what is printed of it, which `text` returns
+    /// afterwards. Returns `true` if the type has an answer. All else is as for symbols. `i` is `int`, and `P1A` is `A*`.
+    pub fn prepare_type(
+        &mut self,
+        alloc: Global,
+        text: &str,
+        printing: Printing,
+    ) -> Result<bool, AllocError>
+        ensures answer { IfOk result (λ _. IsTypeAnswer printing text.now self.new.text) }
+        ensures found { IfOk result (λ found. found ≡ is_some self.new.text) }
+        ensures err { OnErr result ((self.new.text ≡ None) × (self.new.kept ≡ None)) }
+        ensures reads { IfOk result (λ _. spec.parse_entry entries.Type text.now ≡ last_reading self.new) }
+        ensures bounds { HasBounds printing text.now self.new.store }
+    {
+        self.prepare_as(alloc, text, Entry::Type, printing)
+    }
+
+    // Reads a text, and keeps what is printed of it.
+    fn prepare_as(
+        &mut self,
+        alloc: Global,
+        text: &str,
+        entry: Entry,
+        printing: Printing,
+    ) -> Result<bool, AllocError>
+        ensures answer { IfOk result (λ _. IsAnswerOf printing (spec.parse_entry entry text.now) self.new.text) }
+        ensures found { IfOk result (λ found. found ≡ is_some self.new.text) }
+        ensures no_prefix { entry ≡ entries.Symbol → case_of_prefix text.now ≡ prefix.None
+            → (result ≡ Ok false) × (self.new.text ≡ None) }
+        ensures err { OnErr result ((self.new.text ≡ None) × (self.new.kept ≡ None)) }
+        ensures reads { IfOk result (λ _. spec.parse_entry entry text.now ≡ last_reading self.new) }
+        ensures bounds { HasBounds printing text.now self.new.store }
+    {
         self.is_answered = false;
         self.reading = None;
-        let limit = limit_of(printing.limit, symbol.len());
-        let Some(reading) = read(&mut self.arena, alloc, symbol.as_bytes(), limit)? else {
+        let limit = limit_of(printing.limit, text.len());
+        let Some(reading) = read(&mut self.arena, alloc, text.as_bytes(), entry, limit)? else {
             return Ok(false);
         };
         print(&self.arena, reading, printing, &mut self.text)?;
@@ -243,6 +310,27 @@ impl Demangler {
             (λ _. (last.text ≡ None) × (last.kept ≡ None) × HasBounds printing symbol.now last.store))) }
     {
         self.prepare(alloc, symbol, printing)?;
+        Ok(self.text())
+    }
+
+    /// Returns what is printed of a type alone, as `demangle` does of a symbol, or `None` if it has no answer, as
+    /// `prepare_type` says.
+    pub fn demangle_type<'a>(
+        &'a mut self,
+        alloc: Global,
+        text: &'a str,
+        printing: Printing,
+    ) -> Result<Option<&'a str>, AllocError>
+        ensures answer { IfOk result (λ found. IsTypeAnswer printing text.now (option_map (λ text. text.now) found)) }
+        // `last` is the value after the borrow. It keeps the text that was returned, and none after an error.
+        ensures* kept { sem 𝓛 (follows_so the_row the_row self.entry.ghost_name none (λ _ _. ⊤)
+            (λ last. MatchResult result
+            (λ found. (last.text ≡ option_map (λ text. text.now) found)
+            × (spec.parse_entry entries.Type text.now ≡ last_reading last)
+            × HasBounds printing text.now last.store)
+            (λ _. (last.text ≡ None) × (last.kept ≡ None) × HasBounds printing text.now last.store))) }
+    {
+        self.prepare_type(alloc, text, printing)?;
         Ok(self.text())
     }
 

@@ -79,6 +79,7 @@ fn read_block_symbol(reader: &mut Reader, depth: usize, n: usize) -> Result<Read
 /// nest.
 pub fn read_type_alone(reader: &mut Reader, depth: usize) -> Result<u32, Stop>
     ensures reads { Gives result reader.new (spec.parse_closed_type (productions depth) (state reader.old)) }
+    ensures keeps { OnOk result (Keeps reader.old reader.new) }
 {
     let t = tri!(read_type(reader, depth, false));
     if !reader.rest.is_empty() {
