@@ -41,10 +41,10 @@ pub no_answer : (printing : Printing) (read : Option Reading) (t : Reading) (tex
 no_answer printing read t text reads is bad u r good = bad (subst IsText (ap (text_of printing) (some_same u t (sym r ∙ reads)) ∙ sym is) good)
 
 -- a demangler begins with nothing saved
-pub started : (as : Entry) {x : Option (Reading × State)} (text : List ℕ) (saved : List Tree) → saved ≡ []
-    → entry_parser as (record { rest = text; saved = saved; replaced = 0; level = 0 }) ≡ x → parse_entry as text ≡ found_of x
-started as text saved e f =
-    ap (λ (ts : List Tree). found_of (entry_parser as (record { rest = text; saved = ts; replaced = 0; level = 0 }))) (sym e) ∙ ap found_of f
+pub started : (way : Entry) {x : Option (Reading × State)} (text : List ℕ) (saved : List Tree) → saved ≡ []
+    → entry_parser way (record { rest = text; saved = saved; replaced = 0; level = 0 }) ≡ x → parse_entry way text ≡ found_of x
+started way text saved e f =
+    ap (λ (ts : List Tree). found_of (entry_parser way (record { rest = text; saved = ts; replaced = 0; level = 0 }))) (sym e) ∙ ap found_of f
 
 -- the answer, after the test of the text
 pub answered : (printing : Printing) (read : Option Reading) (r : Reading) (text : List ℕ) → read ≡ Some r → text ≡ text_of printing r

@@ -31,7 +31,7 @@ entry_parser entry.Type = type_reading <$> parse_closed_type (productions max_de
 
 -- what all of a text is read as: a symbol, or a type alone
 abbrev pub parse_entry : Entry → List ℕ → Option Reading
-parse_entry as text = found_of (entry_parser as (start text))
+parse_entry e text = found_of (entry_parser e (start text))
 
 -- what a reading prints
 abbrev pub text_of : Printing → Reading → List ℕ

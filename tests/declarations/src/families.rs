@@ -128,6 +128,110 @@ fn numbered(what: &'static str, symbol: fn(usize) -> String, most: usize, text: 
     [(what, symbol(1), Some(text(1))), (what, symbol(most), Some(text(most))), (what, symbol(most + 1), None)]
 }
 
+/// Local names, one in the other.
+fn locals(n: usize) -> String {
+    format!("_Z{}1fv{}E1x", "Z".repeat(n), "E1xv".repeat(n - 1))
+}
+
+/// Closures, each with one as its parameter but for the last.
+fn closures(n: usize) -> String {
+    format!("_Z1f{}v{}", "N1AUl".repeat(n), "E_E".repeat(n))
+}
+
+/// Functions that return a pointer to the next one.
+fn functions(n: usize) -> String {
+    format!("_Z1f{}i{}", "PF".repeat(n), "vE".repeat(n))
+}
+
+/// Something before an `int`, so many times.
+fn before_int(what: &str, n: usize) -> String {
+    format!("_Z1f{}i", what.repeat(n))
+}
+
+/// The same of a text behind it.
+fn behind_int(what: &str, n: usize) -> String {
+    format!("f(int{})", what.repeat(n))
+}
+
+/// Symbols of the rest of names and types at and past the limits of depth and height.
+fn names_and_types() -> Vec<Case> {
+    let mut cases = Vec::new();
+    cases.extend(numbered("arrays", |n| before_int("A_", n), MAX_DEPTH - 2, |n| format!("f(int {})", "[]".repeat(n))));
+    cases.extend(numbered("vectors", |n| before_int("Dv2_", n), MAX_DEPTH - 2, |n| behind_int(" vector[2]", n)));
+    cases.extend(numbered("complex types", |n| before_int("C", n), MAX_DEPTH - 2, |n| behind_int(" complex", n)));
+    // The type, each of its qualified types and the last one, and `int`.
+    cases.extend(numbered("vendor qualifiers", |n| before_int("U1a", n), MAX_DEPTH - 4, |n| behind_int(" a", n)));
+    // A pointer and a function, and `int`.
+    cases.extend(numbered("functions", functions, (MAX_DEPTH - 2) / 2, |n| {
+        format!("f(int{}{})", " (*".repeat(n), ")()".repeat(n))
+    }));
+    // An encoding and its name for each scope, and those of the function.
+    cases.extend(numbered("local names", locals, (MAX_DEPTH - 2) / 2, |n| format!("f(){}::x", "::x()".repeat(n - 1))));
+    // A type and its name.
+    cases.extend(numbered("closures", closures, (MAX_DEPTH - 1) / 2, |n| {
+        format!("f({}{})", "A::'lambda'(".repeat(n), ")".repeat(n))
+    }));
+    // An encoding, its name, and `int`.
+    let conversion = |n| format!("_ZN1Acv{}iEv", "P".repeat(n));
+    cases
+        .extend(numbered("a conversion", conversion, MAX_DEPTH - 3, |n| format!("A::operator int{}()", "*".repeat(n))));
+    // The name, and what isn't a function, have one more each.
+    let tags = |n| format!("_Z1f{}", "B1t".repeat(n));
+    cases.extend(numbered("tags", tags, MAX_HEIGHT - 2, |n| format!("f{}", "[abi:t]".repeat(n))));
+    cases
+}
+
+/// A symbol, and its declaration in LLVM's style and in GNU's.
+pub type Styled = (String, String, String);
+
+/// Symbols with both styles. LLVM prints three of them otherwise: there a substitution that was met as a template
+/// parameter of a lambda or of another function keeps what it was.
+pub fn styled() -> Vec<Styled> {
+    let given = [
+        [
+            "_Z4sameIZ4mainEUlT_E_EbRKS0_PS2_",
+            "bool same<main::'lambda'(auto)>(main::'lambda'(auto) const&, main::'lambda'(auto) const*)",
+            "bool same<main::{lambda(auto:1)#1}>(main::{lambda(auto:1)#1} const&, main::{lambda(auto:1)#1} const*)",
+        ],
+        [
+            "_Z4use1IZ3oneIlEDaT_EUllE_EiS1_RS1_",
+            "int use1<auto one<long>(long)::'lambda'(long)>(auto one<long>(long)::'lambda'(long), \
+                auto one<long>(long)::'lambda'(long)&)",
+            "int use1<one<long>(long)::{lambda(long)#1}>(one<long>(long)::{lambda(long)#1}, \
+                one<long>(long)::{lambda(long)#1}&)",
+        ],
+        [
+            "_Z3eatIZ3FoovEUlPA5_T_E1_EvRS0_",
+            "void eat<Foo()::'lambda1'(auto (*) [5])>(Foo()::'lambda1'(auto (*) [5])&)",
+            "void eat<Foo()::{lambda(auto:1 (*) [5])#3}>(Foo()::{lambda(auto:1 (*) [5])#3}&)",
+        ],
+    ];
+    let mut cases: Vec<Styled> = given.map(|it| it.map(str::to_string).into()).to_vec();
+    cases.extend(numbers_without_digits());
+    for count in [1, 20, 64, LONG] {
+        let (nines, zeros) = ("9".repeat(count), "0".repeat(count));
+        let eight = format!("{}8", &nines[1..]);
+        cases.extend(ordinals(&nines, &format!("1{}1", &zeros[1..])));
+        cases.extend(ordinals(&eight, &format!("1{zeros}")));
+        cases.extend(ordinals(&zeros, "2"));
+    }
+    cases
+}
+
+/// Entities without a number, which are the first ones.
+fn numbers_without_digits() -> [Styled; 3] {
+    ordinals("", "1")
+}
+
+/// Entities with a number, which have this ordinal in GNU's style.
+fn ordinals(number: &str, ordinal: &str) -> [Styled; 3] {
+    [
+        (format!("_ZUt{number}_"), format!("'unnamed{number}'"), format!("{{unnamed type#{ordinal}}}")),
+        (format!("_ZUlvE{number}_"), format!("'lambda{number}'()"), format!("{{lambda()#{ordinal}}}")),
+        (format!("_ZZ1fiEd{number}_1x"), "f(int)::x".to_string(), format!("f(int)::{{default arg#{ordinal}}}::x")),
+    ]
+}
+
 /// Symbols at and past each limit, and short ones.
 pub fn limited() -> Vec<Case> {
     let chain_text = |n: usize| {
@@ -150,6 +254,7 @@ pub fn limited() -> Vec<Case> {
     cases.extend(numbered("doubled arguments", doubled, most_doubled(), doubled_text));
     cases.extend(numbered("doubled template parameters", replaced, most_replaced(), replaced_text));
     cases.extend(numbered("replaced lists", replaced_lists, most_replaced_lists(), replaced_lists_text));
+    cases.extend(names_and_types());
     cases.push(("an operator of a vendor", "_Zv23mixii".to_string(), Some("operator mix(int, int)".to_string())));
     cases.push(("an empty pack", "_Z1fIJEDpT_Evv".to_string(), Some("void f<>()".to_string())));
     cases.push(("two empty packs", "_Z1fIJJEJEEEvDpT_".to_string(), Some("void f<>(, )".to_string())));
@@ -159,6 +264,89 @@ pub fn limited() -> Vec<Case> {
         Some(format!("f({})", vec!["int"; 1000].join(", "))),
     ));
     cases
+}
+
+/// The family with the most bound nodes.
+pub const BOUND: &str = "closures around parameters";
+/// The families of a long number of an entity.
+pub const NUMBERED: [&str; 5] = [
+    "a long default argument",
+    "a negative default argument",
+    "a long closure",
+    "a long unnamed type",
+    "zeros of an unnamed type",
+];
+
+/// Long symbols of the rest of names and types. `replacing` has what follows a parameter `A<T>` and doubles it.
+fn long_names_and_types(replacing: &str) -> Vec<(&'static str, String)> {
+    let (half, third, quarter) = (LONG / 2, LONG / 3, LONG / 4);
+    let nines = "9".repeat(LONG);
+    let int = |what: &str| before_int(what, LONG / what.len());
+    let scoped = |what: &str| format!("_ZN1A{}E", what.repeat(LONG / what.len()));
+    vec![
+        ("arrays", int("A_")),
+        ("arrays with a dimension", int("A1_")),
+        ("a long dimension", format!("_Z1fA{nines}_i")),
+        ("vectors", int("Dv4_")),
+        ("a long vector", format!("_Z1fDv{nines}_i")),
+        ("complex types", int("C")),
+        ("imaginary types", int("G")),
+        ("functions", functions(quarter)),
+        ("functions that are open", int("F")),
+        ("parameters of a function type", format!("_Z1fFv{}E", "i".repeat(LONG))),
+        ("functions as parameters", format!("_Z1f{}", "FvvE".repeat(quarter))),
+        ("exceptions", format!("_Z1fDw{}EFvvE", "i".repeat(LONG))),
+        ("exceptions that are open", int("Dw")),
+        ("functions without exceptions", format!("_Z1f{}", "DoFvvE".repeat(LONG / 6))),
+        ("members that are functions", int("M1AFvvE")),
+        ("local names", locals(LONG / 5)),
+        ("scopes of local names", "_Z".to_string() + &"Z".repeat(LONG)),
+        ("local names as parameters", format!("_Z1g{}", "Z1fvE1x_0".repeat(LONG / 9))),
+        ("string literals", format!("_Z{}1fv{}Es", "Z".repeat(quarter), "Esv".repeat(quarter))),
+        ("string literals in each other", format!("_Z{}1fv{}Es", "Z".repeat(250), "Esv".repeat(249))),
+        ("default arguments", format!("_Z{}1fv{}", "Z".repeat(quarter), "Ed_1xv".repeat(quarter / 2))),
+        ("a long default argument", format!("_ZZ1fiEd{nines}_1x")),
+        ("a negative default argument", format!("_ZZ1fiEdn{nines}_1x")),
+        ("a long discriminator", format!("_ZZ1fvE1x__{nines}_")),
+        ("a long discriminator at the end", format!("_ZZ1fvE1x{nines}")),
+        ("discriminators", format!("_Z{}1fv{}E1x", "Z".repeat(250), "E1x__1234567890_v".repeat(249))),
+        ("underscores", format!("_ZZ1fvE1x{}", "_".repeat(LONG))),
+        ("closures", closures(LONG / 8)),
+        ("closures that are open", int("N1AUl")),
+        ("closures in a scope", scoped("UlvE_")),
+        ("closures of types", scoped("UliE_")),
+        ("a long closure", format!("_ZUlvE{nines}_")),
+        ("parameters of a closure", format!("_ZUl{}E_", "T_".repeat(half))),
+        ("too many parameters of a closure", format!("_ZUl{}E_", "RT_".repeat(third))),
+        ("doubled parameters of a closure", format!("_ZN1AUl1BIT_E{replacing}E_E")),
+        (BOUND, format!("_Z1f{}T_{}", "N1AUl".repeat(254), "E_E".repeat(254))),
+        ("unnamed types", scoped("Ut_")),
+        ("a long unnamed type", format!("_ZUt{nines}_")),
+        ("zeros of an unnamed type", format!("_ZUt{}_", "0".repeat(LONG))),
+        ("block literals", scoped("Ub_")),
+        ("a long block literal", format!("_ZUb{nines}_")),
+        ("tags", format!("_Z1f{}", "B1t".repeat(third))),
+        ("tags of each scope", scoped("1aB1t")),
+        ("a long tag", format!("_Z1fB{LONG}{}", "t".repeat(LONG))),
+        ("conversions", scoped("cvi")),
+        ("conversions that are open", format!("_ZN1A{}", "cvN1A".repeat(LONG / 5))),
+        ("a conversion to pointers", format!("_ZN1Acv{}iEv", "P".repeat(LONG))),
+        ("vendor qualifiers", int("U1a")),
+        ("arguments of vendor qualifiers", int("U1aI")),
+        ("arguments of a vendor qualifier", format!("_Z1fU1aI{}Ei", "i".repeat(LONG))),
+        ("vendor types", int("u1aI")),
+        ("vendor types as parameters", format!("_Z1f{}", "u1a".repeat(third))),
+        ("protocols", int("U11objcproto1P")),
+        ("protocols in a protocol", format!("_Z1fU{}{}i", 9 + 9 * LONG / 9, "objcproto".repeat(LONG / 9 + 1))),
+        ("a long floating-point type", format!("_Z1fDF{nines}_")),
+        ("a long integer type", format!("_Z1fDB{nines}_")),
+        ("integer types", format!("_Z1f{}", "DU7_".repeat(quarter))),
+        ("a suffix", format!("_Z1fv.{}", "a".repeat(LONG))),
+        ("dots", format!("_Z1fv{}", ".".repeat(LONG))),
+        ("suffixes", format!("_Z1fv{}", ".a".repeat(half))),
+        ("a long block", format!("___Z1fv_block_invoke{nines}")),
+        ("a block with a suffix", format!("___Z1fv_block_invoke.{}", "a".repeat(LONG))),
+    ]
 }
 
 /// Long symbols of each family.
@@ -175,7 +363,8 @@ pub fn costly() -> Vec<(&'static str, String)> {
     }
     let letters = |letter: &str| format!("_Z1f{}", letter.repeat(LONG));
     let nested = |front: &str, n: usize, end: &str| format!("{}{}", front.repeat(n), end.repeat(n));
-    vec![
+    let mut families = long_names_and_types(&replacing["_Z1fIiEv1AIT_E".len()..]);
+    families.extend([
         ("pointers", pointers(LONG)),
         ("scopes", scopes(LONG / 2)),
         ("scopes that are open", format!("_Z{}", "N1a".repeat(LONG / 3))),
@@ -206,7 +395,8 @@ pub fn costly() -> Vec<(&'static str, String)> {
         ("template parameters that aren't there", format!("_Z1fIiEvT{}_", "9".repeat(LONG))),
         ("names with arguments", format!("_Z1f{}", nested("1AI", LONG / 4, "E"))),
         ("standard library", format!("_Z1f{}", "NSt1aE".repeat(LONG / 6))),
-    ]
+    ]);
+    families
 }
 
 /// Symbols that have no answer.
@@ -261,8 +451,92 @@ pub fn refused() -> Vec<String> {
         "_ZNT_C1Ev",
         "_Z1fN1aIiEIiEE",
         "_ZN1aIiEIiE1bE",
-        "_Z1fi.clone",
-        "_Z1fv.isra.0",
+        // Tags, unnamed types, closures and conversions.
+        "_Z1fB",
+        "_Z1fB0",
+        "_Z1fB01tv",
+        "_ZSsB1t",
+        "_ZUt",
+        "_ZUtn1_",
+        "_ZUt1a_",
+        "_ZUb",
+        "_ZUb1a_",
+        "_ZUl",
+        "_ZUlE_",
+        "_ZUlvE",
+        "_ZUlviE_",
+        "_ZUlvEn0_",
+        "_ZN1AUlT_E_1fEvT_",
+        "_Z1fIiEvN1AUlT_T0_E_E",
+        "_Zcv",
+        "_ZcvT_v",
+        "_ZN1AcvPT_Ev",
+        "_ZN1AcvT_IEEv",
+        "_ZN1AcvT0_IiEEv",
+        // Local names.
+        "_ZZ",
+        "_ZZ1fvE",
+        "_ZZ1fvEE1x",
+        "_ZZ1fvET_",
+        "_ZZ1fvE1x_",
+        "_ZZ1fvE1x__",
+        "_ZZ1fvE1x__1",
+        "_ZZ1fvE1x__12345678901_",
+        "_ZZ1fvE1x12345678901",
+        "_ZZ1fvEs_",
+        "_ZZ1fiEd",
+        "_ZZ1fiEdn_1x",
+        "_ZZ1fiEd_S_",
+        "_ZZ1fiEd0_1x_0",
+        // Functions, arrays and vectors.
+        "_Z1fPF",
+        "_Z1fPFE",
+        "_Z1fPFvv",
+        "_Z1fPFvviE",
+        "_Z1fPFvivE",
+        "_Z1fPFvvRR",
+        "_Z1fPDo",
+        "_Z1fPDoKFvvE",
+        "_Z1fPDwi",
+        "_Z1fPDwE",
+        "_Z1fPDxvvE",
+        "_Z1fPDxDoFvvE",
+        "_Z1fPFYYvvE",
+        "_Z1fA",
+        "_Z1fA5",
+        "_Z1fA5i",
+        "_Z1fA5_",
+        "_Z1fAn1_i",
+        "_Z1fDv",
+        "_Z1fDv0_f",
+        "_Z1fDv_p",
+        "_Z1fDv4_",
+        // Other types.
+        "_Z1fC",
+        "_Z1fGT_",
+        "_Z1fU",
+        "_Z1fU1a",
+        "_Z1fU1aI",
+        "_Z1fU10objcprotoXi",
+        "_Z1fU10objcproto1i",
+        "_Z1fu",
+        "_Z1fu1aIE",
+        "_Z1fu1aIicE",
+        "_Z1fDF",
+        "_Z1fDF_",
+        "_Z1fDF32b",
+        "_Z1fDB_",
+        "_Z1fDB1",
+        "_Z1fDU_",
+        // Suffixes and blocks.
+        "_Z.x",
+        "_Z1f_.x",
+        "_Z1fP.x",
+        "___Z1fv.cold",
+        "___Z1fv_block_invoke_",
+        "___Z1fv_block_invoke1_2",
+        "_Z1fv_block_invoke",
+        "_____Z1fv_block_invoke",
     ]
     .map(str::to_string)
     .to_vec()

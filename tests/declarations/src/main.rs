@@ -1,7 +1,8 @@
 //! Tests the demangler of declarations at its limits: symbols at and past each limit, families of long symbols with
 //! what they cost, the limit of memory, malformed symbols, allocations that fail, and the stack. Tests the parts of
-//! symbols too. Standard input has symbols, one per line, which are read with little stack. The last line is
-//! `N passed, M failed`.
+//! symbols too. Standard input has
+//! symbols, one per line. They are read with little stack, and of each family of names and types all beginnings of some
+//! of them. The last line is `N passed, M failed`.
 //!
 //! usage: declarations
 
@@ -20,11 +21,12 @@ mod rattle;
 mod extracted;
 
 use crate::extracted::cxx_demangle::{Demangler, Mode, Printing, Style};
-use crate::families::{costly, limited, refused};
+use crate::families::{BOUND, NUMBERED, costly, limited, refused, styled};
 use crate::parts::parts;
 use crate::rattle::alloc::Global;
 use std::io::{self, BufRead};
 use std::process::ExitCode;
+use std::sync::Arc;
 use std::thread;
 use std::time::{Duration, Instant};
 
@@ -35,17 +37,26 @@ const LITTLE_STACK: usize = 32 << 10;
 const THREAD: usize = 16 << 10;
 /// The most memory in bytes that a symbol of 100,000 bytes may take, and the most time.
 const MEMORY: usize = 16 << 20;
-const TIME: Duration = Duration::from_millis(500);
-/// A limit of what is kept for a symbol, and the most memory in bytes that it allows.
+/// The same where closures nest up to the limit of depth: binding their template parameters makes 64,516 nodes, each of
+/// several parts, from some 2,000 bytes.
+const BOUND_MEMORY: usize = 18 << 20;
+const TIME: Duration = Duration::from_millis(100);
+/// How many symbols of a family have their beginnings read, and the length in bytes of the longest.
+const FEW: usize = 500;
+const SHORT: usize = 300;
+/// A limit of what is kept for a symbol, the most memory in bytes that it allows, and what the digits of the number of
+/// an entity take beside it, for each of them.
 const LOW_LIMIT: usize = 1000;
 const LOW_MEMORY: usize = 256 * LOW_LIMIT;
+const DIGIT: usize = 6;
 
 const DECLARATION: Printing = Printing { mode: Mode::Declaration, style: Style::Llvm, limit: None };
+const GNU: Printing = Printing { style: Style::Gnu, ..DECLARATION };
 const PRINTINGS: [Printing; 4] = [
     Printing { mode: Mode::Name, style: Style::Llvm, limit: None },
     Printing { mode: Mode::Signature, style: Style::Llvm, limit: None },
     DECLARATION,
-    Printing { mode: Mode::Declaration, style: Style::Gnu, limit: None },
+    GNU,
 ];
 
 /// What was found so far.
@@ -79,21 +90,108 @@ fn limits(counts: &mut Counts) {
     }
 }
 
+/// Symbols with both styles.
+fn styles(counts: &mut Counts) {
+    let mut demangler = Demangler::new(Global);
+    for (symbol, llvm, gnu) in styled() {
+        let what = &symbol[..symbol.len().min(100)];
+        counts.check(what, declared(&mut demangler, &symbol).as_ref() == Some(&llvm));
+        counts.check(&format!("{what} in GNU's style"), demangler.demangle(Global, &symbol, GNU) == Ok(Some(&gnu)));
+    }
+}
+
+/// What a call takes: time, and memory beyond that before.
+#[derive(Clone, Copy, Default)]
+struct Cost {
+    time: Duration,
+    bytes: usize,
+}
+
+impl Cost {
+    /// The cost of reading and printing a symbol.
+    fn of(demangler: &mut Demangler, symbol: &str, printing: Printing) -> Cost {
+        let begin = Instant::now();
+        let (_, bytes) = memory::most(|| demangler.prepare(Global, symbol, printing).expect("memory"));
+        Cost { time: begin.elapsed(), bytes }
+    }
+
+    fn max(self, other: Cost) -> Cost {
+        Cost { time: self.time.max(other.time), bytes: self.bytes.max(other.bytes) }
+    }
+
+    fn is_within(self, memory: usize) -> bool {
+        self.time <= TIME && self.bytes <= memory
+    }
+}
+
 /// Symbols of 100,000 bytes: time and memory are bounded.
 fn costs(counts: &mut Counts) {
-    let (mut longest, mut most) = (Duration::ZERO, 0);
-    for (what, symbol) in costly() {
+    let mut most = Cost::default();
+    let families = costly();
+    for (what, symbol) in &families {
         for printing in PRINTINGS {
-            let mut demangler = Demangler::new(Global);
-            let begin = Instant::now();
-            let (_, bytes) = memory::most(|| demangler.prepare(Global, &symbol, printing).expect("memory"));
-            let time = begin.elapsed();
-            counts.check(&format!("{what}: {time:?}"), time <= TIME);
-            counts.check(&format!("{what}: {bytes} bytes"), bytes <= MEMORY);
-            (longest, most) = (longest.max(time), most.max(bytes));
+            let cost = Cost::of(&mut Demangler::new(Global), symbol, printing);
+            let memory = if *what == BOUND { BOUND_MEMORY } else { MEMORY };
+            counts.check(&format!("{what}: {:?} and {} bytes", cost.time, cost.bytes), cost.is_within(memory));
+            most = most.max(cost);
         }
     }
-    println!("families of 100,000 bytes: at most {longest:?} and {most} bytes of memory");
+    let count = families.len();
+    println!("{count} families of 100,000 bytes: at most {:?} and {} bytes of memory", most.time, most.bytes);
+}
+
+/// The families of names and types: what each is called, and a part of the declarations or else of the symbols in it.
+const FAMILIES: [(&str, &str, &str); 20] = [
+    ("tags", "[abi:", ""),
+    ("unnamed types", "'unnamed", ""),
+    ("closures", "'lambda", ""),
+    ("closures with auto", "(auto", ""),
+    ("block literals", "'block-literal'", ""),
+    ("conversions", "operator ", "cv"),
+    ("local names", ")::", "Z"),
+    ("discriminators", ")::", "_0"),
+    ("default arguments", "::", "Ed"),
+    ("functions", ")(", "F"),
+    ("exceptions", "throw(", ""),
+    ("functions without exceptions", "noexcept", ""),
+    ("arrays", "[", "A"),
+    ("vectors", " vector[", ""),
+    ("complex types", " complex", ""),
+    ("imaginary types", " imaginary", ""),
+    ("vendor types", "", "U"),
+    ("floating-point types", "_Float", "DF"),
+    ("integer types", "_BitInt", ""),
+    ("suffixes and blocks", "", "."),
+];
+
+/// Every beginning of symbols of each family: time and memory are bounded, and the whole symbol has its answer then.
+fn families(counts: &mut Counts, symbols: &[String]) {
+    let mut demangler = Demangler::new(Global);
+    let (mut tried, mut most) = (0, Cost::default());
+    for (what, text, part) in FAMILIES {
+        let mut left = FEW;
+        for symbol in symbols {
+            if left == 0 || symbol.len() > SHORT || !symbol.contains(part) {
+                continue;
+            }
+            let Some(expected) = declared(&mut Demangler::new(Global), symbol).filter(|it| it.contains(text)) else {
+                continue;
+            };
+            left -= 1;
+            for end in (0..symbol.len()).filter(|end| symbol.is_char_boundary(*end)) {
+                let beginning = &symbol[..end];
+                let cost = Cost::of(&mut Demangler::new(Global), beginning, GNU);
+                demangler.prepare(Global, beginning, DECLARATION).expect("memory");
+                if !cost.is_within(MEMORY) {
+                    counts.check(&format!("{end} bytes of {symbol}: {:?}", cost.time), false);
+                }
+                (tried, most) = (tried + 1, most.max(cost));
+            }
+            counts.check(symbol, declared(&mut demangler, symbol) == Some(expected));
+        }
+        counts.check(&format!("no {what} in the input"), left < FEW);
+    }
+    println!("{tried} beginnings: at most {:?} and {} bytes of memory", most.time, most.bytes);
 }
 
 /// The default limit of what is kept for a symbol.
@@ -122,7 +220,8 @@ fn lower_limits(counts: &mut Counts) {
         let (result, bytes) = memory::most(|| demangler.prepare(Global, &symbol, low));
         if result.is_err() {
             failed += 1;
-            counts.check(&format!("{what} within a low limit: {bytes} bytes"), bytes <= LOW_MEMORY);
+            let digits = if NUMBERED.contains(&what) { DIGIT * symbol.len() } else { 0 };
+            counts.check(&format!("{what} within a low limit: {bytes} bytes"), bytes <= LOW_MEMORY + digits);
             counts.check(&format!("{what} has an answer beyond its limit"), demangler.text().is_none());
         }
         let again = declared(&mut demangler, "_Z1fi");
@@ -192,12 +291,12 @@ fn with_stack<T: Send + 'static>(bytes: usize, run: impl FnOnce() -> T + Send + 
 }
 
 /// Symbols of libraries, with little stack.
-fn little_stack(counts: &mut Counts) {
-    let symbols: Vec<String> = io::stdin().lock().lines().map(|line| line.expect("a line of UTF-8")).collect();
+fn little_stack(counts: &mut Counts, symbols: &Arc<Vec<String>>) {
+    let symbols = Arc::clone(symbols);
     let read = with_stack(LITTLE_STACK, move || {
         let mut demangler = Demangler::new(Global);
         let mut read = 0;
-        for symbol in &symbols {
+        for symbol in symbols.iter() {
             for printing in PRINTINGS {
                 read += usize::from(demangler.prepare(Global, symbol, printing).expect("memory"));
             }
@@ -209,9 +308,11 @@ fn little_stack(counts: &mut Counts) {
 
 fn main() -> ExitCode {
     let mut counts = Counts::default();
-    little_stack(&mut counts);
+    let symbols = Arc::new(io::stdin().lock().lines().map(|line| line.expect("a line of UTF-8")).collect());
+    little_stack(&mut counts, &symbols);
     let counts = with_stack(STACK, move || {
-        for test in [limits, costs, defaults, lower_limits, refusals, faults, beginnings, parts] {
+        families(&mut counts, &symbols);
+        for test in [limits, styles, costs, defaults, lower_limits, refusals, faults, beginnings, parts] {
             test(&mut counts);
         }
         counts
