@@ -112,14 +112,10 @@ abbrev pub is_end : List ℕ → Bool
 is_end [] = true
 is_end (b ∷ bytes) = false
 
--- a type that is all of the bytes, without a template parameter
+-- a type alone, as a program names types at run time: it is all of the bytes, and has no template parameter
 unfoldable pub parse_closed_type : Productions → Parses Tree
 parse_closed_type p = do
   t ← p.type false
   bytes ← look
   check (is_end bytes)
   parse_closed t
-
--- the reading of a type alone, as a program names types at run time
-abbrev pub parse_type_alone : List ℕ → Option Tree
-parse_type_alone bytes = found_of (parse_closed_type (productions max_depth) (start bytes))
