@@ -1,14 +1,14 @@
 //! Tests the demangler of declarations at its limits: symbols at and past each limit, families of long symbols with
 //! what they cost, the limit of memory, malformed symbols, allocations that fail, and the stack. Tests the parts of
-//! symbols too. Standard input has
-//! symbols, one per line. They are read with little stack, and of each family of names and types all beginnings of some
-//! of them. The last line is `N passed, M failed`.
+//! symbols too, and types alone. Standard input has symbols, one per line. They are read with little stack, and of each
+//! family of names and types all beginnings of some of them. The last line is `N passed, M failed`.
 //!
 //! usage: declarations
 
 mod families;
 mod memory;
 mod parts;
+mod types;
 
 // The crates, and what stands in for Rattle's std below them. They come last, since the macros of the latter would
 // stand in for those of Rust.
@@ -23,6 +23,7 @@ mod extracted;
 use crate::extracted::cxx_demangle::{Demangler, Mode, Printing, Style};
 use crate::families::{BOUND, NUMBERED, costly, limited, refused, styled};
 use crate::parts::parts;
+use crate::types::types;
 use crate::rattle::alloc::Global;
 use std::io::{self, BufRead};
 use std::process::ExitCode;
@@ -312,7 +313,7 @@ fn main() -> ExitCode {
     little_stack(&mut counts, &symbols);
     let counts = with_stack(STACK, move || {
         families(&mut counts, &symbols);
-        for test in [limits, styles, costs, defaults, lower_limits, refusals, faults, beginnings, parts] {
+        for test in [limits, styles, costs, defaults, lower_limits, refusals, faults, beginnings, parts, types] {
             test(&mut counts);
         }
         counts

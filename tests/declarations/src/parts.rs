@@ -4,8 +4,8 @@ use crate::Counts;
 use crate::extracted::cxx_demangle::{Demangler, Kind, Mode, Printing, Style, Text};
 use crate::rattle::alloc::{AllocError, Global};
 
-/// The productions that are read, as in tests/corpus/declarations.
-const READ: u32 = 2;
+/// The greatest number of productions that are read.
+const READ: u32 = 4;
 /// Lines with a number that says which productions are needed, a symbol, and its parts in the order of `PARTS`.
 const LIST: &str = include_str!("../../../corpus/parts.tsv");
 
