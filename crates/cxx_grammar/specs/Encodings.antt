@@ -35,7 +35,8 @@ parse_function p n = do
 unfoldable pub parse_signature : Productions → LearnedName → Parses Tree
 parse_signature p n = if_bytes is_encoding_end (make (data_name n.tree)) (parse_function p n)
 
--- a name that has arguments is a binder
+-- A name that has arguments is a binder: in `_Z1fIiEvN1AUlT_E_E` the parameter of the lambda is that of `f<int>`, and
+-- in `_Z1fN1AUlT_E_E` it is the lambda's own, `auto`
 abbrev pub level_behind : LearnedName → ℕ
 level_behind n = if has_args n then 1 else 0
 

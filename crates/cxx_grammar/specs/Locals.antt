@@ -47,7 +47,8 @@ make_entity scope n = do
   t ← make (scoped false scope n.tree)
   pure (record n { tree = t })
 
--- What is around the scope binds none of the template parameters of the entity.
+-- What is around the scope binds none of the template parameters of the entity: in `_Z1fIiEvZ4mainEUlT_E_`
+-- the lambda's parameter is its own, `auto`, though it stands in a parameter of `f<int>`
 abbrev pub parse_entity_in : Productions → Tree → Parses LearnedName
 parse_entity_in p scope = do
   n ← at_level 0 p.name

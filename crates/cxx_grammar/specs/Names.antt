@@ -38,7 +38,7 @@ pub record Part : Type 0 where
 
 -- Unqualified names.
 
--- cv <type>
+-- cv <type>. In `_ZN1AcvPT_IiEEv` the arguments behind the type are the operator's, for which its `T_` stands
 abbrev pub parse_conversion : Productions → Parses Tree
 parse_conversion p = do
   past 2
