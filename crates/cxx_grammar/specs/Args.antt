@@ -52,6 +52,7 @@ parse_literal p = do
 
 unfoldable pub arg_as : Productions → ArgCase → Parses Tree
 arg_as p arg.Pack = parse_pack p
+arg_as p arg.Unread = refused
 arg_as p arg.Literal = parse_literal p
 arg_as p arg.Type = p.type false
 

@@ -86,7 +86,7 @@ firsts =
 abbrev pub case_of_first : List ℕ → FirstCase
 case_of_first bytes = case_in firsts first.Unqualified bytes
 
--- after the `L`
+-- after the `L` of internal linkage
 abbrev pub case_of_component : List ℕ → ComponentCase
 case_of_component bytes =
     if begins (codes "C") bytes && begins_between "1" "5" (drop 1 bytes) then component.Ctor else
@@ -165,12 +165,13 @@ case_of_exception bytes = case_in exceptions exception.None bytes
 abbrev pub args : List (String × ArgCase)
 args =
     ("J", arg.Pack) ∷
+    ("LZ", arg.Unread) ∷
     ("L", arg.Literal) ∷ []
 
 abbrev pub case_of_arg : List ℕ → ArgCase
 case_of_arg bytes = case_in args arg.Type bytes
 
--- after the `L`
+-- after the `L` of a literal
 abbrev pub literals : List (String × LiteralCase)
 literals =
     ("b", literal.Bool) ∷

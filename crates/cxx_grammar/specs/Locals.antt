@@ -34,8 +34,8 @@ past_discriminator bytes =
     if begins_digit bytes then past_last (past_digits 10 bytes) bytes else bytes
 
 -- [<discriminator>] ::= _ <digit>
---                   ::= __ <digit>* _
---                   ::= <digit>+, at the end of the symbol
+--                   ::= __ <digit>* _, of at most ten digits
+--                   ::= <digit>+ at the end of the symbol, of at most ten digits
 abbrev pub parse_discriminator : Parses (Unit {0})
 parse_discriminator = do
   bytes ← look

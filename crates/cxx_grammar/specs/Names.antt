@@ -124,7 +124,7 @@ parse_part_end part = do
 --                    ::= [L] <ctor-dtor-name> [<abi-tags>]
 --                    ::= [L] <source-name> [<abi-tags>]
 --                    ::= [L] <unnamed-type-name> [<abi-tags>]
--- <ctor-dtor-name> ::= C1 | C2 | C3 | CI1 <base class type> | CI2 <base class type> | D0 | D1 | D2
+-- <ctor-dtor-name> ::= C1 | .. | C5 | CI1 <base class name> | .. | CI5 <base class name> | D0 | D1 | D2 | D4 | D5
 -- L is the mark of internal linkage, which prints nothing
 unfoldable pub parse_unqualified_name : Productions → Place → Parses LearnedName
 parse_unqualified_name p place = do

@@ -23,7 +23,8 @@ pub record Styled : Type 0 where
   pub llvm : List ℕ
   pub gnu : List ℕ
 
--- a production: how many letters its code has, its items, what is made of their trees, and the words of that
+-- a production: how many letters of its code are skipped, its items, what is made of their trees, and the words of
+-- that. The code of a thunk ends with the first letter of its offset, which isn't skipped
 pub record Row : Type 0 where
   pub skip : ℕ
   pub items : List Item

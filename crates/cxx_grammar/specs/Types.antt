@@ -74,7 +74,7 @@ parse_function_inside p cv exception = do
 
 -- <function-type> ::= [<CV-qualifiers>] [<exception-spec>] [Dx] F [Y] <bare-function-type> [<ref-qualifier>] E
 -- <exception-spec> ::= Do
---                  ::= Dw <type>+ E
+--                  ::= Dw <type>* E
 abbrev pub parse_function_type : Productions → Parses Tree
 parse_function_type p = do
   cv ← parse_cv
@@ -90,7 +90,7 @@ parse_dimension = do
   is_empty ← optional "_"
   if is_empty then pure None else some <$> parse_size
 
--- <array-type> ::= A [<positive dimension number>] _ <element type>
+-- <array-type> ::= A [<dimension number>] _ <element type>
 abbrev pub parse_array_type : Productions → Bool → Parses Tree
 parse_array_type p is_bare = do
   past 1
@@ -235,6 +235,7 @@ suffixed_by is_complex t =
     if is_complex then suffixed t (codes " complex") (codes " _Complex")
     else suffixed t (codes " imaginary") (codes " _Imaginary")
 
+-- A closure without a scope is no type: `U` is that of a qualifier here.
 -- A type is saved when it was read, after all that stands inside of it; but no builtin type and no substitution is.
 unfoldable pub type_as : Productions → Bool → TypeCase → Parses Tree
 type_as p is_bare type_case.Function = saved (parse_function_type p)

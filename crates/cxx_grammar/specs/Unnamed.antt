@@ -35,9 +35,9 @@ parse_block = do
 abbrev pub closure_tree : Trees → List ℕ → Tree
 closure_tree params count = closure no_trees None params None count (ordinal_of count)
 
--- [<number>] _, behind the parameters of a closure. The closure binds the template parameters of its level: each is
--- `auto`. What was saved inside stays as it is: in `_ZZ1fvENKUlT_E_clIiEEDaS_` the parameter of the lambda is `auto`,
--- and `S_`, the same `T_` outside of it, is the argument of its operator, `int`
+-- [<number>] _, behind the parameters of a closure. The closure binds the template parameters from its level on: each
+-- is `auto`. What was saved inside stays as it is: in `_ZZ1fvENKUlT_E_clIiEEDaS_` the parameter of the lambda is
+-- `auto`, and `S_`, the same `T_` outside of it, is the argument of its operator, `int`
 abbrev pub parse_closure_end : ℕ → Trees → Parses Tree
 parse_closure_end binder params = do
   count ← parse_count

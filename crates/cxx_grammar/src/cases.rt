@@ -59,7 +59,7 @@ pub enum FirstCase {
     Unqualified,
 }
 
-/// The cases of a component of a `<nested-name>` that isn't the first.
+/// The cases of an `<unqualified-name>`, after its `L`.
 #[derive(Clone, Copy)]
 pub enum ComponentCase {
     /// `C`, and a digit from 1 to 5
@@ -72,7 +72,7 @@ pub enum ComponentCase {
     Unqualified,
 }
 
-/// The cases of a name without a scope.
+/// The cases of an `<unqualified-name>` that is no constructor.
 #[derive(Clone, Copy)]
 pub enum BaseCase {
     /// A digit from 1 to 9
@@ -148,6 +148,8 @@ pub enum ExceptionCase {
 pub enum ArgCase {
     /// `J`
     Pack,
+    /// `LZ`, which isn't read yet.
+    Unread,
     /// `L`
     Literal,
     /// A type.

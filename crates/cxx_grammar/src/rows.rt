@@ -45,8 +45,8 @@ pub enum Maker {
     CtorVtable,
 }
 
-/// A production: how many letters its code has, its items, what is made of their trees, and the words of that in
-/// LLVM's style and in GNU's.
+/// A production: how many letters of its code are skipped, its items, what is made of their trees, and the words of
+/// that in LLVM's style and in GNU's. The code of a thunk ends with the first letter of its offset, which isn't skipped.
 #[derive(Clone, Copy)]
 pub struct Row {
     pub skip: usize,

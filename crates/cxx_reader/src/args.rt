@@ -46,6 +46,7 @@ pub fn read_arg(reader: &mut Reader, depth: usize) -> Result<u32, Stop>
     let depth = depth - 1;
     match arg_case(reader.rest) {
         ArgCase::Pack => read_pack(reader, depth),
+        ArgCase::Unread => Err(Stop::Unreadable),
         ArgCase::Literal => read_literal(reader, depth),
         ArgCase::Type => read_type(reader, depth, false),
     }

@@ -122,7 +122,7 @@ pub fn first_case(bytes: &[u8]) -> FirstCase
     }
 }
 
-/// Returns the case of another component of a `<nested-name>`, where an `L` in front is skipped.
+/// Returns the case of an `<unqualified-name>`, where an `L` in front is skipped.
 pub fn component_case(bytes: &[u8]) -> ComponentCase
     ensures value { result ≡ spec.case_of_component bytes.now }
 {
@@ -134,7 +134,7 @@ pub fn component_case(bytes: &[u8]) -> ComponentCase
     }
 }
 
-/// Returns the case of a name without a scope.
+/// Returns the case of an `<unqualified-name>` that is no constructor.
 pub fn base_case(bytes: &[u8]) -> BaseCase
     ensures value { result ≡ spec.case_of_base bytes.now }
 {
@@ -232,6 +232,7 @@ pub fn arg_case(bytes: &[u8]) -> ArgCase
 {
     match bytes {
         [b'J', ..] => ArgCase::Pack,
+        [b'L', b'Z', ..] => ArgCase::Unread,
         [b'L', ..] => ArgCase::Literal,
         _ => ArgCase::Type,
     }
