@@ -1,13 +1,10 @@
 -- What is printed for a symbol.
-use Rattle.std.specs.Prelude.{◌≡◌, ◌≢◌, ℕ, List, [], ◌∷◌, Bool, true, false, Option, None, slice_index}
-use Rattle.std.proofs.Common.{refl, sym, ◌∙◌}
-use Rattle.std.proofs.lemmas.Bool.{ne_eqb}
+use Rattle.std.specs.Prelude.{◌≡◌, ◌≢◌, ℕ, List, Bool, true, false, Option, None, slice_index}
+use Rattle.std.proofs.Common.{sym, ◌∙◌}
 use Rattle.abi_scalars.specs.Symbol.{after_prefix}
 use Rattle.itanium_grammar.specs.Answer.{IsAnswer, IsAnswerOf, IsSignatureOrName}
 use Rattle.itanium_demangle.proofs.Answered.{each_answered, each_signed}
-use Rattle.cxx_demangle.proofs.Whole as declarations_read
-use Rattle.cxx_grammar.specs.Cases.{case_of_prefix}
-use Rattle.cxx_grammar.specs.declared.cases.PrefixCase.TheVariants as prefix
+use Rattle.cxx_demangle.proofs.Whole.{no_underscore}
 use Rattle.cxx_demangle.proofs.Answered as declared
 use Rattle.text_filter.specs.Printed.{AnswersEach}
 use Rattle.text_filter.proofs.LineAnswers.{no_prefix}
@@ -39,18 +36,13 @@ each_printed (Declarations part) symbol = let found = declared.each_answered par
 not_read : (signature : Bool) (line : List ℕ) → after_prefix line ≡ None → IsAnswerOf signature line None
 not_read signature line prefix = λ tree next cost reading deep utf8. let e = sym prefix ∙ reading.prefix in cc
 
-no_case : (line : List ℕ) → slice_index line 0 ≢ 95 → case_of_prefix line ≡ prefix.None
-no_case [] ordinary = refl
-no_case (byte ∷ bytes) ordinary = rw (ne_eqb byte 95 ordinary) refl
-
 -- so what doesn't begin with an underscore stays
 pub not_printed : (printing : Printing) (line : List ℕ) → slice_index line 0 ≢ 95 → IsPrintedAs printing line None
 not_printed Names line ordinary = name_printed (not_read false line (no_prefix line ordinary))
 not_printed Signatures line ordinary =
     let prefix = no_prefix line ordinary in
     signature_printed false (not_read true line prefix, not_read false line prefix)
-not_printed (Declarations part) line ordinary =
-    declaration_printed (declarations_read.no_prefix part line (no_case line ordinary))
+not_printed (Declarations part) line ordinary = declaration_printed (no_underscore part line ordinary)
 
 pub printed_each : (printing : Printing) → AnswersEach (IsPrintedAs printing)
 printed_each printing = record { each = each_printed printing; unprefixed = not_printed printing }

@@ -5,7 +5,8 @@ use Rattle.cxx_tree.specs.declared.arena.Stop.{Stop}
 use Rattle.cxx_tree.specs.declared.arena.Stop.TheVariants.{Unreadable, Memory}
 use Rattle.cxx_reader.specs.declared.symbols.Reading as code
 use Rattle.cxx_reader.specs.Outcome.{GivesReading}
-use Rattle.std.specs.Prelude.{min, ◌≤◌}
+use Rattle.std.specs.Prelude.{min, ◌≤◌, slice_index}
+use Rattle.std.proofs.lemmas.Bool.{ne_eqb}
 use Rattle.cxx_grammar.specs.Cases.{case_of_prefix}
 use Rattle.cxx_grammar.specs.declared.cases.PrefixCase.TheVariants as prefix
 use Rattle.cxx_tree.specs.Tree.{Tree}
@@ -31,6 +32,14 @@ no_reading printing read e t r f = absurd cc
 pub no_prefix : (printing : Printing) (symbol : List ℕ) → case_of_prefix symbol ≡ prefix.None → HasNoAnswer printing (parse_symbol symbol)
 unfolding symbol_as
 no_prefix printing symbol e = no_reading printing (parse_symbol symbol) (rw e refl)
+
+no_case : (symbol : List ℕ) → slice_index symbol 0 ≢ 95 → case_of_prefix symbol ≡ prefix.None
+no_case [] other = refl
+no_case (byte ∷ bytes) other = rw (ne_eqb byte 95 other) refl
+
+-- no underscore in front
+pub no_underscore : (printing : Printing) (symbol : List ℕ) → slice_index symbol 0 ≢ 95 → HasNoAnswer printing (parse_symbol symbol)
+no_underscore printing symbol other = no_prefix printing symbol (no_case symbol other)
 
 -- a printing that may be an answer
 pub has_answer : (printing : Printing) (read : Option Reading) (t : Reading) (text : List ℕ) → read ≡ Some t → text ≡ text_of printing t → IsText text → HasAnswer printing read text
