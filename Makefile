@@ -11,7 +11,8 @@
 #                  LIBDIR=/usr/lib64           BINDIR, LIBDIR, INCLUDEDIR, MANDIR: below PREFIX unless given
 #                  FROM=rust                   the extracted build; the proved one unless given
 #     make uninstall                           removes what `make install` with the same variables installed
-#     make dist, make deb, make wheel          packages of what is built; packaging/packages.mk says which
+#     make dist, make deb, make wheel          packages of what is built, with FROM=rust of the extracted build;
+#                                              packaging/packages.mk says which
 #     make check                               the quick tests, without proofs; needs the toolchain
 #
 # BUILD is the folder for the files that are made here and installed. Unless it is given it is this one, and with
@@ -30,6 +31,7 @@ VERSION := $(file <VERSION)
 # include/cosvigle.h says under "Compatibility" when the number changes.
 SONAME_NUMBER = 0
 SONAME = libcosvigle.so.$(SONAME_NUMBER)
+CXXABI = libcosvigle-cxxabi.so.$(SONAME_NUMBER)
 OBJCOPY = objcopy
 
 symfilter = crates/symfilter/out/symfilter
@@ -51,7 +53,7 @@ built = $(foreach it,$(1),$(call place,$(it))/$(it).rlib/format)
 needs_rt = command -v rt >/dev/null || { echo 'make: there is no command rt, of the Rattle toolchain, for the proved \
     build: make rust and make install FROM=rust do without it (README.md, "Build it")' >&2; exit 1; }
 
-made = $(BUILD)/libcosvigle.a $(BUILD)/$(SONAME)
+made = $(BUILD)/libcosvigle.a $(BUILD)/$(SONAME) $(BUILD)/$(CXXABI)
 headers = include/cosvigle.h include/cosvigle.hpp
 
 all: $(symfilter) $(cosvigle) $(library)
@@ -131,6 +133,10 @@ $(BUILD)/$(SONAME): $(BUILD)/libcosvigle.a packaging/cosvigle.map
 	$(CC) $(CFLAGS) $(LDFLAGS) -shared -o $@ -Wl,-soname,$(SONAME) -Wl,--version-script=packaging/cosvigle.map \
 	    -Wl,-z,defs -Wl,-z,noexecstack -Wl,--whole-archive $(BUILD)/libcosvigle.a -Wl,--no-whole-archive
 
+$(BUILD)/$(CXXABI): packaging/cxxabi.c packaging/cxxabi.map include/cosvigle.h $(BUILD)/libcosvigle.a
+	$(CC) $(CFLAGS) -O2 -fPIC $(LDFLAGS) -shared -Iinclude -o $@ -Wl,-soname,$(CXXABI) \
+	    -Wl,--version-script=packaging/cxxabi.map -Wl,-z,defs -Wl,-z,noexecstack $< $(BUILD)/libcosvigle.a
+
 # The files for pkg-config and CMake depend on the variables, and so are made where they are installed. They name no
 # folder: they find the others from their own, by paths relative to LIBDIR.
 from_libdir = $(shell realpath -m --relative-to=$(LIBDIR) $(1))
@@ -143,9 +149,10 @@ install: $(programs.$(FROM)) $(made)
 	install $(programs.$(FROM)) $(DESTDIR)$(BINDIR)
 	install -m 644 docs/cosvigle.1 $(DESTDIR)$(MANDIR)/man1
 	install -m 644 $(BUILD)/libcosvigle.a $(DESTDIR)$(LIBDIR)
-	install -m 755 $(BUILD)/$(SONAME) $(DESTDIR)$(LIBDIR)/libcosvigle.so.$(VERSION)
-	ln -sf libcosvigle.so.$(VERSION) $(DESTDIR)$(LIBDIR)/$(SONAME)
-	ln -sf $(SONAME) $(DESTDIR)$(LIBDIR)/libcosvigle.so
+	for it in libcosvigle libcosvigle-cxxabi; do \
+	    install -m 755 $(BUILD)/$$it.so.$(SONAME_NUMBER) $(DESTDIR)$(LIBDIR)/$$it.so.$(VERSION) && \
+	    ln -sf $$it.so.$(VERSION) $(DESTDIR)$(LIBDIR)/$$it.so.$(SONAME_NUMBER) && \
+	    ln -sf $$it.so.$(SONAME_NUMBER) $(DESTDIR)$(LIBDIR)/$$it.so || exit 1; done
 	for kind in 'cosvigle -lcosvigle' 'cosvigle-static -l:libcosvigle.a'; do \
 	    $(fill) -e "s|@NAME@|$${kind% *}|" -e "s|@LINK@|$${kind#* }|" packaging/cosvigle.pc.in | \
 	    install -m 644 /dev/stdin "$(DESTDIR)$(LIBDIR)/pkgconfig/$${kind% *}.pc"; done
@@ -156,6 +163,7 @@ install: $(programs.$(FROM)) $(made)
 uninstall:
 	rm -f $(addprefix $(DESTDIR)$(BINDIR)/,symfilter cosvigle) $(DESTDIR)$(MANDIR)/man1/cosvigle.1
 	rm -f $(addprefix $(DESTDIR)$(LIBDIR)/,libcosvigle.a libcosvigle.so libcosvigle.so.$(VERSION) $(SONAME))
+	rm -f $(addprefix $(DESTDIR)$(LIBDIR)/,libcosvigle-cxxabi.so libcosvigle-cxxabi.so.$(VERSION) $(CXXABI))
 	rm -f $(addprefix $(DESTDIR)$(LIBDIR)/pkgconfig/,cosvigle.pc cosvigle-static.pc)
 	rm -f $(addprefix $(DESTDIR)$(INCLUDEDIR)/,$(notdir $(headers)))
 	rm -rf $(DESTDIR)$(LIBDIR)/cmake/cosvigle

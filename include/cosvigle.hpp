@@ -4,9 +4,10 @@
 // From C++17 on the names optional and string_view below are those of std. Before C++17 they are small classes with
 // some of the members of these. A symbol may be a const char * (not NULL) or a std::string as well.
 //
-// With exceptions a failed allocation throws std::bad_alloc, and any other fault throws a cosvigle::error. Without
-// exceptions (-fno-exceptions) a call that fails returns no value, and demangler::status() says why.
-// COSVIGLE_NO_ANSWER and COSVIGLE_NOT_UTF8 are no faults. The functions without a demangler have no status.
+// With exceptions a failed allocation throws std::bad_alloc, a symbol that needs more memory than the limit throws a
+// cosvigle::limit_error, and any other fault throws a cosvigle::error. Without exceptions (-fno-exceptions) a call that
+// fails returns no value, and demangler::status() says why. COSVIGLE_NO_ANSWER and COSVIGLE_NOT_UTF8 are no faults. The
+// functions without a demangler have no status.
 #ifndef COSVIGLE_HPP
 #define COSVIGLE_HPP
 
@@ -117,8 +118,44 @@ class error : public std::runtime_error {
         : std::runtime_error("cosvigle: unexpected status " + std::to_string(status)), number(status) {}
     int status() const noexcept { return number; }
 
+  protected:
+    error(const char *text, int status) : std::runtime_error(text), number(status) {}
+
   private:
     int number;
+};
+
+// Thrown if a symbol needs more memory than options::memory_limit.
+class limit_error : public error {
+  public:
+    limit_error() : error("cosvigle: the symbol needs more memory than the limit", COSVIGLE_OVER_LIMIT) {}
+};
+
+// Whose texts are printed: those of c++filt; the same with the abbreviations of std as they are, as in c++filt -i and
+// in __cxa_demangle of GCC; or those of LLVM.
+enum class style { gnu = COSVIGLE_GNU, gnu_short = COSVIGLE_GNU_SHORT, llvm = COSVIGLE_LLVM };
+
+// What is read, and what is printed of it.
+struct options {
+    cosvigle::style style = cosvigle::style::gnu;
+    bool parameters = true;       // the parameters of a function, with its return type and its qualifiers
+    bool returns = true;          // the return type of a function, which only symbols of function templates have
+    bool types = false;           // what has no symbol's prefix is read as a type: int for i
+    std::size_t memory_limit = 0; // the bytes of memory that may be taken to read a symbol; 0 is the default
+};
+
+// What a symbol stands for.
+enum class kind { function = COSVIGLE_FUNCTION, data = COSVIGLE_DATA, special = COSVIGLE_SPECIAL };
+
+// The parts of a symbol. A part that the symbol doesn't have is empty, and so are all of a special name, such as that
+// of a table, a thunk or a guard variable.
+struct symbol_parts {
+    cosvigle::kind kind = cosvigle::kind::special;
+    bool has_qualifiers = false; // a member function with qualifiers, such as const or &&
+    std::string base_name;       // bar of void Foo::bar<int>(int)
+    std::string context;         // Foo
+    std::string parameters;      // (int)
+    std::string return_type;     // void
 };
 
 // Demangles symbol after symbol, and keeps its memory from one symbol to the next. It can be moved, also to another
@@ -126,6 +163,7 @@ class error : public std::runtime_error {
 class demangler {
   public:
     demangler() noexcept = default;
+    explicit demangler(const options &wanted) noexcept : chosen(wanted) {}
     demangler(demangler &&other) noexcept { swap(other); }
     demangler &operator=(demangler &&other) noexcept {
         swap(other);
@@ -138,29 +176,45 @@ class demangler {
         std::free(text);
     }
 
-    // The demangled name of a symbol, or none if the symbol has none or isn't UTF-8. The name is valid until the next
-    // call. The symbol may not be a name that this demangler returned. After an error the demangler can be used again.
-    optional<string_view> demangle(string_view symbol) { return answer_by(cosvigle_ask, symbol); }
+    // The declaration of a symbol, or none if the symbol isn't read or isn't UTF-8. It is valid until the next call.
+    // The symbol may not be a text that this demangler returned. After an error the demangler can be used again.
+    optional<string_view> demangle(string_view symbol) { return asked(printing(), symbol); }
 
-    // The same with the parameters: foo(int) for _Z3fooi. If the symbol has no signature it is the demangled name.
-    optional<string_view> demangle_signature(string_view symbol) { return answer_by(cosvigle_ask_signature, symbol); }
+    // A type alone, as typeid(x).name() has it. What has a symbol's prefix is read as a symbol. All else is as above.
+    optional<string_view> demangle_type(string_view type) { return asked(printing() | COSVIGLE_TYPES, type); }
 
-    // Returns the text. Each symbol in its words is replaced by its name, as the program cosvigle does. With strip one
-    // more underscore may stand in front of a symbol. After a fault there is no value. Here and in filter a
-    // std::string that gets no memory throws std::bad_alloc, and without exceptions ends the program.
+    // The parts of a symbol, or none if the symbol has no declaration. Here and in the next two a std::string that gets
+    // no memory throws std::bad_alloc, and without exceptions ends the program.
+    optional<symbol_parts> parts(string_view symbol) {
+        symbol_parts made;
+        if (!demangle(symbol)) return nullopt;
+        made.kind = static_cast<kind>(cosvigle_kind(&handle));
+        made.has_qualifiers = cosvigle_has_qualifiers(&handle);
+        if (get(COSVIGLE_BASE_NAME, made.base_name) && get(COSVIGLE_CONTEXT, made.context) &&
+            get(COSVIGLE_PARAMETERS, made.parameters) && get(COSVIGLE_RETURN_TYPE, made.return_type)) {
+            return optional<symbol_parts>(std::move(made));
+        }
+        fault();
+        return nullopt;
+    }
+
+    // Returns the text. Each symbol in its words is replaced by its declaration, as the program cosvigle does. With
+    // strip one more underscore stands in front of a symbol. A symbol that needs more memory than the limit stays.
+    // After a fault there is no value.
     optional<std::string> replace(string_view given, bool strip = false) {
         std::string made(given.size() + given.size() / 2, '\0');
         std::size_t needed = 0;
-        last = cosvigle_replace(&handle, strip, given.data(), given.size(), &made[0], made.size(), &needed);
+        if (!set_limit()) return nullopt;
+        last = cosvigle_replace(&handle, printing(), strip, given.data(), given.size(), &made[0], made.size(), &needed);
         return finish(made, needed);
     }
 
-    // Returns the lines. Each line that has a name is replaced by that name, as symfilter does. After a fault there is
-    // no value.
+    // Returns the lines. Each line that is a symbol is replaced by its declaration. All else is as above.
     optional<std::string> filter(string_view lines) {
         std::string made(lines.size() + lines.size() / 2, '\0');
         std::size_t needed = 0;
-        last = cosvigle_filter_with(&handle, lines.data(), lines.size(), &made[0], made.size(), &needed);
+        if (!set_limit()) return nullopt;
+        last = cosvigle_filter(&handle, printing(), lines.data(), lines.size(), &made[0], made.size(), &needed);
         return finish(made, needed);
     }
 
@@ -168,30 +222,65 @@ class demangler {
     int status() const noexcept { return last; }
 
   private:
+    options chosen;
+    bool is_limited = false;
     cosvigle_handle handle = COSVIGLE_NONE;
     char *text = nullptr;
     std::size_t room = 0;
     int last = COSVIGLE_OK;
 
     void swap(demangler &other) noexcept {
+        std::swap(chosen, other.chosen);
+        std::swap(is_limited, other.is_limited);
         std::swap(handle, other.handle);
         std::swap(text, other.text);
         std::swap(room, other.room);
         std::swap(last, other.last);
     }
 
-    // Calls this function, and calls it again with more memory if the text was longer than the capacity.
-    optional<string_view> answer_by(decltype(&cosvigle_ask) call, string_view symbol) {
+    // The options as a sum of flags.
+    std::uint32_t printing() const noexcept {
+        int flags = static_cast<int>(chosen.style);
+        if (!chosen.parameters) flags |= COSVIGLE_NAME;
+        else if (!chosen.returns) flags |= COSVIGLE_NO_RETURN;
+        if (chosen.types) flags |= COSVIGLE_TYPES;
+        return static_cast<std::uint32_t>(flags);
+    }
+
+    // Sets the limit of the handle, if there is one, before its first call.
+    bool set_limit() {
+        if (chosen.memory_limit == 0 || is_limited) return true;
+        last = cosvigle_limit(&handle, chosen.memory_limit);
+        is_limited = last == COSVIGLE_OK;
+        if (!is_limited) fault();
+        return is_limited;
+    }
+
+    // Asks for a symbol, and asks again with more memory if the text was longer than the capacity.
+    optional<string_view> asked(std::uint32_t flags, string_view symbol) {
         std::size_t needed = 0;
-        if (text != nullptr || grow(256)) ask(call, symbol, needed);
-        if (last == COSVIGLE_NO_ROOM && needed > room && grow(needed)) ask(call, symbol, needed);
+        if (!set_limit()) return nullopt;
+        if (text != nullptr || grow(256)) ask(flags, symbol, needed);
+        if (last == COSVIGLE_NO_ROOM && needed > room && grow(needed)) ask(flags, symbol, needed);
         if (last == COSVIGLE_OK) return string_view(text, needed);
         if (last != COSVIGLE_NO_ANSWER && last != COSVIGLE_NOT_UTF8) fault();
         return nullopt;
     }
 
-    void ask(decltype(&cosvigle_ask) call, string_view symbol, std::size_t &needed) noexcept {
-        last = call(&handle, symbol.data(), symbol.size(), text, room, &needed);
+    void ask(std::uint32_t flags, string_view symbol, std::size_t &needed) noexcept {
+        last = cosvigle_ask(&handle, flags, symbol.data(), symbol.size(), text, room, &needed);
+    }
+
+    // A part of the last symbol, which is empty if there is no such part.
+    bool get(std::uint32_t part, std::string &into) {
+        std::size_t needed = 0;
+        last = cosvigle_part(&handle, part, printing(), text, room, &needed);
+        if (last == COSVIGLE_NO_ROOM && needed > room && grow(needed)) {
+            last = cosvigle_part(&handle, part, printing(), text, room, &needed);
+        }
+        if (last == COSVIGLE_NO_ANSWER) last = COSVIGLE_OK;
+        if (last == COSVIGLE_OK) into.assign(text, needed);
+        return last == COSVIGLE_OK;
     }
 
     bool grow(std::size_t wanted) noexcept {
@@ -223,33 +312,39 @@ class demangler {
     void fault() const {
 #if COSVIGLE_HAS_EXCEPTIONS
         if (last == COSVIGLE_NO_MEMORY) throw std::bad_alloc();
+        if (last == COSVIGLE_OVER_LIMIT) throw limit_error();
         throw error(last);
 #endif
     }
 };
 
 // The same for one symbol or text, as a string of its own.
-inline optional<std::string> demangle(string_view symbol) {
-    demangler once;
-    const auto name = once.demangle(symbol);
-    if (!name) return nullopt;
-    return optional<std::string>(std::string(*name));
+inline optional<std::string> demangle(string_view symbol, const options &chosen = options()) {
+    demangler once(chosen);
+    const auto text = once.demangle(symbol);
+    if (!text) return nullopt;
+    return optional<std::string>(std::string(*text));
 }
 
-inline optional<std::string> demangle_signature(string_view symbol) {
-    demangler once;
-    const auto name = once.demangle_signature(symbol);
-    if (!name) return nullopt;
-    return optional<std::string>(std::string(*name));
+inline optional<std::string> demangle_type(string_view type, const options &chosen = options()) {
+    demangler once(chosen);
+    const auto text = once.demangle_type(type);
+    if (!text) return nullopt;
+    return optional<std::string>(std::string(*text));
 }
 
-inline optional<std::string> replace(string_view text, bool strip = false) {
-    demangler once;
+inline optional<symbol_parts> parts(string_view symbol, const options &chosen = options()) {
+    demangler once(chosen);
+    return once.parts(symbol);
+}
+
+inline optional<std::string> replace(string_view text, const options &chosen = options(), bool strip = false) {
+    demangler once(chosen);
     return once.replace(text, strip);
 }
 
-inline optional<std::string> filter(string_view lines) {
-    demangler once;
+inline optional<std::string> filter(string_view lines, const options &chosen = options()) {
+    demangler once(chosen);
     return once.filter(lines);
 }
 

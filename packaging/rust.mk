@@ -20,17 +20,18 @@ said=$$($(RUSTC) --version) && echo "$$said" | awk '{ split($$2, v, "."); exit !
 endef
 
 # Cargo builds what is older than its sources, and nothing else. It takes the compiler and the folders that are named
-# here, whatever its settings are.
-build_rust = RUSTC=$(RUSTC) $(CARGO) build --release --target-dir out/rust/$(1)target \
-    --manifest-path out/rust/$(1)Cargo.toml
+# here, whatever its settings are. The library for C has no path of this machine in it.
+build_rust = RUSTC=$(RUSTC) $(CARGO) build --release --manifest-path out/rust/Cargo.toml -p $(1) \
+    --target-dir out/rust/$(2)target
+no_paths = RUSTFLAGS="$$RUSTFLAGS --remap-path-prefix=$(CURDIR)/out/rust/="
 
 rust:
 	@$(needs_rust)
 	python3 tools/extract . out/rust
-	$(call build_rust)
-	$(call build_rust,capi/)
+	$(call build_rust,cosvigle)
+	$(no_paths) $(call build_rust,cosvigle-c,capi/)
 	@touch out/rust/built
-	+@$(MAKE) --no-print-directory FROM=rust out/rust/libcosvigle.a out/rust/$(SONAME)
+	+@$(MAKE) --no-print-directory FROM=rust out/rust/libcosvigle.a out/rust/$(SONAME) out/rust/$(CXXABI)
 
 # For `make install FROM=rust`, which builds only where a source is newer.
 $(rust_programs): out/rust/built ;

@@ -2,26 +2,41 @@
 Rattle toolchain has built it. This module is not proved.
 
     >>> import cosvigle
-    >>> cosvigle.demangle("_ZN3Foo3barEv")
-    'Foo::bar'
+    >>> cosvigle.demangle("_ZNK3Foo3barEi")
+    'Foo::bar(int) const'
     >>> cosvigle.demangle("malloc") is None
     True
-    >>> cosvigle.demangle_signature("_Z3fooi")
-    'foo(int)'
+    >>> cosvigle.demangle("_Z3fooISt6vectorIS0_IiEEEvv", style="llvm", returns=False)
+    'foo<std::vector<std::vector<int>>>()'
     >>> cosvigle.replace("at _Z3foov+0x1")
-    'at foo+0x1'
+    'at foo()+0x1'
+
+What is printed for a symbol is chosen by these arguments, which each call takes by name:
+    params    whether the parameters of a function are printed, with its return type and its qualifiers. They are.
+    returns   whether the return type of a function is printed. It is. Only symbols of function templates have one.
+    style     whose texts are printed: "gnu", those of c++filt, which is the default; "gnu-short", the same with the
+              abbreviations of std as they are, as in c++filt -i; or "llvm"
 
 The library is the file that the variable COSVIGLE_LIBRARY names. If it names none, it is cosvigle.libs/libcosvigle.so.0
 beside this module, where a wheel puts it. If that isn't there, the system's loader looks for libcosvigle.so.0.
 """
+import collections
 import ctypes
 import os
 import threading
 
-__all__ = ["Demangler", "Error", "demangle", "demangle_signature", "filter", "replace", "version"]
+__all__ = ["Demangler", "Error", "LimitError", "Parts", "demangle", "demangle_type", "filter", "parts", "replace",
+           "version"]
 __version__ = "0.1.0"
 
-_WRITTEN, _NO_ANSWER, _NO_MEMORY, _NO_ROOM, _NOT_UTF8 = range(5)
+_WRITTEN, _NO_ANSWER, _NO_MEMORY, _NO_ROOM, _NOT_UTF8, _BAD_CALL, _OVER_LIMIT = range(7)
+_NO_RETURN, _NAME, _TYPES = 1, 2, 16
+_STYLES = {"gnu": 0, "gnu-short": 4, "llvm": 8}
+_KINDS = (None, "function", "data", "special")
+
+Parts = collections.namedtuple("Parts", "kind base_name context parameters return_type has_qualifiers")
+Parts.__doc__ = """The parts of a symbol. `kind` is "function", "data" or "special". A part that the symbol doesn't have
+is empty, and so are all of a special name, such as that of a table, a thunk or a guard variable."""
 
 
 class Error(Exception):
@@ -30,6 +45,10 @@ class Error(Exception):
     def __init__(self, status):
         super().__init__(f"unexpected status {status}")
         self.status = status
+
+
+class LimitError(Exception):
+    """A symbol needs more memory than the limit."""
 
 
 class _Handle(ctypes.Structure):
@@ -44,14 +63,17 @@ def _file():
 
 def _load():
     library = ctypes.CDLL(_file())
-    handle, needed = ctypes.POINTER(_Handle), ctypes.POINTER(ctypes.c_size_t)
+    handle, needed, number = ctypes.POINTER(_Handle), ctypes.POINTER(ctypes.c_size_t), ctypes.c_uint32
     text = [ctypes.c_char_p, ctypes.c_size_t]
     room = [ctypes.c_char_p, ctypes.c_size_t, needed]
     for name, arguments, result in (
-        ("ask", [handle, *text, *room], ctypes.c_int),
-        ("ask_signature", [handle, *text, *room], ctypes.c_int),
-        ("replace", [handle, ctypes.c_bool, *text, *room], ctypes.c_int),
-        ("filter_with", [handle, *text, *room], ctypes.c_int),
+        ("ask", [handle, number, *text, *room], ctypes.c_int),
+        ("limit", [handle, ctypes.c_size_t], ctypes.c_int),
+        ("part", [handle, number, number, *room], ctypes.c_int),
+        ("kind", [handle], ctypes.c_int),
+        ("has_qualifiers", [handle], ctypes.c_bool),
+        ("replace", [handle, number, ctypes.c_bool, *text, *room], ctypes.c_int),
+        ("filter", [handle, number, *text, *room], ctypes.c_int),
         ("take", [handle, *room], ctypes.c_int),
         ("free", [handle], None),
         ("version", [], ctypes.c_uint32),
@@ -79,54 +101,101 @@ def _like(text, made):
 
 
 def _failure(status):
-    return MemoryError("cosvigle: out of memory") if status == _NO_MEMORY else Error(status)
+    if status == _NO_MEMORY:
+        return MemoryError("cosvigle: out of memory")
+    return LimitError("the symbol needs more memory than the limit") if status == _OVER_LIMIT else Error(status)
+
+
+def _printing(params=True, returns=True, style="gnu"):
+    """The sum of flags that the library takes."""
+    if style not in _STYLES:
+        raise ValueError(f"no such style: {style!r}")
+    return _STYLES[style] + (_NAME if not params else 0 if returns else _NO_RETURN)
 
 
 class Demangler:
-    """Demangles symbol after symbol, and keeps its memory. Calls from several threads wait for one another."""
+    """Demangles symbol after symbol, and keeps its memory. Calls from several threads wait for one another.
 
-    def __init__(self):
+    max_memory is how many bytes of memory may be taken to read a symbol. None is the default of the library."""
+
+    def __init__(self, *, max_memory=None):
         self._handle = _Handle()
         self._lock = threading.Lock()
         self._room = ctypes.create_string_buffer(256)
+        self._max_memory = max_memory
+        if max_memory is not None and max_memory < 1:
+            raise ValueError(f"no number of bytes: {max_memory!r}")
 
-    def demangle(self, symbol):
-        """The demangled name of a symbol, or None if it has none or isn't UTF-8. Bytes give bytes, and a str a str."""
-        return self._asked(_library.cosvigle_ask, symbol)
+    def demangle(self, symbol, **how):
+        """The declaration of a symbol, or None if it isn't read or isn't UTF-8. Bytes give bytes, and a str a str."""
+        return self._asked(_printing(**how), symbol)
 
-    def demangle_signature(self, symbol):
-        """The same with the parameters. Where the symbol has no signature it is the demangled name."""
-        return self._asked(_library.cosvigle_ask_signature, symbol)
+    def demangle_type(self, symbol, **how):
+        """The same of a type alone, as typeid(x).name() has it. What has a symbol's prefix is read as a symbol."""
+        return self._asked(_printing(**how) + _TYPES, symbol)
 
-    def _asked(self, call, symbol):
-        given = _bytes_of(symbol)
-        needed = ctypes.c_size_t()
+    def parts(self, symbol, *, style="gnu"):
+        """The Parts of a symbol, or None if it has no declaration."""
+        printing, given = _printing(style=style), _bytes_of(symbol)
         with self._lock:
-            for attempt in range(2):
-                status = call(self._handle, given, len(given), self._room, len(self._room), needed)
-                if status != _NO_ROOM or needed.value <= len(self._room) or attempt == 1:
-                    break
-                self._room = ctypes.create_string_buffer(needed.value)
-            if status == _WRITTEN and needed.value <= len(self._room):
-                return _like(symbol, ctypes.string_at(self._room, needed.value))
+            if self._ask(printing, given) is None:
+                return None
+            kind, qualified = _library.cosvigle_kind(self._handle), _library.cosvigle_has_qualifiers(self._handle)
+            texts = [self._part(number, printing) for number in range(4)]
+        return Parts(_KINDS[kind], *(_like(symbol, text) for text in texts), qualified)
+
+    def _asked(self, printing, symbol):
+        given = _bytes_of(symbol)
+        with self._lock:
+            made = self._ask(printing, given)
+        return None if made is None else _like(symbol, made)
+
+    def _ask(self, printing, given):
+        self._set_limit()
+        return self._grown(lambda *room: _library.cosvigle_ask(self._handle, printing, given, len(given), *room))
+
+    def _part(self, number, printing):
+        return self._grown(lambda *room: _library.cosvigle_part(self._handle, number, printing, *room)) or b""
+
+    def _grown(self, call):
+        """The text that the call writes, with more memory where it was too small, or None if there is none."""
+        needed = ctypes.c_size_t()
+        for attempt in range(2):
+            status = call(self._room, len(self._room), needed)
+            if status != _NO_ROOM or needed.value <= len(self._room) or attempt == 1:
+                break
+            self._room = ctypes.create_string_buffer(needed.value)
+        if status == _WRITTEN and needed.value <= len(self._room):
+            return ctypes.string_at(self._room, needed.value)
         if status in (_NO_ANSWER, _NOT_UTF8):
             return None
         raise _failure(status)
 
-    def replace(self, text, strip=False):
-        """The text with the symbols in its words replaced by their demangled names, as the program cosvigle does. With
-        strip one more underscore may stand in front of a symbol."""
-        return self._made(text, lambda *rest: _library.cosvigle_replace(self._handle, strip, *rest))
+    def _set_limit(self):
+        """Sets the limit of a handle that has none yet."""
+        if self._max_memory is not None and not self._handle.at:
+            status = _library.cosvigle_limit(self._handle, self._max_memory)
+            if status != _WRITTEN:
+                raise _failure(status)
 
-    def filter(self, lines):
-        """The lines with each that is a symbol replaced by its demangled name, as the program symfilter does."""
-        return self._made(lines, lambda *rest: _library.cosvigle_filter_with(self._handle, *rest))
+    def replace(self, text, strip=False, *, types=False, **how):
+        """The text with the symbols in its words replaced by their declarations, as the program cosvigle does. With
+        strip one more underscore stands in front of a symbol. With types a word that is no symbol may be a type. A
+        symbol that needs more memory than the limit stays."""
+        printing = _printing(**how) + (_TYPES if types else 0)
+        return self._made(text, lambda *rest: _library.cosvigle_replace(self._handle, printing, strip, *rest))
+
+    def filter(self, lines, *, types=False, **how):
+        """The lines with each that is a symbol replaced by its declaration, as cosvigle --lines does."""
+        printing = _printing(**how) + (_TYPES if types else 0)
+        return self._made(lines, lambda *rest: _library.cosvigle_filter(self._handle, printing, *rest))
 
     def _made(self, text, call):
         given = _bytes_of(text)
         needed = ctypes.c_size_t()
         room = ctypes.create_string_buffer(len(given) + len(given) // 2 + 1)
         with self._lock:
+            self._set_limit()
             status = call(given, len(given), room, len(room), needed)
             if status == _NO_ROOM and needed.value > len(room):
                 room = ctypes.create_string_buffer(needed.value)
@@ -162,24 +231,29 @@ def _demangler():
     return _own.demangler
 
 
-def demangle(symbol):
-    """The demangled name of a symbol, or None if it has none or isn't UTF-8. Bytes give bytes, and a str a str."""
-    return _demangler().demangle(symbol)
+def demangle(symbol, *, params=True, returns=True, style="gnu"):
+    """The declaration of a symbol, or None if it isn't read or isn't UTF-8. Bytes give bytes, and a str a str."""
+    return _demangler().demangle(symbol, params=params, returns=returns, style=style)
 
 
-def demangle_signature(symbol):
-    """The same with the parameters. Where the symbol has no signature it is the demangled name."""
-    return _demangler().demangle_signature(symbol)
+def demangle_type(symbol, *, params=True, returns=True, style="gnu"):
+    """The same of a type alone, as typeid(x).name() has it. What has a symbol's prefix is read as a symbol."""
+    return _demangler().demangle_type(symbol, params=params, returns=returns, style=style)
 
 
-def replace(text, strip=False):
-    """The text with the symbols in its words replaced by their demangled names, as the program cosvigle does."""
-    return _demangler().replace(text, strip)
+def parts(symbol, *, style="gnu"):
+    """The Parts of a symbol, or None if it has no declaration."""
+    return _demangler().parts(symbol, style=style)
 
 
-def filter(lines):
-    """The lines with each that is a symbol replaced by its demangled name, as the program symfilter does."""
-    return _demangler().filter(lines)
+def replace(text, strip=False, *, types=False, params=True, returns=True, style="gnu"):
+    """The text with the symbols in its words replaced by their declarations, as the program cosvigle does."""
+    return _demangler().replace(text, strip, types=types, params=params, returns=returns, style=style)
+
+
+def filter(lines, *, types=False, params=True, returns=True, style="gnu"):
+    """The lines with each that is a symbol replaced by its declaration, as cosvigle --lines does."""
+    return _demangler().filter(lines, types=types, params=params, returns=returns, style=style)
 
 
 def version():

@@ -1,4 +1,4 @@
-/* Reads symbols, one per line, and prints the demangled name of each, or the symbol itself if it has none. */
+/* Reads symbols, one per line, and prints the declaration of each, or the symbol itself if it has none. */
 #include <cosvigle.h>
 #include <stdio.h>
 #include <stdlib.h>
@@ -26,13 +26,13 @@ int main(void) {
     cosvigle_handle handle = COSVIGLE_NONE;
     if (line == NULL || answer == NULL) return 2;
     while (read_line(&line, &line_room, &len)) {
-        int status = cosvigle_ask(&handle, line, len, answer, room, &needed);
+        int status = cosvigle_ask(&handle, 0, line, len, answer, room, &needed);
         if (status == COSVIGLE_NO_ROOM) {
             free(answer);
             room = needed;
             answer = malloc(room);
             if (answer == NULL) return 2;
-            status = cosvigle_ask(&handle, line, len, answer, room, &needed);
+            status = cosvigle_ask(&handle, 0, line, len, answer, room, &needed);
         }
         if (status == COSVIGLE_NO_MEMORY) return 2;
         if (status == COSVIGLE_OK) fwrite(answer, 1, needed, stdout);

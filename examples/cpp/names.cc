@@ -1,4 +1,4 @@
-// Reads symbols, one per line, and prints the demangled name of each, or the symbol itself if it has none. It uses one
+// Reads symbols, one per line, and prints the declaration of each, or the symbol itself if it has none. It uses one
 // demangler for all symbols, since that keeps its memory.
 #include <cosvigle.hpp>
 #include <iostream>

@@ -1,7 +1,7 @@
 /* How much of its stack a thread needs for the deepest symbols. Standard input has a symbol a line. Each is asked for
- * its name and for its signature, in a thread whose stack was filled with a pattern: what differs from it afterwards
- * was used. Prints the symbol that needs most, and how many bytes. The status is 0 where these are at most as many as
- * the argument says. */
+ * in all printings, and for its parts, in a thread whose stack was filled with a pattern: what differs from it
+ * afterwards was used. Prints the symbol that needs most, and how many bytes. The status is 0 where these are at most as
+ * many as the argument says. */
 #define _GNU_SOURCE
 #include <cosvigle.h>
 
@@ -20,11 +20,19 @@ static void *ask(void *unused) {
     static char answer[1 << 20];
     cosvigle_handle handle = COSVIGLE_NONE;
     size_t needed;
-    const int status = cosvigle_ask(&handle, symbol, length, answer, sizeof answer, &needed);
-    const int as_signature = cosvigle_ask_signature(&handle, symbol, length, answer, sizeof answer, &needed);
+    uint32_t printing, part;
+    int is_answered = 1;
+    for (printing = 0; printing < 11; printing++) {
+        if (printing % 4 == 3) continue;
+        is_answered &= cosvigle_ask(&handle, printing, symbol, length, answer, sizeof answer, &needed) == COSVIGLE_OK;
+    }
+    for (part = 0; part < 4; part++) {
+        const int status = cosvigle_part(&handle, part, COSVIGLE_LLVM, answer, sizeof answer, &needed);
+        is_answered &= status == COSVIGLE_OK || status == COSVIGLE_NO_ANSWER;
+    }
     cosvigle_free(&handle);
     (void)unused;
-    return status == COSVIGLE_OK && as_signature == COSVIGLE_OK ? symbol : NULL;
+    return is_answered ? symbol : NULL;
 }
 
 /* How many bytes of its stack the thread used that asked the symbol, or 0 where it has no answer. */

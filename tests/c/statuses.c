@@ -13,41 +13,49 @@ static int status(size_t room, size_t *needed) {
     return it;
 }
 
-int cosvigle_ask(void *handle, const char *symbol, size_t len, char *answer, size_t room, size_t *needed) {
-    (void)handle, (void)symbol, (void)len, (void)answer;
+int cosvigle_ask(void *handle, uint32_t printing, const char *symbol, size_t len, char *out, size_t room,
+                 size_t *needed) {
+    (void)handle, (void)printing, (void)symbol, (void)len, (void)out;
     return status(room, needed);
 }
 
-int cosvigle_ask_signature(void *handle, const char *symbol, size_t len, char *answer, size_t room, size_t *needed) {
-    return cosvigle_ask(handle, symbol, len, answer, room, needed);
-}
-
-int cosvigle_filter_with(void *handle, const char *lines, size_t len, char *into, size_t room, size_t *needed) {
-    return cosvigle_ask(handle, lines, len, into, room, needed);
-}
-
-int cosvigle_replace(void *handle, bool strip, const char *text, size_t len, char *into, size_t room, size_t *needed) {
-    (void)strip;
-    return cosvigle_ask(handle, text, len, into, room, needed);
-}
-
-int cosvigle_take(void *handle, char *into, size_t room, size_t *needed) {
-    return cosvigle_ask(handle, NULL, 0, into, room, needed);
-}
-
-int cosvigle_demangle(const char *symbol, size_t len, char *answer, size_t room, size_t *needed) {
-    return cosvigle_ask(NULL, symbol, len, answer, room, needed);
-}
-
-int cosvigle_filter(const char *lines, size_t len, char *into, size_t room, size_t *needed) {
-    return cosvigle_ask(NULL, lines, len, into, room, needed);
-}
-
-int cosvigle_new(void *handle) {
+int cosvigle_limit(void *handle, size_t bytes) {
     size_t needed;
-    (void)handle;
+    (void)handle, (void)bytes;
     return status(0, &needed);
 }
+
+int cosvigle_part(void *handle, uint32_t part, uint32_t printing, char *out, size_t room, size_t *needed) {
+    (void)part;
+    return cosvigle_ask(handle, printing, NULL, 0, out, room, needed);
+}
+
+int cosvigle_kind(void *handle) {
+    (void)handle;
+    return 0;
+}
+
+bool cosvigle_has_qualifiers(void *handle) {
+    (void)handle;
+    return false;
+}
+
+int cosvigle_filter(void *handle, uint32_t printing, const char *lines, size_t len, char *out, size_t room,
+                    size_t *needed) {
+    return cosvigle_ask(handle, printing, lines, len, out, room, needed);
+}
+
+int cosvigle_replace(void *handle, uint32_t printing, bool strip, const char *text, size_t len, char *out, size_t room,
+                     size_t *needed) {
+    (void)strip;
+    return cosvigle_ask(handle, printing, text, len, out, room, needed);
+}
+
+int cosvigle_take(void *handle, char *out, size_t room, size_t *needed) {
+    return cosvigle_ask(handle, 0, NULL, 0, out, room, needed);
+}
+
+int cosvigle_new(void *handle) { return cosvigle_limit(handle, 0); }
 
 void cosvigle_free(void *handle) { (void)handle; }
 

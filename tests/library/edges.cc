@@ -50,27 +50,29 @@ static void answers(cosvigle::demangler &value, cosvigle::string_view symbol, co
     answered(value, again(&value, [&] { return value.demangle(symbol); }), answer);
 }
 
-static void signs(cosvigle::demangler &value, cosvigle::string_view symbol, const char *signature) {
-    answered(value, again(&value, [&] { return value.demangle_signature(symbol); }), signature);
+static void types(cosvigle::demangler &value, cosvigle::string_view type, const char *text) {
+    answered(value, again(&value, [&] { return value.demangle_type(type); }), text);
 }
 
 // What needs no std::string.
 static void try_views() {
     cosvigle::demangler first;
-    answers(first, "_ZN3Foo3barEv", "Foo::bar");
+    answers(first, "_ZN3Foo3barEv", "Foo::bar()");
     answers(first, "malloc", nullptr);
     answers(first, "_Z1\xff", nullptr);
     holds(first.status() == COSVIGLE_NOT_UTF8, "the status of what isn't UTF-8");
     answers(first, cosvigle::string_view(), nullptr);
-    answers(first, cosvigle::string_view("_Z3foo\0bar", 10), "foo");
+    answers(first, cosvigle::string_view("_Z3foo\0bar", 10), nullptr);
+    answers(first, "_Z3fooi.cold", "foo(int) [clone .cold]");
+    answers(first, "_Z1fIJicEEvDpRKT_", "void f<int, char>(int const&, char const&)");
+    answers(first, "_Z3foo_", nullptr);
 
-    // Signatures, and names again. One without a signature has its name.
-    signs(first, "_Z3fooi.cold", "foo(int).cold");
-    answers(first, "_Z3fooi.cold", "foo");
-    signs(first, "_Z1fIJicEEvDpRKT_", "f<int, char>(int, char const&)");
-    signs(first, "_Z3foo_", "foo");
-    signs(first, "malloc", nullptr);
-    signs(first, "_Z1\xff", nullptr);
+    // Types, and what isn't one.
+    types(first, "PFivE", "int (*)()");
+    types(first, "_Z3foov", "foo()");
+    types(first, "_Z3foo_", nullptr);
+    types(first, "", nullptr);
+    answers(first, "PFivE", nullptr);
 
     // A moved value answers on, the one that it was moved from too, and one that is assigned keeps nothing of its
     // own.
@@ -82,7 +84,7 @@ static void try_views() {
     answers(second, "_Z3bar", "bar");
     cosvigle::demangler &same = first;
     first = std::move(same);
-    answers(first, "_ZN3Foo3barEv", "Foo::bar");
+    answers(first, "_ZN3Foo3barEv", "Foo::bar()");
 
     // An answer that is longer than the room that a value begins with.
     static char symbol[1007];
@@ -90,34 +92,118 @@ static void try_views() {
     std::memcpy(symbol, "_Z1000", 6);
     std::memset(symbol + 6, 'a', 1000);
     std::memset(name, 'a', 1000);
-    signs(second, symbol, name);
+    answers(second, symbol, name);
     answers(first, symbol, name);
+}
+
+static void is_over_limit(cosvigle::demangler &value, cosvigle::string_view symbol) {
+    bool is_right = false;
+#if COSVIGLE_HAS_EXCEPTIONS
+    try {
+        again(&value, [&] { return value.demangle(symbol); });
+    } catch (const cosvigle::limit_error &error) {
+        is_right = error.status() == COSVIGLE_OVER_LIMIT;
+    }
+#else
+    is_right = !again(&value, [&] { return value.demangle(symbol); });
+#endif
+    holds(is_right && value.status() == COSVIGLE_OVER_LIMIT, "a symbol over the limit");
+}
+
+// Each option. They go with a value that is moved.
+static void try_options() {
+    static const char symbol[] = "_ZN1AIiE1fIiEEvSs";
+    cosvigle::options options;
+    options.style = cosvigle::style::gnu_short;
+    cosvigle::demangler shorter(options);
+    answers(shorter, symbol, "void A<int>::f<int>(std::string)");
+    options.style = cosvigle::style::llvm;
+    options.returns = false;
+    cosvigle::demangler llvm(options);
+    answers(llvm, "_Z1fISt6vectorIS0_IiEEEvv", "f<std::vector<std::vector<int>>>()");
+    cosvigle::demangler moved(std::move(llvm));
+    answers(moved, symbol, "A<int>::f<int>(std::string)");
+    options.parameters = false;
+    cosvigle::demangler names(options);
+    answers(names, symbol, "A<int>::f<int>");
+    options = cosvigle::options();
+    options.types = true;
+    cosvigle::demangler types(options);
+    answers(types, "i", "int");
+
+    // A limit that is too low, and one that isn't. It is no limit for what isn't read at all.
+    options.memory_limit = 1;
+    cosvigle::demangler none(options);
+    is_over_limit(none, "_Z3fooi");
+    is_over_limit(none, "i");
+    answers(none, "1", nullptr);
+    options.memory_limit = 1000000;
+    cosvigle::demangler enough(options);
+    answers(enough, "_Z3fooi", "foo(int)");
+    enough = std::move(none);
+    is_over_limit(enough, "_Z3fooi");
 }
 
 static void is(const cosvigle::optional<std::string> &made, const char *text) {
     holds(made.has_value() && *made == text, text);
 }
 
+static void are(const cosvigle::optional<cosvigle::symbol_parts> &made, const cosvigle::symbol_parts &parts) {
+    holds(made.has_value() && made->kind == parts.kind && made->has_qualifiers == parts.has_qualifiers &&
+              made->base_name == parts.base_name && made->context == parts.context &&
+              made->parameters == parts.parameters && made->return_type == parts.return_type,
+          parts.base_name.c_str());
+}
+
+static void try_parts() {
+    cosvigle::demangler value;
+    cosvigle::symbol_parts parts;
+    are(again(&value, [&] { return value.parts("_ZTV1A"); }), parts);
+    parts.kind = cosvigle::kind::function;
+    parts.has_qualifiers = true;
+    parts.base_name = "bar";
+    parts.context = "Foo";
+    parts.parameters = "(int)";
+    parts.return_type = "void";
+    are(again(&value, [&] { return value.parts("_ZNK3Foo3barIiEEvT_"); }), parts);
+    holds(value.status() == COSVIGLE_OK, "the status of parts");
+    are(again(&value, [&] { return cosvigle::parts("_ZNK3Foo3barIiEEvT_"); }), parts);
+    parts = cosvigle::symbol_parts();
+    parts.kind = cosvigle::kind::data;
+    parts.base_name = std::string(1000, 'a');
+    are(again(&value, [&] { return value.parts("_Z1000" + parts.base_name); }), parts);
+    holds(!again(&value, [&] { return value.parts("malloc"); }), "no parts");
+    holds(value.status() == COSVIGLE_NO_ANSWER, "their status");
+}
+
 static void try_strings() {
     cosvigle::demangler value;
+    cosvigle::options llvm;
+    llvm.style = cosvigle::style::llvm;
     const std::string symbol("_ZNSt6vectorIS_IS_IiEEE4sizeEv");
-    const std::string name("std::vector<std::vector<std::vector<int> > >::size");
+    const std::string name("std::vector<std::vector<std::vector<int> > >::size()");
     const std::string lines = symbol + "\nx " + symbol + "\n", text = "(" + symbol + "+0x1) \xff";
     answers(value, symbol, name.c_str());
     is(again(&value, [&] { return cosvigle::demangle(symbol); }), name.c_str());
     is(again(&value, [&] { return cosvigle::demangle("_Z3foo"); }), "foo");
+    is(again(&value, [&] { return cosvigle::demangle(symbol, llvm); }),
+       "std::vector<std::vector<std::vector<int>>>::size()");
     holds(!again(&value, [] { return cosvigle::demangle("malloc"); }), "no owned answer");
-    is(again(&value, [&] { return cosvigle::demangle_signature("_ZNK3Foo3barEv"); }), "Foo::bar() const");
-    holds(!again(&value, [] { return cosvigle::demangle_signature("malloc"); }), "no owned signature");
+    is(again(&value, [&] { return cosvigle::demangle_type("PKc"); }), "char const*");
+    holds(!again(&value, [] { return cosvigle::demangle_type("Q"); }), "no owned type");
     const std::string own(*again(&value, [&] { return value.demangle(symbol); }));
     holds(own == name, "a string of a lent answer");
     is(again(&value, [&] { return value.replace(text); }), ("(" + name + "+0x1) \xff").c_str());
-    is(again(&value, [&] { return value.replace("___Z3foo"); }), "___Z3foo");
+    is(again(&value, [&] { return value.replace("x___Z3foo"); }), "x___Z3foo");
     is(again(&value, [&] { return value.replace("___Z3foo", true); }), "foo");
     is(again(&value, [&] { return value.replace(""); }), "");
     is(again(&value, [&] { return value.filter(lines); }), (name + "\nx " + symbol + "\n").c_str());
     is(again(&value, [&] { return cosvigle::replace(text); }), ("(" + name + "+0x1) \xff").c_str());
+    is(again(&value, [&] { return cosvigle::replace("(_Z3foov)", llvm, true); }), "(_Z3foov)");
     is(again(&value, [&] { return cosvigle::filter(lines); }), (name + "\nx " + symbol + "\n").c_str());
+    llvm.memory_limit = 1;
+    is(again(&value, [&] { return cosvigle::replace(text, llvm); }), text.c_str());
+    is(again(&value, [&] { return cosvigle::filter(lines, llvm); }), lines.c_str());
     answers(value, symbol, name.c_str());
     holds(cosvigle::version() == COSVIGLE_VERSION, "the version");
 }
@@ -128,11 +214,12 @@ int main() {
     std::setvbuf(stdout, room, _IOFBF, sizeof room);
     const long live = refuse_live ? refuse_live() : 0;
     try_views();
+    try_options();
 #if COSVIGLE_HAS_EXCEPTIONS
-    // The strings that this function itself makes may be out of memory too.
-    again(nullptr, [] { return try_strings(), 0; });
+    // The strings that these functions themselves make may be out of memory too.
+    again(nullptr, [] { return try_strings(), try_parts(), 0; });
 #else
-    if (!std::getenv("REFUSE")) try_strings();
+    if (!std::getenv("REFUSE")) try_strings(), try_parts();
 #endif
     holds(!refuse_live || refuse_live() == live, "all memory is freed");
     std::printf("%d passed, %d failed\n", passed, failed);

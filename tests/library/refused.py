@@ -7,15 +7,15 @@ import cosvigle
 refuse_at = ctypes.CDLL(None).refuse_at
 refuse_at.argtypes, refuse_at.restype = [ctypes.c_long], ctypes.c_long
 SYMBOL = "_ZNSt6vectorIS_IS_IiEEE4sizeEv"
-NAME = "std::vector<std::vector<std::vector<int> > >::size"
+TEXT = "std::vector<std::vector<std::vector<int> > >::size()"
 LONG = "a" * 1000
 
 
-def tried(method, given, right):
+def tried(method, given, right, **how):
     """The same call where each of its allocations fails, until none does."""
     number, failed, left = 1, 0, 0
     while not left:
-        call, found = getattr(cosvigle.Demangler(), method), None
+        call, found = getattr(cosvigle.Demangler(**how), method), None
         refuse_at(number)
         try:
             found = call(given)
@@ -30,8 +30,10 @@ def tried(method, given, right):
     assert 1 < failed < number, (method, failed, number)
 
 
-tried("demangle", SYMBOL, NAME)
-tried("demangle", f"_Z1000{LONG}v", LONG)
-tried("demangle_signature", "_Z1fIJicEEvDpRKT_", "f<int, char>(int, char const&)")
-tried("replace", SYMBOL, NAME)
-tried("filter", SYMBOL, NAME)
+tried("demangle", SYMBOL, TEXT)
+tried("demangle", SYMBOL, TEXT, max_memory=1000000)
+tried("demangle", f"_Z1000{LONG}v", LONG + "()")
+tried("demangle_type", "PFivE", "int (*)()")
+tried("parts", "_ZNK1A1fIiEEvv", ("function", "f", "A", "()", "void", True))
+tried("replace", SYMBOL, TEXT)
+tried("filter", SYMBOL, TEXT)

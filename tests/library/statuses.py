@@ -11,20 +11,22 @@ def fails(call):
         call("_Z3foo")
     except MemoryError:
         assert status == 2
+    except cosvigle.LimitError:
+        assert status == 6
     except cosvigle.Error as error:
-        assert error.status == status != 2
+        assert error.status == status not in (2, 6)
     else:
         raise AssertionError(f"{call} gave a value with status {status}")
 
 
 demangler = cosvigle.Demangler()
-if status in (1, 4):
-    assert demangler.demangle("_Z3foo") is None
-    assert demangler.demangle_signature("_Z3foo") is None
-else:
-    fails(demangler.demangle)
-    fails(cosvigle.demangle)
-    fails(demangler.demangle_signature)
-    fails(cosvigle.demangle_signature)
+asking = (demangler.demangle, demangler.demangle_type, demangler.parts, cosvigle.demangle, cosvigle.parts)
+for call in asking:
+    if status in (1, 4):
+        assert call("_Z3foo") is None
+    else:
+        fails(call)
 fails(demangler.replace)
 fails(demangler.filter)
+# Where the limit can't be set, nothing is asked.
+fails(cosvigle.Demangler(max_memory=1000).demangle)

@@ -2,10 +2,7 @@
 //! error or the right value, and the same call without `try_` panics or returns it. Made again, each returns it, and all
 //! memory is freed.
 
-use cosvigle::{
-    AllocError, Demangler, Printing, ReplaceOptions, demangle_owned, demangle_signature_owned, filter, replace,
-    try_demangle_owned, try_demangle_signature_owned, try_filter, try_replace,
-};
+use cosvigle::{Demangler, demangle, names, try_demangle};
 use std::ffi::c_long;
 use std::panic::{AssertUnwindSafe, catch_unwind, set_hook};
 
@@ -17,8 +14,7 @@ unsafe extern "C" {
 
 const SYMBOL: &str = "_ZNSt6vectorIS_IS_IiEEE4sizeEv";
 const NAME: &str = "std::vector<std::vector<std::vector<int> > >::size";
-const SIGNATURE: &str = "std::vector<std::vector<std::vector<int> > >::size()";
-const OPTIONS: ReplaceOptions = ReplaceOptions { strip: false, printing: Printing::Names };
+const TEXT: &str = "std::vector<std::vector<std::vector<int> > >::size()";
 
 /// The same call where each of its allocations fails, until none does. It says whether its value is right, or `None`
 /// where it has none.
@@ -47,7 +43,7 @@ fn tried(call: impl Fn(&mut Demangler) -> Option<bool>) {
 }
 
 /// What a call made, or `None` if it returned the error.
-fn unless_error<T>(made: Result<T, AllocError>) -> Option<T> {
+fn unless_error<T, E>(made: Result<T, E>) -> Option<T> {
     made.ok()
 }
 
@@ -65,19 +61,22 @@ fn main() {
     }));
     let long = "a".repeat(1000);
     let symbol = format!("_Z1000{long}v");
-    let signature = format!("{long}()");
-    tried(|it| Some(unless_error(it.try_demangle(SYMBOL))? == Some(NAME)));
-    tried(|it| Some(unless_error(it.try_demangle(&symbol))? == Some(long.as_str())));
-    tried(|it| Some(unless_error(it.try_demangle_signature(SYMBOL))? == Some(SIGNATURE)));
-    tried(|it| Some(unless_error(it.try_demangle_signature(&symbol))? == Some(signature.as_str())));
-    tried(|_| Some(unless_error(try_demangle_owned(SYMBOL))?.as_deref() == Some(NAME)));
-    tried(|_| Some(unless_error(try_demangle_signature_owned(SYMBOL))?.as_deref() == Some(SIGNATURE)));
-    tried(|_| Some(unless_error(try_replace(SYMBOL.as_bytes(), OPTIONS))? == NAME.as_bytes()));
-    tried(|_| Some(unless_error(try_filter(SYMBOL.as_bytes(), Printing::Names))? == NAME.as_bytes()));
-    tried(|it| unless_panic(|| it.demangle(SYMBOL) == Some(NAME)));
-    tried(|it| unless_panic(|| it.demangle_signature(SYMBOL) == Some(SIGNATURE)));
-    tried(|_| unless_panic(|| demangle_owned(SYMBOL).as_deref() == Some(NAME)));
-    tried(|_| unless_panic(|| demangle_signature_owned(SYMBOL).as_deref() == Some(SIGNATURE)));
-    tried(|_| unless_panic(|| replace(SYMBOL.as_bytes(), OPTIONS) == NAME.as_bytes()));
-    tried(|_| unless_panic(|| filter(SYMBOL.as_bytes(), Printing::Names) == NAME.as_bytes()));
+    let declaration = format!("{long}()");
+    tried(|it| Some(unless_error(it.try_demangle(SYMBOL))? == Some(TEXT)));
+    tried(|it| Some(unless_error(it.try_demangle(&symbol))? == Some(declaration.as_str())));
+    tried(|it| Some(unless_error(it.try_demangle_type("PFivE"))? == Some("int (*)()")));
+    tried(|it| Some(unless_error(it.try_parts("_ZN1A1fEv"))?.unwrap().base_name == "f"));
+    tried(|_| Some(unless_error(try_demangle(SYMBOL))?.as_deref() == Some(TEXT)));
+    tried(|it| Some(unless_error(it.try_replace(SYMBOL.as_bytes(), false))? == TEXT.as_bytes()));
+    tried(|it| Some(unless_error(it.try_filter(SYMBOL.as_bytes()))? == TEXT.as_bytes()));
+    tried(|_| Some(unless_error(names::Demangler::new().try_demangle(SYMBOL))? == Some(NAME)));
+    tried(|_| Some(unless_error(names::try_demangle_owned(SYMBOL))?.as_deref() == Some(NAME)));
+    tried(|it| unless_panic(|| it.demangle(SYMBOL) == Some(TEXT)));
+    tried(|it| unless_panic(|| it.demangle_type("PFivE") == Some("int (*)()")));
+    tried(|it| unless_panic(|| it.parts("_ZN1A1fEv").unwrap().base_name == "f"));
+    tried(|_| unless_panic(|| demangle(SYMBOL).as_deref() == Some(TEXT)));
+    tried(|it| unless_panic(|| it.replace(SYMBOL.as_bytes(), false) == TEXT.as_bytes()));
+    tried(|it| unless_panic(|| it.filter(SYMBOL.as_bytes()) == TEXT.as_bytes()));
+    tried(|_| unless_panic(|| names::Demangler::new().demangle(SYMBOL) == Some(NAME)));
+    tried(|_| unless_panic(|| names::demangle_owned(SYMBOL).as_deref() == Some(NAME)));
 }

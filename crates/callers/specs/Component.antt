@@ -1,5 +1,5 @@
 -- One component of a symbol.
-use Rattle.std.specs.Prelude.{◌≡◌, ℕ, false, List, Option, Some, None, option_map, slice_get}
+use Rattle.std.specs.Prelude.{◌≡◌, ℕ, List, Option, Some, None, option_map, slice_get}
 use Rattle.itanium_grammar.specs.Tree.{Tree, printing}
 use Rattle.itanium_grammar.specs.Grammar.{Position, Cost}
 use Rattle.itanium_grammar.specs.Answer.{IsWithin, IsReading, IsAnswer}
@@ -9,7 +9,7 @@ use Rattle.itanium_grammar.specs.Answer.{IsWithin, IsReading, IsAnswer}
 abbrev pub IsComponentAt : List ℕ → Option (List ℕ) → ℕ → Option (List ℕ) → Type 0
 IsComponentAt symbol (Some answer) i found =
     (tree : Tree) (next : Position) (cost : Cost)
-    → IsReading false symbol tree next cost
+    → IsReading symbol tree next cost
     → IsWithin cost
     → found ≡ option_map printing (slice_get next.saved i)
 IsComponentAt symbol None i found = found ≡ None

@@ -1,10 +1,10 @@
 -- Steps through the letters and names of options.
-use Rattle.std.proofs.Common.{◌≡◌, ◌≢◌, ℕ, suc, ◌+◌, ◌<◌, List, [], ◌∷◌, true, false, ◌==◌, Some, None, codes, if◌then◌else◌, length, take, drop, get_or, refl, ap, ◌∙◌, arith}
+use Rattle.std.proofs.Common.{◌≡◌, ◌≢◌, ℕ, suc, ◌+◌, ◌*◌, ◌-◌, min, ◌<◌, ◌≤◌, List, [], ◌∷◌, Bool, true, false, ◌==◌, Some, None, codes, if◌then◌else◌, length, take, drop, get_or, refl, ap, ◌∙◌, arith}
 use Rattle.std.proofs.Common.{ne_eqb, eq-eqb}
-use Rattle.std.proofs.lemmas.List.{length-drop}
+use Rattle.std.proofs.lemmas.List.{length-drop, drop_all}
 use Rattle.std.proofs.Math.Seq.{drop-cons}
 use Rattle.std.specs.List.{starts_with}
-use Rattle.abi_scalars.specs.Bytes.{begins}
+use Rattle.abi_scalars.specs.Bytes.{is, is_digit, begins}
 use Rattle.cosvigle.specs.declared.options.Flags.{Flags}
 use Rattle.cosvigle.specs.declared.options.EarlyExit.TheVariants as instead
 use Rattle.cosvigle.specs.declared.options.Valued.{Valued}
@@ -13,7 +13,7 @@ use Rattle.cosvigle.specs.declared.options.OptionState.TheVariants.{Ready, Needs
 use Rattle.cosvigle.specs.declared.option_names.Found.{Found}
 use Rattle.cosvigle.specs.declared.option_names.Found.TheVariants.{Exact}
 use Rattle.cosvigle.specs.declared.option_names.LongOption.TheVariants as long
-use Rattle.cosvigle.specs.Options.{match_name, with_match, after_letter, after_value, letters, with_value, after_named, name_len, find_option, find_long_option, after_found, after_name}
+use Rattle.cosvigle.specs.Options.{match_name, with_match, after_letter, after_value, letters, with_value, after_named, name_len, find_option, find_long_option, after_found, after_name, number_from, past_slashes}
 
 either_way : (a b : ℕ) → (a == b) ≡ (b == a)
 either_way a b = grind arith
@@ -35,17 +35,17 @@ pub begins_more : (found : Found) (bytes name : List ℕ) (letter : ℕ) → beg
 begins_more found bytes name letter begun more = rw (begun, ne_eqb _ _ more) refl
 
 -- the option without a letter whose name begins with the bytes
-pub long_first : (bytes : List ℕ) → begins bytes (codes "declarations") ≡ true → Some long.Declarations ≡ find_long_option bytes
+pub long_first : (bytes : List ℕ) → begins bytes (codes "max-memory") ≡ true → Some long.MaxMemory ≡ find_long_option bytes
 long_first bytes is = rw is refl
 
-pub long_second : (bytes : List ℕ) → begins bytes (codes "declarations") ≡ false → begins bytes (codes "no-return") ≡ true → Some long.NoReturn ≡ find_long_option bytes
+pub long_second : (bytes : List ℕ) → begins bytes (codes "max-memory") ≡ false → begins bytes (codes "no-return") ≡ true → Some long.NoReturn ≡ find_long_option bytes
 long_second bytes first is = rw (first, is) refl
 
-pub long_third : (bytes : List ℕ) → begins bytes (codes "declarations") ≡ false → begins bytes (codes "no-return") ≡ false → begins bytes (codes "style") ≡ true
+pub long_third : (bytes : List ℕ) → begins bytes (codes "max-memory") ≡ false → begins bytes (codes "no-return") ≡ false → begins bytes (codes "style") ≡ true
     → Some long.Style ≡ find_long_option bytes
 long_third bytes first second is = rw (first, second, is) refl
 
-pub long_none : (bytes : List ℕ) → begins bytes (codes "declarations") ≡ false → begins bytes (codes "no-return") ≡ false → begins bytes (codes "style") ≡ false
+pub long_none : (bytes : List ℕ) → begins bytes (codes "max-memory") ≡ false → begins bytes (codes "no-return") ≡ false → begins bytes (codes "style") ≡ false
     → None ≡ find_long_option bytes
 long_none bytes first second third = rw (first, second, third) refl
 
@@ -87,3 +87,46 @@ pub after_name-found : (flags : Flags) (bytes : List ℕ) (len : ℕ) (found : F
     → after_found flags found len bytes ≡ after_name flags bytes
 after_name-found flags bytes len found by_len by_name =
     ap (λ f. after_found flags f len bytes) by_name ∙ ap (λ n. after_found flags (find_option (take n bytes)) n bytes) by_len
+
+-- one byte more of a number
+number_cons : (number byte : ℕ) (digits : List ℕ) (t : Bool) → is_digit byte ≡ t
+    → number_from number (byte ∷ digits) ≡ (if t then number_from (min (10 * number + (byte - 48)) 18446744073709551615) digits else None)
+number_cons number byte digits t is = ap (λ b. if b then number_from (min (10 * number + (byte - 48)) 18446744073709551615) digits else None) is
+
+pub number_digit : (number : ℕ) (digits : List ℕ) (at : ℕ) → at < length digits → is_digit (get_or digits at 0) ≡ true
+    → number_from number (drop at digits) ≡ number_from (min (10 * number + (get_or digits at 0 - 48)) 18446744073709551615) (drop (at + 1) digits)
+number_digit number digits at inside is =
+    let place : suc at ≡ at + 1 = omega arith in
+    ap (number_from number) (drop-cons digits at 0 inside)
+    ∙ number_cons number (get_or digits at 0) (drop (suc at) digits) true is
+    ∙ ap (λ k. number_from (min (10 * number + (get_or digits at 0 - 48)) 18446744073709551615) (drop k digits)) place
+
+pub number_none : (number : ℕ) (digits : List ℕ) (at : ℕ) → at < length digits → is_digit (get_or digits at 0) ≡ false → number_from number (drop at digits) ≡ None
+number_none number digits at inside is =
+    ap (number_from number) (drop-cons digits at 0 inside) ∙ number_cons number (get_or digits at 0) (drop (suc at) digits) false is
+
+pub number_end : (number : ℕ) (digits : List ℕ) (at : ℕ) → length digits ≤ at → number_from number (drop at digits) ≡ Some number
+number_end number digits at past = ap (number_from number) (drop_all at digits past)
+
+-- one byte more of a path
+slash_cons : (from path : List ℕ) (byte : ℕ) (t : Bool) → is "/" byte ≡ t → past_slashes from (byte ∷ path) ≡ past_slashes (if t then path else from) path
+slash_cons from path byte t is = ap (λ b. past_slashes (if b then path else from) path) is
+
+pub slash_here : (from path : List ℕ) (at : ℕ) → at < length path → is "/" (get_or path at 0) ≡ true
+    → past_slashes from (drop at path) ≡ past_slashes (drop (at + 1) path) (drop (at + 1) path)
+slash_here from path at inside is =
+    let place : suc at ≡ at + 1 = omega arith in
+    ap (past_slashes from) (drop-cons path at 0 inside)
+    ∙ slash_cons from (drop (suc at) path) (get_or path at 0) true is
+    ∙ ap (λ k. past_slashes (drop k path) (drop k path)) place
+
+pub slash_past : (from path : List ℕ) (at : ℕ) → at < length path → is "/" (get_or path at 0) ≡ false
+    → past_slashes from (drop at path) ≡ past_slashes from (drop (at + 1) path)
+slash_past from path at inside is =
+    let place : suc at ≡ at + 1 = omega arith in
+    ap (past_slashes from) (drop-cons path at 0 inside)
+    ∙ slash_cons from (drop (suc at) path) (get_or path at 0) false is
+    ∙ ap (λ k. past_slashes from (drop k path)) place
+
+pub slash_end : (from path : List ℕ) (at : ℕ) → length path ≤ at → past_slashes from (drop at path) ≡ from
+slash_end from path at past = ap (past_slashes from) (drop_all at path past)

@@ -1,6 +1,4 @@
 pub mod Arguments
-pub mod Demanglers
-pub mod Printed
 pub mod Files
 pub mod Options
 pub mod Output

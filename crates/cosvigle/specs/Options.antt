@@ -1,9 +1,7 @@
 -- What arguments ask. Options stand as those of `c++filt` do: letters in a group, and names that may be shortened.
-use Rattle.std.specs.Prelude.{◌≡◌, ℕ, ◌+◌, List, [], ◌∷◌, ◌++◌, Bool, true, false, ◌&&◌, ◌||◌, ◌==◌, Option, Some, None, codes, map, length, take, drop, if◌then◌else◌}
+use Rattle.std.specs.Prelude.{◌≡◌, ℕ, ◌+◌, ◌*◌, ◌-◌, ◌/◌, min, List, [], ◌∷◌, ◌++◌, Bool, true, false, ◌&&◌, ◌||◌, ◌==◌, Option, Some, None, codes, map, length, take, drop, if◌then◌else◌}
 use Rattle.std.specs.Borrow.{Bor}
-use Rattle.abi_scalars.specs.Bytes.{is, one_of, begins}
-use Rattle.cosvigle.specs.declared.options.Params.{Params}
-use Rattle.cosvigle.specs.declared.options.Params.TheVariants.{Unsaid, Printed, LeftOut}
+use Rattle.abi_scalars.specs.Bytes.{is, is_digit, one_of, begins}
 use Rattle.cosvigle.specs.declared.options.Flags.{Flags}
 use Rattle.cosvigle.specs.declared.options.EarlyExit.{EarlyExit}
 use Rattle.cosvigle.specs.declared.options.EarlyExit.TheVariants as instead
@@ -15,8 +13,7 @@ use Rattle.cosvigle.specs.declared.options.Kind.{Kind}
 use Rattle.cosvigle.specs.declared.options.Kind.TheVariants.{End, Name, Letters, Symbol}
 use Rattle.cosvigle.specs.declared.options.Request.{Request}
 use Rattle.cosvigle.specs.declared.options.Request.TheVariants.{Symbols, Stopped}
-use Rattle.cosvigle.specs.declared.symbols.Printing.{Printing}
-use Rattle.cosvigle.specs.declared.symbols.Printing.TheVariants.{Names, Signatures, Declarations}
+use Rattle.cosvigle_engine.specs.declared.reader.Printing.{Printing}
 use Rattle.cxx_printer.specs.declared.symbol.Mode.{Mode}
 use Rattle.cxx_printer.specs.declared.symbol.Mode.TheVariants as mode
 use Rattle.cxx_printer.specs.declared.env.Style.{Style}
@@ -43,11 +40,11 @@ with_lines on flags = record flags { lines = on }
 abbrev pub with_pass_through : Bool → Flags → Flags
 with_pass_through on flags = record flags { pass_through = on }
 
-abbrev pub with_params : Params → Flags → Flags
-with_params params flags = record flags { params = params }
+abbrev pub with_types : Bool → Flags → Flags
+with_types on flags = record flags { types = on }
 
-abbrev pub with_declarations : Bool → Flags → Flags
-with_declarations on flags = record flags { declarations = on }
+abbrev pub with_name : Bool → Flags → Flags
+with_name on flags = record flags { name = on }
 
 abbrev pub with_no_return : Bool → Flags → Flags
 with_no_return on flags = record flags { no_return = on }
@@ -58,15 +55,13 @@ with_style style flags = record flags { style = style }
 abbrev pub with_brief : Bool → Flags → Flags
 with_brief on flags = record flags { brief = on }
 
+abbrev pub with_memory : ℕ → Flags → Flags
+with_memory bytes flags = record flags { memory = Some bytes }
+
 -- how much of a declaration is printed: the name where parameters are left out, and else the return type too unless it
 -- is left out
-abbrev pub mode_with : Params → Bool → Mode
-mode_with LeftOut no_return = mode.Name
-mode_with Unsaid no_return = if no_return then mode.Signature else mode.Declaration
-mode_with Printed no_return = if no_return then mode.Signature else mode.Declaration
-
 abbrev pub mode_of : Flags → Mode
-mode_of flags = mode_with flags.params flags.no_return
+mode_of flags = if flags.name then mode.Name else if flags.no_return then mode.Signature else mode.Declaration
 
 -- the style of declarations: in GNU's style the abbreviations of `std` are written out, unless they are to stay
 abbrev pub style_with : Style → Bool → Style
@@ -77,17 +72,17 @@ style_with GnuShort brief = GnuShort
 abbrev pub style_of : Flags → Style
 style_of flags = style_with flags.style flags.brief
 
--- without declarations: names, unless parameters are asked for
-abbrev pub plain_printing : Params → Printing
-plain_printing Unsaid = Names
-plain_printing Printed = Signatures
-plain_printing LeftOut = Names
+-- how many nodes may be kept in so many bytes of memory: 256 bytes are counted for a node
+abbrev pub limit_of : Option ℕ → Option ℕ
+limit_of (Some bytes) = Some (bytes / 256)
+limit_of None = None
 
--- what is printed for a symbol
+-- what is read, and what is printed of it
 abbrev pub printing_of : Flags → Printing
-printing_of flags =
-    if flags.declarations then Declarations (record { mode = mode_of flags; style = style_of flags; limit = None }) else
-    plain_printing flags.params
+printing_of flags = record {
+  types = flags.types;
+  part = record { mode = mode_of flags; style = style_of flags; limit = limit_of flags.memory };
+}
 
 -- what a format asks for
 abbrev pub after_format : Flags → List ℕ → OptionState
@@ -104,10 +99,28 @@ after_style flags style =
     if same (codes "gnu-short") style then Ready (with_style GnuShort flags) else
     Exit instead.UnknownStyle
 
+-- the number that decimal digits stand for, after those that were read. One past the greatest is the greatest.
+abbrev pub number_from : ℕ → List ℕ → Option ℕ
+number_from number [] = Some number
+number_from number (byte ∷ digits) =
+    if is_digit byte then number_from (min (10 * number + (byte - 48)) 18446744073709551615) digits else None
+
+abbrev pub number_of : List ℕ → Option ℕ
+number_of digits = number_from 0 digits
+
+-- what a number of bytes asks for, which isn't 0
+abbrev pub with_number : Flags → Option ℕ → OptionState
+with_number flags None = Exit instead.NoNumber
+with_number flags (Some number) = if number == 0 then Exit instead.NoNumber else Ready (with_memory number flags)
+
+abbrev pub after_memory : Flags → List ℕ → OptionState
+after_memory flags digits = with_number flags (number_of digits)
+
 -- what the value of an option asks for
 abbrev pub after_value : Flags → Valued → List ℕ → OptionState
 after_value flags valued.Format value = after_format flags value
 after_value flags valued.Style value = after_style flags value
+after_value flags valued.MaxMemory value = after_memory flags value
 
 -- what the option with a letter asks for
 abbrev pub after_letter : Flags → ℕ → OptionState
@@ -115,19 +128,18 @@ after_letter flags letter =
     if is "_" letter then Ready (with_strip true flags) else
     if is "n" letter then Ready (with_strip false flags) else
     if is "l" letter then Ready (with_lines true flags) else
-    if is "p" letter then Ready (with_params LeftOut flags) else
-    if is "P" letter then Ready (with_params Printed flags) else
+    if is "p" letter then Ready (with_name true flags) else
+    if is "t" letter then Ready (with_types true flags) else
     if is "i" letter then Ready (with_brief true flags) else
     if one_of (codes "rR") letter then Ready flags else
     if is "s" letter then NeedsValue flags valued.Format else
-    if is "t" letter then Exit instead.TypesAlone else
     if is "h" letter then Exit instead.Help else
     if is "v" letter then Exit instead.Version else
     Exit instead.UnknownOption
 
 -- what an option without a letter asks for
 abbrev pub after_long_option : Flags → LongOption → OptionState
-after_long_option flags long.Declarations = Ready (with_declarations true flags)
+after_long_option flags long.MaxMemory = NeedsValue flags valued.MaxMemory
 after_long_option flags long.NoReturn = Ready (with_no_return true flags)
 after_long_option flags long.Style = NeedsValue flags valued.Style
 
@@ -158,12 +170,11 @@ match_name found bytes name letter =
 -- the options with a letter whose names begin with the bytes: a whole name counts alone
 abbrev pub find_option : List ℕ → Found
 find_option bytes =
-    match_name (match_name (match_name (match_name (match_name (match_name (match_name
+    match_name (match_name (match_name (match_name (match_name (match_name
     (match_name (match_name (match_name (match_name (match_name (match_name (match_name Nothing
     bytes (codes "strip-underscore") 95)
     bytes (codes "no-strip-underscores") 110)
     bytes (codes "no-params") 112)
-    bytes (codes "params") 80)
     bytes (codes "no-verbose") 105)
     bytes (codes "no-recurse-limit") 114)
     bytes (codes "no-recursion-limit") 114)
@@ -178,7 +189,7 @@ find_option bytes =
 -- the option without a letter whose name begins with the bytes. No two of these names begin alike.
 abbrev pub find_long_option : List ℕ → Option LongOption
 find_long_option bytes =
-    if begins bytes (codes "declarations") then Some long.Declarations else
+    if begins bytes (codes "max-memory") then Some long.MaxMemory else
     if begins bytes (codes "no-return") then Some long.NoReturn else
     if begins bytes (codes "style") then Some long.Style else None
 
@@ -256,17 +267,26 @@ abbrev pub read : State → List (List ℕ) → State
 read state [] = state
 read state (argument ∷ arguments) = read (next state argument) arguments
 
--- no option
-abbrev pub no_flags : Flags
-no_flags = record {
+-- the part of a path after its last slash, or after `from` if there is none
+abbrev pub past_slashes : List ℕ → List ℕ → List ℕ
+past_slashes from [] = from
+past_slashes from (byte ∷ path) = past_slashes (if is "/" byte then path else from) path
+
+abbrev pub base_name : List ℕ → List ℕ
+base_name path = past_slashes path path
+
+-- no option: the style is LLVM's if the program is called as `llvm-cxxfilt`, and else GNU's
+abbrev pub flags_of : List ℕ → Flags
+flags_of program = record {
   strip = false;
   lines = false;
   pass_through = false;
-  params = Unsaid;
-  declarations = false;
+  types = false;
+  name = false;
   no_return = false;
-  style = Llvm;
+  style = if begins (codes "llvm-cxxfilt") (base_name program) then Llvm else Gnu;
   brief = false;
+  memory = None;
 }
 
 -- the bytes of texts
@@ -287,6 +307,6 @@ AsksFor (reading (Exit stop) symbols last) (Symbols chosen given) = ⊥
 AsksFor (ended flags symbols) (Stopped by argument) = ⊥
 AsksFor (stopped stop last) (Symbols chosen given) = ⊥
 
--- all arguments, and what they ask
-abbrev pub IsRequest : List (List ℕ) → Request → Type 0
-IsRequest arguments request = AsksFor (read (reading (Ready no_flags) [] []) arguments) request
+-- all arguments of a program, and what they ask
+abbrev pub IsRequest : List ℕ → List (List ℕ) → Request → Type 0
+IsRequest program arguments request = AsksFor (read (reading (Ready (flags_of program)) [] []) arguments) request

@@ -4,28 +4,31 @@
 pub const HELP: &str = "\
 usage: cosvigle [OPTION].. [SYMBOL]..
 
-Prints the name of each symbol, or the symbol itself if it has none, one a line.
-Without symbols it copies standard input, with names in place of symbols.
+Prints the declaration of each C++ symbol, or the symbol itself if it isn't
+read, one a line. Without symbols it copies standard input, with declarations in
+place of symbols.
 
-  -_, --strip-underscore     a symbol may begin with ___Z
-  -n, --no-strip-underscores a symbol may not begin with ___Z (default)
-  -P, --params; -p, --no-params  print parameters; leave them out (default)
-  -l, --lines                each line of the input is one symbol; -_ is ignored
+  -_, --strip-underscore     each symbol has one more underscore in front
+  -n, --no-strip-underscores no symbol has (default)
+  -p, --no-params            print names, without parameters
+  -i, --no-verbose           print std::string and the like in short
+  -t, --types                read what is no symbol as a type: i is int
   -s, --format=FORMAT        auto or gnu-v3: read symbols; none: read no symbol
-      --declarations         print declarations, with their return types
-      --no-return            print declarations without return types
-      --style=STYLE          as llvm prints them (default), gnu or gnu-short
-  -i, --no-verbose           print gnu-short where gnu is asked for
+  -l, --lines                each line of the input is one symbol; -_ is ignored
+      --style=STYLE          as gnu prints them (default), gnu-short or llvm
+      --no-return            print no return types
+      --max-memory=BYTES     leave symbols that need more memory
   -h, --help; -v, --version  print this text; print the version
   @FILE                      stands for the words of this file
   --                         all arguments after it are symbols
   no effect: -r, --no-recurse-limit; -R, --recurse-limit
-Letters may be grouped, and long names may be shortened.
+Letters may be grouped, and long names may be shortened. Called as llvm-cxxfilt
+its style is llvm.
 
 examples:
-  cosvigle _ZN3Foo3barEv     prints Foo::bar
-  nm libfoo.so | cosvigle    prints names in place of symbols
-  cosvigle < trace.txt       prints a stack trace with names
+  cosvigle _ZN3Foo3barEi     prints Foo::bar(int)
+  nm libfoo.so | cosvigle    prints declarations in place of symbols
+  cosvigle < trace.txt       prints a stack trace with declarations
 ";
 
 /// The text that `--version` prints.

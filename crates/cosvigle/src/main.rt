@@ -1,5 +1,5 @@
-//! Replaces mangled C++ symbols in a text by their demangled names. If symbols are given as arguments, the program
-//! prints the name of each on a line, or the argument itself if it has no name. Otherwise the program copies standard
+//! Replaces mangled C++ symbols in a text by their declarations. If symbols are given as arguments, the program prints
+//! the declaration of each on a line, or the argument itself if it isn't read. Otherwise the program copies standard
 //! input to standard output.
 //!
 //! The exit status is 1 after a fault. The status is 2 if the options can't be read, and then nothing is written to
@@ -19,9 +19,11 @@ mod help;
 mod option_names;
 mod options;
 mod output;
-mod symbols;
 
 use arguments::{Printed, answer_of, set_line};
+use cosvigle_engine::{
+    DeclarationReader, FilterFault, Printing, ReplaceOptions, Tally, filter_with, replace,
+};
 use files::{file_name, has_no_nul, words_in};
 use help::{HELP, VERSION};
 use options::{EarlyExit, Flags, Request, printing_of, read_arguments};
@@ -31,8 +33,6 @@ use std::env::{Env, FillError};
 use std::io::{ErrorKind, Read, Stdout, Write};
 use std::process::ExitCode;
 use std::{fs, str};
-use symbols::{Demanglers, Printing};
-use text_filter::{FilterFault, ReplaceOptions, Tally, filter_with, replace};
 
 /// The exit status if the arguments can't be read, and nothing is done.
 const USAGE_ERROR: u8 = 2;
@@ -68,7 +68,7 @@ fn replacement(flags: Flags) -> ReplaceOptions<Printing>
 /// Returns what is printed for an argument. If `pass_through` is set, that is the argument itself.
 fn output_of<'a>(
     rt: &HostRuntime,
-    demanglers: &'a mut Demanglers,
+    symbols: &'a mut DeclarationReader,
     flags: Flags,
     argument: &'a [u8],
 ) -> Result<Printed<'a>, AllocError> {
@@ -78,21 +78,20 @@ fn output_of<'a>(
             text: argument,
         });
     }
-    answer_of(rt.alloc(), demanglers, replacement(flags), argument)
+    answer_of(rt.alloc(), symbols, replacement(flags), argument)
 }
 
-/// Prints for each symbol its name, its signature or its declaration, or the symbol itself if it has none. Each is on a
-/// line.
+/// Prints for each symbol its declaration, or the symbol itself if it isn't read. Each is on a line.
 fn print_symbols(
     rt: &HostRuntime,
     output: &mut Output<Stdout>,
     flags: Flags,
     symbols: &[&[u8]],
 ) -> Result<(), FilterFault> {
-    let mut demanglers = Demanglers::new(rt.alloc());
+    let mut reader = DeclarationReader::new(rt.alloc());
     let mut line = Vec::new(rt.alloc());
     for symbol in symbols {
-        let answer = output_of(rt, &mut demanglers, flags, symbol)?;
+        let answer = output_of(rt, &mut reader, flags, symbol)?;
         set_line(&mut line, answer)?;
         put(output, &line)?;
     }
@@ -114,7 +113,7 @@ fn copy_input(rt: &HostRuntime, output: &mut Output<Stdout>) -> Result<(), Filte
     Err(FilterFault::Read)
 }
 
-/// Copies standard input to standard output, and replaces symbols by names. If `pass_through` is set, nothing is
+/// Copies standard input to standard output, and replaces symbols by declarations. If `pass_through` is set, nothing is
 /// replaced.
 fn replace_input(
     rt: &HostRuntime,
@@ -127,11 +126,11 @@ fn replace_input(
     // Neither the source nor the sink has a buffer: the filter reads and writes whole chunks.
     let mut source = Tally::new(rt.stdin());
     let mut sink = Tally::new(output);
-    let mut demanglers = Demanglers::new(rt.alloc());
+    let mut reader = DeclarationReader::new(rt.alloc());
     if flags.lines {
         return filter_with(
             rt.alloc(),
-            &mut demanglers,
+            &mut reader,
             printing_of(flags),
             &mut source,
             &mut sink,
@@ -139,7 +138,7 @@ fn replace_input(
     }
     replace(
         rt.alloc(),
-        &mut demanglers,
+        &mut reader,
         replacement(flags),
         &mut source,
         &mut sink,
@@ -182,9 +181,9 @@ fn exit_early(
         EarlyExit::AmbiguousOption => refuse(rt, "more than one option begins with ", argument, ""),
         EarlyExit::UnexpectedValue => refuse(rt, "no value is taken: ", argument, ""),
         EarlyExit::MissingValue => refuse(rt, "a value is missing: ", argument, ""),
-        EarlyExit::TypesAlone => refuse(rt, "types alone aren't read: ", argument, ""),
         EarlyExit::UnknownFormat => refuse(rt, "no such format: ", argument, ""),
         EarlyExit::UnknownStyle => refuse(rt, "no such style: ", argument, ""),
+        EarlyExit::NoNumber => refuse(rt, "no number of bytes: ", argument, ""),
     };
     Ok(status)
 }
@@ -292,7 +291,8 @@ fn run(rt: &HostRuntime, output: &mut Output<Stdout>) -> Result<u8, FilterFault>
         return Ok(refuse(rt, "too many files stand as @FILE", b"", ""));
     };
     let arguments = slices_of(rt, &words)?;
-    let request = read_arguments(rt.alloc(), &arguments)?;
+    let program = argument_at(rt, 0)?.unwrap_or(Vec::new(rt.alloc()));
+    let request = read_arguments(rt.alloc(), &program, &arguments)?;
     execute(rt, output, &request)
 }
 

@@ -46,7 +46,6 @@ pub fn find_option(bytes: &[u8]) -> Found
     let found = match_name(Found::Nothing, bytes, b"strip-underscore", b'_');
     let found = match_name(found, bytes, b"no-strip-underscores", b'n');
     let found = match_name(found, bytes, b"no-params", b'p');
-    let found = match_name(found, bytes, b"params", b'P');
     let found = match_name(found, bytes, b"no-verbose", b'i');
     let found = match_name(found, bytes, b"no-recurse-limit", b'r');
     let found = match_name(found, bytes, b"no-recursion-limit", b'r');
@@ -62,8 +61,8 @@ pub fn find_option(bytes: &[u8]) -> Found
 /// The options that have a name and no letter.
 #[derive(Clone, Copy)]
 pub enum LongOption {
-    /// `--declarations`
-    Declarations,
+    /// `--max-memory`
+    MaxMemory,
     /// `--no-return`
     NoReturn,
     /// `--style`
@@ -74,8 +73,8 @@ pub enum LongOption {
 pub fn find_long_option(bytes: &[u8]) -> Option<LongOption>
     ensures value { result ≡ spec.find_long_option bytes.now }
 {
-    if b"declarations".starts_with(bytes) {
-        return Some(LongOption::Declarations);
+    if b"max-memory".starts_with(bytes) {
+        return Some(LongOption::MaxMemory);
     }
     if b"no-return".starts_with(bytes) {
         return Some(LongOption::NoReturn);

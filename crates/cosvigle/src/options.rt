@@ -4,51 +4,46 @@ ghost use Rattle.cosvigle.specs.Options as spec;
 ghost use Rattle.cosvigle.specs.Options.{reading, texts, AsksFor, IsRequest};
 
 use super::option_names::{Found, LongOption, find_long_option, find_option};
-use super::symbols::Printing;
-use cxx_demangle::{Mode, Style};
+use cosvigle_engine::{Mode, Printing, Style};
 use std::alloc::{AllocError, Global};
 
-/// What `-P` and `-p` say of the parameters of functions. The last of them counts.
-#[derive(Clone, Copy)]
-pub enum Params {
-    /// Nothing: neither of the two is given.
-    Unsaid,
-    /// They are printed.
-    Printed,
-    /// They are left out.
-    LeftOut,
-}
+/// The bytes of memory for each node that may be kept to read a symbol, with all that may be kept beside it.
+const NODE_MEMORY: usize = 256;
 
 /// The choices that options make.
 #[derive(Clone, Copy)]
 pub struct Flags {
-    /// Whether one more underscore may stand in front of a symbol.
+    /// Whether one more underscore stands in front of each symbol.
     pub strip: bool,
     /// Whether each line of standard input is a symbol, rather than a text with symbols in it.
     pub lines: bool,
     /// Whether no symbol is read, and all stays as it is.
     pub pass_through: bool,
-    /// Whether parameters are printed.
-    pub params: Params,
-    /// Whether symbols are read as declarations.
-    pub declarations: bool,
+    /// Whether what is no symbol is read as a type.
+    pub types: bool,
+    /// Whether names are printed, without parameters.
+    pub name: bool,
     /// Whether the return type of a declaration is left out.
     pub no_return: bool,
     /// The style of declarations.
     pub style: Style,
     /// Whether GNU's style has the abbreviations of `std` as they are.
     pub brief: bool,
+    /// The bytes of memory that may be taken to read a symbol, if a number is given.
+    pub memory: Option<usize>,
 }
 
 /// Returns how much of a declaration is printed.
 fn mode_of(flags: Flags) -> Mode
     ensures value { result ≡ spec.mode_of flags }
 {
-    match flags.params {
-        Params::LeftOut => Mode::Name,
-        _ if flags.no_return => Mode::Signature,
-        _ => Mode::Declaration,
+    if flags.name {
+        return Mode::Name;
     }
+    if flags.no_return {
+        return Mode::Signature;
+    }
+    Mode::Declaration
 }
 
 /// Returns the style in which declarations are printed.
@@ -61,20 +56,27 @@ fn style_of(flags: Flags) -> Style
     }
 }
 
-/// Returns what is printed for a symbol.
+/// Returns how many nodes may be kept to read a symbol in so many bytes of memory.
+fn limit_of(memory: Option<usize>) -> Option<usize>
+    ensures value { result ≡ spec.limit_of memory }
+{
+    match memory {
+        Some(bytes) => Some(bytes / NODE_MEMORY),
+        None => None,
+    }
+}
+
+/// Returns what is read, and what is printed of it.
 pub fn printing_of(flags: Flags) -> Printing
     ensures value { result ≡ spec.printing_of flags }
 {
-    if flags.declarations {
-        return Printing::Declarations(cxx_demangle::Printing {
+    Printing {
+        types: flags.types,
+        part: cosvigle_engine::Part {
             mode: mode_of(flags),
             style: style_of(flags),
-            limit: None,
-        });
-    }
-    match flags.params {
-        Params::Printed => Printing::Signatures,
-        _ => Printing::Names,
+            limit: limit_of(flags.memory),
+        },
     }
 }
 
@@ -93,12 +95,12 @@ pub enum EarlyExit {
     UnexpectedValue,
     /// Reports that an option has no value and takes one.
     MissingValue,
-    /// Reports that types alone aren't read.
-    TypesAlone,
     /// Reports that no format has this name.
     UnknownFormat,
     /// Reports that no style has this name.
     UnknownStyle,
+    /// Reports that this is no number of bytes.
+    NoNumber,
 }
 
 /// The options that take a value.
@@ -108,6 +110,8 @@ pub enum Valued {
     Format,
     /// The style of declarations.
     Style,
+    /// The bytes of memory that may be taken to read a symbol.
+    MaxMemory,
 }
 
 /// The state after the options that have been read.
@@ -170,6 +174,34 @@ fn after_style(flags: Flags, style: &[u8]) -> OptionState
     }
 }
 
+/// Returns the number that decimal digits stand for, at most the greatest one. Returns `None` if a byte is no digit.
+fn number_of(digits: &[u8]) -> Option<usize>
+    ensures value { result ≡ spec.number_of digits.now }
+{
+    let mut number = 0;
+    for at in 0..digits.len() {
+        if !digits[at].is_ascii_digit() {
+            return None;
+        }
+        let next = 10 * number as u128 + (digits[at] - b'0') as u128;
+        number = next.min(usize::MAX as u128) as usize;
+    }
+    Some(number)
+}
+
+/// Returns the state after the number of bytes that the digits stand for, which isn't 0.
+fn after_memory(flags: Flags, digits: &[u8]) -> OptionState
+    ensures value { result ≡ spec.after_memory flags digits.now }
+{
+    match number_of(digits) {
+        Some(number) if number > 0 => OptionState::Ready(Flags {
+            memory: Some(number),
+            ..flags
+        }),
+        _ => OptionState::Exit(EarlyExit::NoNumber),
+    }
+}
+
 /// Returns the state after the value of this option.
 fn after_value(flags: Flags, option: Valued, value: &[u8]) -> OptionState
     ensures value { result ≡ spec.after_value flags option value.now }
@@ -177,6 +209,7 @@ fn after_value(flags: Flags, option: Valued, value: &[u8]) -> OptionState
     match option {
         Valued::Format => after_format(flags, value),
         Valued::Style => after_style(flags, value),
+        Valued::MaxMemory => after_memory(flags, value),
     }
 }
 
@@ -198,11 +231,11 @@ fn after_letter(flags: Flags, letter: u8) -> OptionState
             ..flags
         }),
         b'p' => OptionState::Ready(Flags {
-            params: Params::LeftOut,
+            name: true,
             ..flags
         }),
-        b'P' => OptionState::Ready(Flags {
-            params: Params::Printed,
+        b't' => OptionState::Ready(Flags {
+            types: true,
             ..flags
         }),
         b'i' => OptionState::Ready(Flags {
@@ -211,7 +244,6 @@ fn after_letter(flags: Flags, letter: u8) -> OptionState
         }),
         b'r' | b'R' => OptionState::Ready(flags),
         b's' => OptionState::NeedsValue(flags, Valued::Format),
-        b't' => OptionState::Exit(EarlyExit::TypesAlone),
         b'h' => OptionState::Exit(EarlyExit::Help),
         b'v' => OptionState::Exit(EarlyExit::Version),
         _ => OptionState::Exit(EarlyExit::UnknownOption),
@@ -223,10 +255,7 @@ fn after_long_option(flags: Flags, option: LongOption) -> OptionState
     ensures value { result ≡ spec.after_long_option flags option }
 {
     match option {
-        LongOption::Declarations => OptionState::Ready(Flags {
-            declarations: true,
-            ..flags
-        }),
+        LongOption::MaxMemory => OptionState::NeedsValue(flags, Valued::MaxMemory),
         LongOption::NoReturn => OptionState::Ready(Flags {
             no_return: true,
             ..flags
@@ -336,20 +365,50 @@ fn request_at_end<'a>(state: OptionState, symbols: Vec<&'a [u8]>, last: &'a [u8]
     }
 }
 
-/// Returns what the arguments ask. Returns an error if an allocation fails.
-pub fn read_arguments<'a>(alloc: Global, arguments: &[&'a [u8]]) -> Result<Request<'a>, AllocError>
-    ensures request { IfOk result (IsRequest (texts arguments.now)) }
+/// Returns the part of a path after its last slash.
+fn base_name(path: &[u8]) -> &[u8]
+    ensures value { result.now ≡ spec.base_name path.now }
 {
-    let mut state = OptionState::Ready(Flags {
+    let mut from = 0;
+    for at in 0..path.len() {
+        if path[at] == b'/' {
+            from = at + 1;
+        }
+    }
+    &path[from..]
+}
+
+/// Returns the choices without an option. If the program is called as `llvm-cxxfilt` the style is LLVM's, and otherwise
+/// GNU's.
+fn flags_of(program: &[u8]) -> Flags
+    ensures value { result ≡ spec.flags_of program.now }
+{
+    let mut style = Style::Gnu;
+    if base_name(program).starts_with(b"llvm-cxxfilt") {
+        style = Style::Llvm;
+    }
+    Flags {
         strip: false,
         lines: false,
         pass_through: false,
-        params: Params::Unsaid,
-        declarations: false,
+        types: false,
+        name: false,
         no_return: false,
-        style: Style::Llvm,
+        style,
         brief: false,
-    });
+        memory: None,
+    }
+}
+
+/// Returns what the arguments of this program ask. Returns an error if an allocation fails.
+pub fn read_arguments<'a>(
+    alloc: Global,
+    program: &[u8],
+    arguments: &[&'a [u8]],
+) -> Result<Request<'a>, AllocError>
+    ensures request { IfOk result (IsRequest program.now (texts arguments.now)) }
+{
+    let mut state = OptionState::Ready(flags_of(program));
     let mut symbols = Vec::new(alloc);
     // The last argument that was an option or the value of one.
     let mut last: &'a [u8] = b"";

@@ -13,12 +13,16 @@ use Rattle.cxx_grammar.specs.Bases.{base_name, args_of, is_with_args, is_param, 
 use Rattle.cxx_grammar.specs.Binds.{bind_args, bind_closure, parse_closed, bind_encoding}
 use Rattle.cxx_grammar.specs.Locals.{past_digits, past_discriminator, local_as}
 use Rattle.cxx_grammar.specs.Ordinals.{more_of, without_zeros, ordinal_digits}
-use Rattle.cxx_grammar.specs.Unnamed.{parse_closure}
-use Rattle.cxx_grammar.specs.Leaves.{parse_call_offset, parse_temporary_id, parse_substitution, parse_template_param, parse_cv, parse_ref, parse_builtin, parse_bool, parse_null, parse_integer, parse_size, parse_abi_tags, parse_float_type}
+use Rattle.cxx_grammar.specs.Unnamed.{parse_closure, parse_lambda}
+use Rattle.cxx_grammar.specs.Leaves.{parse_call_offset, parse_temporary_id, parse_substitution, parse_template_param, parse_cv, parse_ref, parse_builtin, parse_bool, parse_null, parse_integer, parse_abi_tags, parse_float_type, parse_function_param, parse_float}
+use Rattle.cxx_grammar.specs.Floats.{are_hex, hex_three, significant_len, doubled_text, single_size, single_fraction, float_text, float_digits}
 use Rattle.cxx_grammar.specs.Args.{literal_as, arg_as}
 use Rattle.cxx_grammar.specs.Names.{base_as, parse_class_of, part_as, parse_unqualified_name, parse_named_args, parse_in_place, parse_info, parse_component, first_as, parse_next, parse_components, name_as}
 use Rattle.cxx_grammar.specs.Types.{exception_as, parse_function_mark, parse_dimension, type_as}
-use Rattle.cxx_grammar.specs.Rows.{parse_list, parse_params, t_special_of, g_special_of, type_row_of, tree_as, item_as, parse_items, make_as, parse_row, ends}
+use Rattle.cxx_grammar.specs.Rows.{parse_list, parse_params, t_special_of, g_special_of, type_row_of, parse_size, tree_as, item_as, parse_items, make_none, make_one, make_two, make_three, make_few, make_as, parse_row, ends}
+use Rattle.cxx_grammar.specs.Operators.{fold_row_of, expression_row_of, braced_row_of}
+use Rattle.cxx_grammar.specs.Unresolved.{unresolved_type_as, parse_args_if_any, operator_as, skip_on, base_name_as, parse_scope_list, unresolved_as, global_as}
+use Rattle.cxx_grammar.specs.Expressions.{parse_placement, parse_offset_end, parse_vendor_operands, expression_as}
 use Rattle.cxx_grammar.specs.Encodings.{parse_signature, encoding_as}
 use Rattle.cxx_grammar.specs.Symbol.{Reading, productions, parse_symbol, symbol_as, parse_block_mark}
 use Rattle.cxx_printer.specs.Words.{ending, short_std_text, long_std_text, std_text, cv_text, ref_text, mark, opened, member_opened, closed}
@@ -44,7 +48,10 @@ unfolding productions parse_unqualified_name parse_named_args parse_in_place par
     parse_function_mark parse_dimension parse_size parse_abi_tags parse_float_type parse_params bind_closure past_digits
     past_discriminator local_as more_of without_zeros ordinal_digits parse_closure is_param_class symbol_as parse_block_mark
     parse_signature encoding_as t_special_of g_special_of type_row_of tree_as item_as parse_items
-    make_as parse_row ends past_word_if repeat_at_most parse_call_offset parse_temporary_id parse_substitution
+    make_none make_one make_two make_three make_few make_as parse_row ends fold_row_of expression_row_of braced_row_of
+    unresolved_type_as parse_args_if_any operator_as skip_on base_name_as parse_scope_list unresolved_as global_as
+    parse_placement parse_offset_end parse_vendor_operands expression_as parse_lambda parse_function_param parse_float
+    are_hex hex_three significant_len doubled_text single_size single_fraction float_text float_digits past_word_if repeat_at_most parse_call_offset parse_temporary_id parse_substitution
     parse_template_param parse_cv
     parse_ref parse_builtin parse_bool parse_null parse_integer builtin_of d_builtin_of integer_of std_of operator_of
     base_name args_of is_with_args is_param expand bind_args parse_closed bind_encoding bind as_pack measure count
@@ -71,4 +78,7 @@ worked_symbols = record {
   conversion = some_by _ (codes "_ZN1AcvPT_IiEEv") (codes "A::operator int*<int>()") refl (omega arith) refl;
   array = some_by _ (codes "_Z1fRA2_A3_i") (codes "f(int (&) [2][3])") refl (omega arith) refl;
   function_type = some_by _ (codes "_Z1fPFPFivEcE") (codes "f(int (* (*)(char))())") refl (omega arith) refl;
+  expression = some_by _ (codes "_Z1fIiEDTplfp_Li1EET_") (codes "decltype(fp + 1) f<int>(int)") refl (omega arith) refl;
+  scope = some_by _ (codes "_Z1fI1BEDTsr1AIT_EE1xES1_") (codes "decltype(A<B>::x) f<B>(B)") refl (omega arith) refl;
+  fold = some_by _ (codes "_Z1fIJicEEDTfrplfp_EDpT_") (codes "decltype(((fp...) + ...)) f<int, char>(int, char)") refl (omega arith) refl;
 }

@@ -1,7 +1,6 @@
 -- What a demangler keeps between calls.
 use Rattle.std.specs.Prelude.{◌≡◌, ℕ, List, Bool, true, false, Option, Some, None, option_map, IfSome, Result, Ok, Err}
 use Rattle.std.specs.Str.{IsUtf8}
-use Rattle.std.specs.declared.alloc.AllocError.{AllocError}
 use Rattle.cxx_tree.specs.Tree.{Tree}
 use Rattle.cxx_tree.specs.Stored.{Store}
 use Rattle.cxx_reader.specs.declared.symbols.Reading as code
@@ -46,7 +45,7 @@ abbrev pub KeepsAnswer : Inside → Type 0
 KeepsAnswer d = IsOptionUtf8 (answer_of d.is_answered d.text) × IfSome d.reading (IsReading d.arena)
 
 -- what was read; or nothing was
-abbrev pub GivesWhole : Result (Option code.Reading) AllocError → Store → Option Reading → Type 0
+abbrev pub GivesWhole : {E : Type 0} → Result (Option code.Reading) E → Store → Option Reading → Type 0
 GivesWhole (Ok (Some r)) after read = IsReading after r × (read ≡ Some (reading_at after r))
 GivesWhole (Ok None) after read = read ≡ None
 GivesWhole (Err e) after read = Unit {0}

@@ -43,3 +43,10 @@ pub record WorkedSymbols : Type 0 where
   pub array : IsAnswer whole (codes "_Z1fRA2_A3_i") (Some (codes "f(int (&) [2][3])"))
   -- types of functions
   pub function_type : IsAnswer whole (codes "_Z1fPFPFivEcE") (Some (codes "f(int (* (*)(char))())"))
+  -- an expression
+  pub expression : IsAnswer whole (codes "_Z1fIiEDTplfp_Li1EET_") (Some (codes "decltype(fp + 1) f<int>(int)"))
+  -- a name that isn't resolved
+  pub scope : IsAnswer whole (codes "_Z1fI1BEDTsr1AIT_EE1xES1_") (Some (codes "decltype(A<B>::x) f<B>(B)"))
+  -- a fold
+  pub fold : IsAnswer whole (codes "_Z1fIJicEEDTfrplfp_EDpT_")
+      (Some (codes "decltype(((fp...) + ...)) f<int, char>(int, char)"))

@@ -1,7 +1,7 @@
 //! `Demangler`, which demangles symbol after symbol.
 #![tactic(auto, using(crate::proofs::Whole::answers), unfolding(cxx_tree::specs::Stored::stands, cxx_reader::specs::Outcome::reading_at))]
 
-ghost use Rattle.std.specs.Prelude.{◌≡◌, ◌≤◌, length, min, IfOk, OnOk, OnErr, MatchResult, ⊤, option_map, is_some, true, false, Ok, Err, None};
+ghost use Rattle.std.specs.Prelude.{◌≡◌, ◌≢◌, ◌≤◌, length, min, IfOk, OnOk, OnErr, MatchResult, IsErrOf, ⊤, option_map, is_some, true, false, Ok, Err, None};
 ghost use Rattle.std.specs.Borrow.{sem};
 ghost use Rattle.std.specs.Str.{IsUtf8};
 ghost use Rattle.cxx_grammar.specs.Cases.{case_of_prefix};
@@ -9,6 +9,7 @@ ghost use Rattle.cxx_grammar.specs.declared.cases.PrefixCase.TheVariants as pref
 ghost use Rattle.cxx_reader.specs.Outcome.{state, Keeps, GivesReading, IsReading, reading_at};
 ghost use Rattle.cxx_tree.specs.declared.arena.Stop.TheVariants.{Unreadable};
 ghost use Rattle.cxx_demangle.specs.declared.demangler.Entry.TheVariants as entries;
+ghost use Rattle.cxx_demangle.specs.declared.demangler.DemangleError.TheVariants as errors;
 ghost use Rattle.cxx_tree.specs.Stored.{IsWithin};
 ghost use Rattle.cxx_demangle.specs.Answer as spec;
 ghost use Rattle.cxx_demangle.specs.Answer.{IsAnswer, IsAnswerOf, IsTypeAnswer, HasAtMostOneReading, HasBounds, IsText, text_of};
@@ -52,6 +53,25 @@ pub struct Printing {
     /// The most nodes, items of their lists, parts of their phrases, bytes of their texts, and substitution candidates,
     /// each, at most 4,294,967,295. `None` is 16 for each byte of the symbol and 4,194,304.
     pub limit: Option<usize>,
+}
+
+/// Why nothing is said of a symbol.
+#[derive(Clone, Copy, Debug, PartialEq)]
+pub enum DemangleError {
+    /// An allocation failed.
+    Memory,
+    /// The symbol needs more than the limit that the caller set.
+    Limit,
+}
+
+impl From<AllocError> for DemangleError {
+    ghost use Rattle.cxx_demangle.specs.declared.demangler.DemangleError.TheVariants.{Memory};
+
+    ghost from_gives = { λ _ e. e ≡ Memory };
+
+    fn from(_error: AllocError) -> Self {
+        DemangleError::Memory
+    }
 }
 
 /// Demangles symbol after symbol in the same memory, and keeps the last answer, and the tree that the last symbol was
@@ -115,22 +135,34 @@ fn read_entry(reader: &mut Reader, entry: Entry) -> Result<Reading, Stop>
     }
 }
 
-// Reads a text, and keeps at most `limit` of each kind. Returns `None` if there is no reading
-// within the limits of the grammar.
+// Returns the error if a symbol wasn't read to its end: the limit, if it was reached and the caller set it.
+fn error_of(is_over: bool, limit: Option<usize>) -> DemangleError
+    ensures limit { result ≡ errors.Limit → limit ≢ None }
+{
+    match limit {
+        Some(_) if is_over => DemangleError::Limit,
+        _ => DemangleError::Memory,
+    }
+}
+
+// Reads a text, and keeps at most `limit` of each kind, or the default. Returns `None` if there is no reading within
+// the limits of the grammar.
 fn read(
     arena: &mut Arena,
     alloc: Global,
     text: &[u8],
     entry: Entry,
-    limit: usize,
-) -> Result<Option<Reading>, AllocError>
+    limit: Option<usize>,
+) -> Result<Option<Reading>, DemangleError>
     ensures gives { GivesWhole result arena.new (spec.parse_entry entry text.now) }
     ensures no_prefix { entry ≡ entries.Symbol → case_of_prefix text.now ≡ prefix.None → result ≡ Ok None }
-    ensures within { IsWithin limit arena.new }
+    ensures limit { IsErrOf result errors.Limit → limit ≢ None }
+    ensures within { IsWithin (spec.limit_of limit (length text.now)) arena.new }
 {
+    let most = limit_of(limit, text.len());
     // The reader owns the arena while it reads.
     let mut cleared = replace(arena, Arena::new(alloc));
-    cleared.clear(limit);
+    cleared.clear(most);
     let mut reader = Reader {
         rest: text,
         arena: cleared,
@@ -146,12 +178,13 @@ fn read(
         Ok(reading) => Ok(Some(reading)),
         // What wasn't read to its end leaves nothing.
         Err(Stop::Unreadable) => {
-            arena.clear(limit);
+            arena.clear(most);
             Ok(None)
         }
         Err(Stop::Memory) => {
-            arena.clear(limit);
-            Err(AllocError)
+            let is_over = arena.is_over();
+            arena.clear(most);
+            Err(error_of(is_over, limit))
         }
     }
 }
@@ -213,19 +246,20 @@ impl Demangler {
     ///
     /// What is kept to read the symbol is within the limit of `printing`, whether it has an answer or not.
     ///
-    /// Returns an error if an allocation fails, or if the symbol needs more than that limit. Then the value has no
-    /// answer, and it can be used again.
+    /// Returns an error if an allocation fails, or if the symbol needs more than that limit: `Limit`, if the caller set
+    /// it. Then the value has no answer, and it can be used again.
     pub fn prepare(
         &mut self,
         alloc: Global,
         symbol: &str,
         printing: Printing,
-    ) -> Result<bool, AllocError>
+    ) -> Result<bool, DemangleError>
         ensures answer { IfOk result (λ _. IsAnswer printing symbol.now self.new.text) }
         ensures found { IfOk result (λ found. found ≡ is_some self.new.text) }
         ensures one { HasAtMostOneReading symbol.now }
         ensures no_prefix { case_of_prefix symbol.now ≡ prefix.None → (result ≡ Ok false) × (self.new.text ≡ None) }
         ensures err { OnErr result ((self.new.text ≡ None) × (self.new.kept ≡ None)) }
+        ensures limit { IsErrOf result errors.Limit → printing.limit ≢ None }
         ensures reads { IfOk result (λ _. parse_symbol symbol.now ≡ last_reading self.new) }
         ensures bounds { HasBounds printing symbol.now self.new.store }
     {
@@ -239,10 +273,11 @@ impl Demangler {
         alloc: Global,
         text: &str,
         printing: Printing,
-    ) -> Result<bool, AllocError>
+    ) -> Result<bool, DemangleError>
         ensures answer { IfOk result (λ _. IsTypeAnswer printing text.now self.new.text) }
         ensures found { IfOk result (λ found. found ≡ is_some self.new.text) }
         ensures err { OnErr result ((self.new.text ≡ None) × (self.new.kept ≡ None)) }
+        ensures limit { IsErrOf result errors.Limit → printing.limit ≢ None }
         ensures reads { IfOk result (λ _. spec.parse_entry entries.Type text.now ≡ last_reading self.new) }
         ensures bounds { HasBounds printing text.now self.new.store }
     {
@@ -256,19 +291,26 @@ impl Demangler {
         text: &str,
         entry: Entry,
         printing: Printing,
-    ) -> Result<bool, AllocError>
+    ) -> Result<bool, DemangleError>
         ensures answer { IfOk result (λ _. IsAnswerOf printing (spec.parse_entry entry text.now) self.new.text) }
         ensures found { IfOk result (λ found. found ≡ is_some self.new.text) }
         ensures no_prefix { entry ≡ entries.Symbol → case_of_prefix text.now ≡ prefix.None
             → (result ≡ Ok false) × (self.new.text ≡ None) }
         ensures err { OnErr result ((self.new.text ≡ None) × (self.new.kept ≡ None)) }
+        ensures limit { IsErrOf result errors.Limit → printing.limit ≢ None }
         ensures reads { IfOk result (λ _. spec.parse_entry entry text.now ≡ last_reading self.new) }
         ensures bounds { HasBounds printing text.now self.new.store }
     {
         self.is_answered = false;
         self.reading = None;
-        let limit = limit_of(printing.limit, text.len());
-        let Some(reading) = read(&mut self.arena, alloc, text.as_bytes(), entry, limit)? else {
+        let found = read(
+            &mut self.arena,
+            alloc,
+            text.as_bytes(),
+            entry,
+            printing.limit,
+        )?;
+        let Some(reading) = found else {
             return Ok(false);
         };
         print(&self.arena, reading, printing, &mut self.text)?;
@@ -290,17 +332,17 @@ impl Demangler {
     }
 
     /// Returns what is printed of a symbol, borrowed until the next call, or `None` if it has no answer, as `prepare`
-    /// says. The value keeps the answer for `text`. Returns an error if an allocation fails; then the value keeps
-    /// nothing.
+    /// says. The value keeps the answer for `text`. Returns an error as `prepare` does; then the value keeps nothing.
     pub fn demangle<'a>(
         &'a mut self,
         alloc: Global,
         symbol: &'a str,
         printing: Printing,
-    ) -> Result<Option<&'a str>, AllocError>
+    ) -> Result<Option<&'a str>, DemangleError>
         ensures answer { IfOk result (λ found. IsAnswer printing symbol.now (option_map (λ text. text.now) found)) }
         ensures one { HasAtMostOneReading symbol.now }
         ensures no_prefix { case_of_prefix symbol.now ≡ prefix.None → result ≡ Ok None }
+        ensures limit { IsErrOf result errors.Limit → printing.limit ≢ None }
         // `last` is the value after the borrow. It keeps the text that was returned, and none after an error.
         ensures* kept { sem 𝓛 (follows_so the_row the_row self.entry.ghost_name none (λ _ _. ⊤)
             (λ last. MatchResult result
@@ -320,8 +362,9 @@ impl Demangler {
         alloc: Global,
         text: &'a str,
         printing: Printing,
-    ) -> Result<Option<&'a str>, AllocError>
+    ) -> Result<Option<&'a str>, DemangleError>
         ensures answer { IfOk result (λ found. IsTypeAnswer printing text.now (option_map (λ text. text.now) found)) }
+        ensures limit { IsErrOf result errors.Limit → printing.limit ≢ None }
         // `last` is the value after the borrow. It keeps the text that was returned, and none after an error.
         ensures* kept { sem 𝓛 (follows_so the_row the_row self.entry.ghost_name none (λ _ _. ⊤)
             (λ last. MatchResult result

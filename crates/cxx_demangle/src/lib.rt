@@ -8,6 +8,6 @@
 mod demangler;
 pub mod laws;
 
-pub use crate::demangler::{Demangler, MAX_DEPTH, MAX_TEXT, Printing};
+pub use crate::demangler::{DemangleError, Demangler, MAX_DEPTH, MAX_TEXT, Printing};
 pub use cxx_printer::{Kind, Mode, Style};
 pub use growing_text::Text;

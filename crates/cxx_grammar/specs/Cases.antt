@@ -25,6 +25,15 @@ use Rattle.cxx_grammar.specs.declared.cases.ArgCase.{ArgCase}
 use Rattle.cxx_grammar.specs.declared.cases.ArgCase.TheVariants as arg
 use Rattle.cxx_grammar.specs.declared.cases.LiteralCase.{LiteralCase}
 use Rattle.cxx_grammar.specs.declared.cases.LiteralCase.TheVariants as literal
+use Rattle.cxx_grammar.specs.declared.cases.FloatFormat.TheVariants as float
+use Rattle.cxx_grammar.specs.declared.cases.ExpressionCase.{ExpressionCase}
+use Rattle.cxx_grammar.specs.declared.cases.ExpressionCase.TheVariants as expression
+use Rattle.cxx_grammar.specs.declared.cases.UnresolvedCase.{UnresolvedCase}
+use Rattle.cxx_grammar.specs.declared.cases.UnresolvedCase.TheVariants as unresolved
+use Rattle.cxx_grammar.specs.declared.cases.UnresolvedTypeCase.{UnresolvedTypeCase}
+use Rattle.cxx_grammar.specs.declared.cases.UnresolvedTypeCase.TheVariants as unresolved_type
+use Rattle.cxx_grammar.specs.declared.cases.BaseNameCase.{BaseNameCase}
+use Rattle.cxx_grammar.specs.declared.cases.BaseNameCase.TheVariants as base_name
 
 -- the case of the first row that fits, or else the other one
 abbrev pub case_in : {C : Type 0} → List (String × C) → C → List ℕ → C
@@ -81,7 +90,9 @@ abbrev pub firsts : List (String × FirstCase)
 firsts =
     ("St", first.Std) ∷
     ("S", first.Substitution) ∷
-    ("T", first.Param) ∷ []
+    ("T", first.Param) ∷
+    ("Dt", first.Decltype) ∷
+    ("DT", first.Decltype) ∷ []
 
 abbrev pub case_of_first : List ℕ → FirstCase
 case_of_first bytes = case_in firsts first.Unqualified bytes
@@ -113,6 +124,7 @@ abbrev pub functions : List (String × Bool)
 functions =
     ("F", true) ∷
     ("Do", true) ∷
+    ("DO", true) ∷
     ("Dw", true) ∷
     ("Dx", true) ∷ []
 
@@ -129,6 +141,8 @@ types =
     ("K", type_case.Qualified) ∷
     ("U", type_case.Qualified) ∷
     ("u", type_case.Vendor) ∷
+    ("Dt", type_case.SavedRow) ∷
+    ("DT", type_case.SavedRow) ∷
     ("Dv", type_case.Vector) ∷
     ("Dp", type_case.Expansion) ∷
     ("DF", type_case.Float) ∷
@@ -157,6 +171,7 @@ case_of_type bytes =
 abbrev pub exceptions : List (String × ExceptionCase)
 exceptions =
     ("Do", exception.Noexcept) ∷
+    ("DO", exception.Computed) ∷
     ("Dw", exception.Throw) ∷ []
 
 abbrev pub case_of_exception : List ℕ → ExceptionCase
@@ -164,8 +179,9 @@ case_of_exception bytes = case_in exceptions exception.None bytes
 
 abbrev pub args : List (String × ArgCase)
 args =
+    ("X", arg.Expression) ∷
     ("J", arg.Pack) ∷
-    ("LZ", arg.Unread) ∷
+    ("LZ", arg.Encoding) ∷
     ("L", arg.Literal) ∷ []
 
 abbrev pub case_of_arg : List ℕ → ArgCase
@@ -175,14 +191,68 @@ case_of_arg bytes = case_in args arg.Type bytes
 abbrev pub literals : List (String × LiteralCase)
 literals =
     ("b", literal.Bool) ∷
-    ("f", literal.Unread) ∷
-    ("d", literal.Unread) ∷
-    ("e", literal.Unread) ∷
+    ("f", literal.Float float.Single) ∷
+    ("d", literal.Float float.Double) ∷
+    ("e", literal.Float float.Extended) ∷
+    ("_Z", literal.Encoding) ∷
     ("_", literal.Unread) ∷
-    ("A", literal.Unread) ∷
+    ("A", literal.String) ∷
     ("Dn", literal.Null) ∷
     ("T", literal.Unread) ∷
+    ("Ul", literal.Lambda) ∷
     ("U", literal.Unread) ∷ []
 
 abbrev pub case_of_literal : List ℕ → LiteralCase
 case_of_literal bytes = if is_some (integer_of bytes) then literal.Integer else case_in literals literal.Typed bytes
+
+-- an expression that is no row
+abbrev pub expressions : List (String × ExpressionCase)
+expressions =
+    ("nw", expression.New false false) ∷
+    ("na", expression.New false true) ∷
+    ("gsnw", expression.New true false) ∷
+    ("gsna", expression.New true true) ∷
+    ("gssr", expression.GlobalName) ∷
+    ("gson", expression.GlobalName) ∷
+    ("gsdn", expression.GlobalName) ∷
+    ("L", expression.Literal) ∷
+    ("T", expression.Param) ∷
+    ("fp", expression.FunctionParam) ∷
+    ("fL", expression.FunctionParam) ∷
+    ("so", expression.Subobject) ∷
+    ("u", expression.Vendor) ∷
+    ("aw", expression.Unread) ∷ []
+
+abbrev pub case_of_expression : List ℕ → ExpressionCase
+case_of_expression bytes =
+    if begins (codes "gs") bytes && begins_digit (drop 2 bytes) then expression.GlobalName else
+    case_in expressions expression.Name bytes
+
+-- after the `gs`
+abbrev pub unresolveds : List (String × UnresolvedCase)
+unresolveds =
+    ("srSt", unresolved.Type) ∷
+    ("srNSt", unresolved.Type) ∷
+    ("srN", unresolved.Nested) ∷
+    ("sr", unresolved.Unresolved) ∷ []
+
+abbrev pub case_of_unresolved : List ℕ → UnresolvedCase
+case_of_unresolved bytes =
+    if begins (codes "sr") bytes && begins_digit (drop 2 bytes) then unresolved.Simple else
+    if begins (codes "srN") bytes && begins_digit (drop 3 bytes) then unresolved.Type else
+    case_in unresolveds unresolved.Base bytes
+
+abbrev pub unresolved_types : List (String × UnresolvedTypeCase)
+unresolved_types =
+    ("T", unresolved_type.Param) ∷
+    ("Dt", unresolved_type.Decltype) ∷
+    ("DT", unresolved_type.Decltype) ∷
+    ("S", unresolved_type.Substitution) ∷ []
+
+abbrev pub case_of_unresolved_type : List ℕ → UnresolvedTypeCase
+case_of_unresolved_type bytes = case_in unresolved_types unresolved_type.Unread bytes
+
+abbrev pub case_of_base_name : List ℕ → BaseNameCase
+case_of_base_name bytes =
+    if begins_digit bytes then base_name.Simple else
+    if begins (codes "dn") bytes then base_name.Destructor else base_name.Operator

@@ -7,7 +7,7 @@ use Rattle.cxx_grammar.specs.declared.cases.EncodingCase.{EncodingCase}
 use Rattle.cxx_grammar.specs.declared.cases.EncodingCase.TheVariants as encoding
 use Rattle.cxx_grammar.specs.declared.rows.End.TheVariants as end
 use Rattle.cxx_grammar.specs.State.{Info, LearnedName}
-use Rattle.cxx_grammar.specs.Parses.{Parses, ◌>>=◌, ◌>>◌, ◌<$>◌, pure, some, by, if_bytes, make, at_level}
+use Rattle.cxx_grammar.specs.Parses.{Parses, ◌>>=◌, ◌<$>◌, pure, some, by, if_bytes, make, at_level}
 use Rattle.cxx_grammar.specs.Cases.{case_of_encoding, is_encoding_end}
 use Rattle.cxx_grammar.specs.Binds.{has_args, bind_encoding, parse_closed}
 use Rattle.cxx_grammar.specs.Productions.{Productions}

@@ -1,6 +1,6 @@
 -- Productions without counted productions inside: source names, numbers, substitutions, parameters, builtin types.
 use Prim.Native.String.{String}
-use Rattle.std.specs.Prelude.{ℕ, List, [], ◌∷◌, ◌++◌, Bool, false, not, codes, slice_get, Option, Some, None, if◌then◌else◌}
+use Rattle.std.specs.Prelude.{ℕ, List, [], ◌∷◌, ◌++◌, nat_le, Bool, false, not, codes, length, take, slice_get, Option, Some, None, if◌then◌else◌}
 use Rattle.cxx_tree.specs.declared.kinds.Cv.{Cv}
 use Rattle.cxx_tree.specs.declared.kinds.Prec.TheVariants.{Primary}
 use Rattle.cxx_tree.specs.declared.kinds.RefQual.{RefQual}
@@ -14,7 +14,10 @@ use Rattle.abi_scalars.specs.Scalars.{index_of, source_text}
 use Rattle.abi_scalars.specs.Texts.{digits, identifier, number_text}
 use Rattle.abi_scalars.specs.declared.numerals.Radix.TheVariants.{Decimal, Base36}
 use Rattle.cxx_grammar.specs.Words.{std_of, builtin_of, d_builtin_of, integer_of, operator_of}
-use Rattle.cxx_grammar.specs.Parses.{Parses, ◌>>=◌, ◌>>◌, pure, check, given, look, past, expect, optional, of_bytes, parse_code, if_next, repeat, make, saved}
+use Rattle.cxx_grammar.specs.declared.cases.FloatFormat.{FloatFormat}
+use Rattle.cxx_grammar.specs.Floats.{float_len, are_hex, float_text, float_digits}
+use Rattle.cxx_grammar.specs.Ordinals.{ordinal_of}
+use Rattle.cxx_grammar.specs.Parses.{Parses, ◌>>=◌, ◌>>◌, pure, refused, check, given, look, past, expect, optional, of_bytes, parse_code, if_next, repeat, make, saved}
 
 abbrev pub make_name : List ℕ → Parses Tree
 make_name text = make (named text)
@@ -46,13 +49,6 @@ parse_some_digits = do
   bytes ← look
   check (begins_digit bytes)
   parse_digits
-
--- <number> _: the size of an array, of a vector or of an integer
-unfoldable pub parse_size : Parses Tree
-parse_size = do
-  number ← parse_some_digits
-  expect "_"
-  make_name number
 
 -- Names.
 
@@ -216,6 +212,48 @@ parse_float_type = do
   past 2
   if_next "16b" (do past 3; make_word "std::bfloat16_t") parse_numbered_float
 
+-- Function parameters.
+
+abbrev pub make_param : List ℕ → Parses Tree
+make_param number = make (word (codes "fp" ++ number) (codes "{parm#" ++ (ordinal_of number ++ codes "}")))
+
+-- [<CV-qualifiers>] [<number>] _
+abbrev pub parse_param_number : Parses Tree
+parse_param_number = do
+  parse_cv
+  number ← parse_digits
+  expect "_"
+  make_param number
+
+-- <number> p [<CV-qualifiers>] [<number>] _
+abbrev pub parse_outer_number : Parses Tree
+parse_outer_number = do
+  parse_some_digits
+  expect "p"
+  parse_param_number
+
+abbrev pub parse_outer_param : Parses Tree
+parse_outer_param = do
+  past 2
+  parse_outer_number
+
+abbrev pub parse_inner_param : Parses Tree
+parse_inner_param = do
+  past 2
+  parse_param_number
+
+abbrev pub parse_this : Parses Tree
+parse_this = do
+  past 3
+  make_word "this"
+
+-- <function-param> ::= fpT
+--                  ::= fp [<CV-qualifiers>] [<number>] _
+--                  ::= fL <number> p [<CV-qualifiers>] [<number>] _
+unfoldable pub parse_function_param : Parses Tree
+parse_function_param =
+    if_next "fpT" parse_this (if_next "fp" parse_inner_param (if_next "fL" parse_outer_param refused))
+
 -- Literals without a type inside.
 
 -- <number> E: what is printed of the number
@@ -250,3 +288,20 @@ parse_integer = do
   texts ← parse_code 1 integer_of
   number ← parse_number_end
   make_literal (texts.front ++ (number ++ texts.behind))
+
+-- digits that are as many as the format has
+abbrev pub parse_float_digits : FloatFormat → Parses (List ℕ)
+parse_float_digits format = do
+  bytes ← look
+  check (nat_le (float_len format) (length bytes))
+  past (float_len format)
+  pure (take (float_len format) bytes)
+
+-- the letter of a floating type, digits, E
+unfoldable pub parse_float : FloatFormat → Parses Tree
+parse_float format = do
+  past 1
+  digits ← parse_float_digits format
+  check (are_hex digits)
+  expect "E"
+  make (literal (float_text format digits) (float_digits format digits))

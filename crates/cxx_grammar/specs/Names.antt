@@ -1,5 +1,5 @@
 -- Names (Itanium C++ ABI 5.1.2 and 5.1.3).
-use Rattle.std.specs.Prelude.{◌||◌, Bool, true, false, not, codes, Option, Some, None, if◌then◌else◌}
+use Rattle.std.specs.Prelude.{◌||◌, Bool, true, false, not, codes, Option, Some, None}
 use Rattle.cxx_tree.specs.Tree.{Tree, scoped}
 use Rattle.cxx_tree.specs.declared.kinds.Prec.TheVariants.{Primary}
 use Rattle.cxx_tree.specs.Phrases.{ctor_dtor, prefixed}
@@ -18,6 +18,7 @@ use Rattle.cxx_grammar.specs.Bases.{base_name, args_of, is_with_args, is_param_c
 use Rattle.cxx_grammar.specs.Leaves.{make_word, parse_source_name, parse_prefixed, parse_operator, parse_abi_tags}
 use Rattle.cxx_grammar.specs.Leaves.{parse_substitution, parse_template_param, parse_cv, parse_ref}
 use Rattle.cxx_grammar.specs.Productions.{Productions}
+use Rattle.cxx_grammar.specs.Rows.{decltype_row, parse_row}
 use Rattle.cxx_grammar.specs.Args.{parse_with_args}
 use Rattle.cxx_grammar.specs.Unnamed.{parse_unnamed, parse_block, parse_closure}
 use Rattle.cxx_grammar.specs.Locals.{parse_local_name}
@@ -212,10 +213,14 @@ first_substitution p info = do
 abbrev pub first_param : Info → Parses LearnedName
 first_param info = with_info info <$> parse_template_param
 
+abbrev pub first_decltype : Productions → Info → Parses LearnedName
+first_decltype p info = with_info info <$> parse_row p decltype_row
+
 unfoldable pub first_as : Productions → Info → FirstCase → Parses LearnedName
 first_as p info first.Std = first_std p info
 first_as p info first.Substitution = first_substitution p info
 first_as p info first.Param = first_param info
+first_as p info first.Decltype = first_decltype p info
 first_as p info first.Unqualified = parse_unqualified_name p (nested_first info)
 
 abbrev pub parse_first : Productions → Info → Parses LearnedName
@@ -243,6 +248,7 @@ parse_components p n = do
 --          ::= <prefix> <unqualified-name>
 --          ::= <template-prefix> <template-args>
 --          ::= <template-param>
+--          ::= <decltype>
 --          ::= <substitution>
 --          ::= <prefix> M
 abbrev pub parse_nested_name : Productions → Parses LearnedName

@@ -1,5 +1,5 @@
 -- The counted productions: each cycle of the grammar goes through one of them, and at most so many may nest.
-use Rattle.std.specs.Prelude.{ℕ, Bool}
+use Rattle.std.specs.Prelude.{Bool}
 use Rattle.cxx_tree.specs.Tree.{Tree}
 use Rattle.cxx_grammar.specs.State.{LearnedName}
 use Rattle.cxx_grammar.specs.Parses.{Parses, ◌<$>◌, refused}
@@ -18,6 +18,10 @@ pub record Productions : Type 0 where
   pub qualified_type : Bool → Parses Tree
   -- <template-arg>
   pub arg : Parses Tree
+  -- <expression>
+  pub expression : Parses Tree
+  -- <braced-expression>
+  pub braced : Parses Tree
 
 -- a name of which nothing else matters
 abbrev pub name_tree : Productions → Parses Tree
@@ -31,4 +35,6 @@ no_productions = record {
   type = λ is_bare. refused;
   qualified_type = λ is_bare. refused;
   arg = refused;
+  expression = refused;
+  braced = refused;
 }

@@ -1,21 +1,23 @@
 -- Productions that are a row of items, of which a tree is made. Such a production is a row of a table.
 use Prim.Native.String.{String}
-use Rattle.std.specs.Prelude.{ℕ, List, [], ◌∷◌, Bool, false, codes, drop, Option, None, if◌then◌else◌}
-use Rattle.cxx_tree.specs.declared.kinds.Prec.TheVariants.{Primary}
-use Rattle.cxx_tree.specs.Tree.{Tree, Trees}
+use Rattle.std.specs.Prelude.{ℕ, List, [], ◌∷◌, Bool, true, false, codes, drop, Option, Some, None, if◌then◌else◌}
+use Rattle.cxx_tree.specs.declared.kinds.Prec.{Prec}
+use Rattle.cxx_tree.specs.declared.kinds.Prec.TheVariants.{Primary, Unary}
+use Rattle.cxx_tree.specs.Tree.{Tree, Trees, expansion, listed}
 use Rattle.cxx_tree.specs.Stored.{trees_from_list}
-use Rattle.cxx_tree.specs.Phrases.{ctor_vtable, enclosing, prefixed}
-use Rattle.abi_scalars.specs.Bytes.{begins}
+use Rattle.cxx_tree.specs.Phrases.{binary, call, conditional, conversion, count, ctor_vtable, designated, designated_range, enclosing, fold, init_list, member, named_cast, postfix_op, prefix_op, prefixed, subscript}
+use Rattle.abi_scalars.specs.Bytes.{begins, begins_digit}
+use Rattle.abi_scalars.specs.Texts.{optional_number_text}
 use Rattle.cxx_grammar.specs.declared.rows.End.{End}
 use Rattle.cxx_grammar.specs.declared.rows.End.TheVariants as end
 use Rattle.cxx_grammar.specs.declared.rows.Item.{Item}
 use Rattle.cxx_grammar.specs.declared.rows.Item.TheVariants as item
 use Rattle.cxx_grammar.specs.declared.rows.Maker.{Maker}
 use Rattle.cxx_grammar.specs.declared.rows.Maker.TheVariants as maker
-use Rattle.cxx_grammar.specs.Parses.{Parses, ◌>>=◌, ◌>>◌, pure, refused, given, look, past, expect, optional, if_next, item_more, items_after, is_e, make}
+use Rattle.cxx_grammar.specs.Parses.{Parses, ◌>>=◌, ◌>>◌, pure, refused, given, look, past, expect, optional, of_bytes, if_bytes, if_next, item_more, items_after, is_e, make}
 use Rattle.cxx_grammar.specs.Cases.{is_encoding_end, is_function_end}
 use Rattle.cxx_grammar.specs.Words.{row}
-use Rattle.cxx_grammar.specs.Leaves.{parse_size, parse_offset, parse_call_offset, parse_temporary_id}
+use Rattle.cxx_grammar.specs.Leaves.{make_name, parse_digits, parse_source_name, parse_template_param, parse_function_param, parse_offset, parse_call_offset, parse_temporary_id}
 use Rattle.cxx_grammar.specs.Productions.{Productions, name_tree}
 
 -- a text in LLVM's style, and in GNU's
@@ -44,6 +46,14 @@ behind_words skip items llvm gnu = record {
 abbrev pub behind : String → List Item → Row
 behind words items = behind_words 2 items words words
 
+-- another tree behind a code of two letters, with the same words in both styles
+abbrev pub coded : Maker → List ℕ → List Item → Row
+coded maker words items =
+    record { skip = 2; items = items; maker = maker; words = record { llvm = words; gnu = words } }
+
+abbrev pub made : Maker → String → List Item → Row
+made maker words items = coded maker (codes words) items
+
 -- <special-name> ::= TV <type> | TT <type> | TI <type> | TS <type>
 --                ::= TA <template-arg>
 --                ::= TC <type> <number> _ <type>
@@ -62,7 +72,7 @@ t_specials =
     ("I", behind "typeinfo for " (item.Type ∷ [])) ∷
     ("S", behind "typeinfo name for " (item.Type ∷ [])) ∷
     ("A", behind "template parameter object for " (item.Arg ∷ [])) ∷
-    ("C", record (behind "" (item.Type ∷ item.Offset ∷ item.Type ∷ [])) { maker = maker.CtorVtable }) ∷
+    ("C", made maker.CtorVtable "" (item.Type ∷ item.Offset ∷ item.Type ∷ [])) ∷
     ("W", behind_words 2 (item.Name ∷ []) "thread-local wrapper routine for " "TLS wrapper function for ") ∷
     ("H", behind_words 2 (item.Name ∷ []) "thread-local initialization routine for " "TLS init function for ") ∷
     ("c", behind "covariant return thunk to " (item.CallOffset ∷ item.CallOffset ∷ item.Encoding ∷ [])) ∷
@@ -90,12 +100,20 @@ special_of bytes =
 
 -- words in front of the tree of an item in parentheses, behind a code of two letters
 abbrev pub enclosed_by : String → List Item → Row
-enclosed_by words items = record (behind words items) { maker = maker.Enclosing }
+enclosed_by words items = made (maker.Enclosing Primary) words items
 
--- <builtin-type> ::= DB <number> _ | DU <number> _
+-- <decltype> ::= Dt <expression> E
+--            ::= DT <expression> E
+abbrev pub decltype_row : Row
+decltype_row =
+    record (behind_words 2 (item.Expression ∷ item.E ∷ []) "decltype" "decltype ") { maker = maker.Enclosing Primary }
+
+-- <builtin-type> ::= DB <number> _ | DB <expression> _ | DU <number> _ | DU <expression> _
 -- <class-enum-type> ::= Ts <name> | Tu <name> | Te <name>
 abbrev pub type_rows : List (String × Row)
 type_rows =
+    ("Dt", decltype_row) ∷
+    ("DT", decltype_row) ∷
     ("DB", enclosed_by "_BitInt" (item.Size ∷ [])) ∷
     ("DU", enclosed_by "unsigned _BitInt" (item.Size ∷ [])) ∷
     ("Ts", behind "struct " (item.Name ∷ [])) ∷
@@ -105,6 +123,40 @@ type_rows =
 unfoldable pub type_row_of : List ℕ → Option Row
 type_row_of bytes = row type_rows bytes
 
+-- DO <expression> E
+abbrev pub computed_noexcept_row : Row
+computed_noexcept_row = enclosed_by "noexcept" (item.Expression ∷ item.E ∷ [])
+
+-- a tree that nothing is made of, behind a code of so many letters
+abbrev pub same_row : ℕ → List Item → Row
+same_row skip items = record (made maker.Same "" items) { skip = skip }
+
+-- X <expression> E
+abbrev pub expression_arg_row : Row
+expression_arg_row = same_row 1 (item.Expression ∷ item.E ∷ [])
+
+-- _Z <encoding> E | LZ <encoding> E
+abbrev pub encoding_row : Row
+encoding_row = same_row 2 (item.Encoding ∷ item.E ∷ [])
+
+-- Items.
+
+abbrev pub parse_number_size : Parses Tree
+parse_number_size = do
+  number ← parse_digits
+  make_name number
+
+-- <number> | <expression>
+abbrev pub parse_size_inside : Productions → Parses Tree
+parse_size_inside p = if_bytes begins_digit parse_number_size p.expression
+
+-- <number> _ | <expression> _: the size of an array, of a vector or of an integer
+unfoldable pub parse_size : Productions → Parses Tree
+parse_size p = do
+  size ← parse_size_inside p
+  expect "_"
+  pure size
+
 -- the tree of an item
 unfoldable pub tree_as : Productions → Item → Parses Tree
 tree_as p item.Type = p.type false
@@ -112,14 +164,58 @@ tree_as p item.Name = name_tree p
 tree_as p item.Arg = p.arg
 tree_as p item.Encoding = p.encoding
 tree_as p item.Param = if_next "v" refused (p.type false)
-tree_as p item.Size = parse_size
+tree_as p item.BareType = p.type true
+tree_as p item.Expression = p.expression
+tree_as p item.Braced = p.braced
+tree_as p item.SourceName = parse_source_name
+tree_as p item.TemplateParam = parse_template_param
+tree_as p item.FunctionParam = parse_function_param
+tree_as p item.Size = parse_size p
 tree_as p other = refused
 
--- the tree of an item after others; of an item that is skipped there is none
+unfoldable pub ends : End → List ℕ → Bool
+ends end.E = is_e
+ends end.Encoding = is_encoding_end
+ends end.Function = is_function_end
+ends end.Underscore = begins (codes "_")
+
+-- items up to an end, after others
+abbrev pub list_after : Productions → Item → End → List Tree → Parses (List Tree)
+list_after p item end trees = items_after trees (ends end) (tree_as p item)
+
+-- items up to an `E`, which is read, after others
+abbrev pub rest_after : Productions → Item → List Tree → Parses (List Tree)
+rest_after p item trees = do
+  more ← list_after p item end.E trees
+  expect "E"
+  pure more
+
+-- _ <expression>* E
+abbrev pub parse_operands : Productions → List Tree → Parses (List Tree)
+parse_operands p trees = do
+  past 1
+  rest_after p item.Expression trees
+
+abbrev pub parse_optional_number : Parses (List ℕ)
+parse_optional_number = of_bytes optional_number_text
+
+abbrev pub skip_number : Parses (Unit {0})
+skip_number = do
+  parse_optional_number
+  pure tt
+
+-- the tree of an item after others, or the trees of a list; of an item that is skipped there is none
 unfoldable pub item_as : Productions → List Tree → Item → Parses (List Tree)
+item_as p trees item.Expressions = rest_after p item.Expression trees
+item_as p trees item.Braces = rest_after p item.Braced trees
+item_as p trees item.Args = rest_after p item.Arg trees
+item_as p trees item.Operands =
+    if_next "_" (parse_operands p trees) (item_more (tree_as p item.Expression) trees)
 item_as p trees item.Offset = do parse_offset; pure trees
 item_as p trees item.CallOffset = do parse_call_offset; pure trees
 item_as p trees item.SeqId = do parse_temporary_id; pure trees
+item_as p trees item.Number = do skip_number; pure trees
+item_as p trees item.E = do expect "E"; pure trees
 item_as p trees other = item_more (tree_as p other) trees
 
 -- the trees of items, after others
@@ -129,12 +225,86 @@ parse_items p trees (item ∷ items) = do
   more ← item_as p trees item
   parse_items p more items
 
+-- Trees.
+
+-- `sizeof...` of a pattern
+abbrev pub make_pattern_count : Tree → Parses Tree
+make_pattern_count t = do
+  pattern ← make (expansion t)
+  make (count false pattern)
+
+abbrev pub make_listed : List Tree → Parses Tree
+make_listed ts = make (listed (trees_from_list ts))
+
+-- `sizeof...` of arguments
+abbrev pub make_args_count : List Tree → Parses Tree
+make_args_count ts = do
+  args ← make_listed ts
+  make (count true args)
+
+-- what is made of no tree, of one, of two or of three
+unfoldable pub make_none : Maker → Styled → Parses Tree
+make_none maker.Name words = make_name words.llvm
+make_none other words = refused
+
+unfoldable pub make_one : Maker → Styled → Tree → Parses Tree
+make_one maker.Same words t = pure t
+make_one maker.Prefixed words t = make (prefixed words.llvm words.gnu t Primary)
+make_one maker.Unary words t = make (prefixed words.llvm words.gnu t Unary)
+make_one (maker.Enclosing prec) words t = make (enclosing words.llvm words.gnu t prec)
+make_one (maker.Prefix prec) words a = make (prefix_op words.llvm a prec)
+make_one maker.Postfix words a = make (postfix_op a words.llvm)
+make_one maker.Expansion words t = make (expansion t)
+make_one maker.CountPattern words t = make_pattern_count t
+make_one maker.CountPack words t = make (count true t)
+make_one (maker.Fold is_left) words pack = make (fold is_left words.llvm pack None)
+make_one other words t = refused
+
+unfoldable pub make_two : Maker → Styled → Tree → Tree → Parses Tree
+make_two maker.CtorVtable words whole part = make (ctor_vtable part whole)
+make_two (maker.Binary prec) words a b = make (binary a words.llvm b prec)
+make_two (maker.Member prec) words a b = make (member a words.llvm b prec)
+make_two maker.Subscript words a index = make (subscript a index)
+make_two maker.NamedCast words t e = make (named_cast words.llvm t e)
+make_two (maker.Designated is_index) words d e = make (designated d e is_index)
+make_two (maker.FoldWith true) words init pack = make (fold true words.llvm pack (Some init))
+make_two (maker.FoldWith false) words pack init = make (fold false words.llvm pack (Some init))
+make_two other words a b = refused
+
+unfoldable pub make_three : Maker → Styled → Tree → Tree → Tree → Parses Tree
+make_three maker.Conditional words a b c = make (conditional a b c)
+make_three maker.DesignatedRange words a b e = make (designated_range a b e)
+make_three other words a b c = refused
+
+unfoldable pub make_few : Maker → Styled → List Tree → Parses Tree
+make_few maker words [] = make_none maker words
+make_few maker words (a ∷ []) = make_one maker words a
+make_few maker words (a ∷ b ∷ []) = make_two maker words a b
+make_few maker words (a ∷ b ∷ c ∷ []) = make_three maker words a b c
+make_few maker words more = refused
+
+-- a tree, and a list of those behind it
+abbrev pub make_behind : (Tree → Trees → Tree) → List Tree → Parses Tree
+make_behind tree_of [] = refused
+make_behind tree_of (t ∷ ts) = make (tree_of t (trees_from_list ts))
+
+abbrev pub converted : Prec → Tree → Trees → Tree
+converted prec t es = conversion t es prec
+
+abbrev pub make_init_list : List Tree → Parses Tree
+make_init_list es = make (init_list None (trees_from_list es))
+
+abbrev pub typed_init_list : Tree → Trees → Tree
+typed_init_list t es = init_list (Some t) es
+
 -- what is made of trees
 unfoldable pub make_as : Maker → Styled → List Tree → Parses Tree
-make_as maker.Prefixed words (t ∷ []) = make (prefixed words.llvm words.gnu t Primary)
-make_as maker.Enclosing words (t ∷ []) = make (enclosing words.llvm words.gnu t Primary)
-make_as maker.CtorVtable words (whole ∷ part ∷ []) = make (ctor_vtable part whole)
-make_as other words trees = refused
+make_as (maker.Conversion prec) words trees = make_behind (converted prec) trees
+make_as maker.Call words trees = make_behind call trees
+make_as maker.TypedInitList words trees = make_behind typed_init_list trees
+make_as maker.InitList words trees = make_init_list trees
+make_as maker.CountArgs words trees = make_args_count trees
+make_as other words trees = make_few other words trees
 
 -- a row
 unfoldable pub parse_row : Productions → Row → Parses Tree
@@ -150,16 +320,16 @@ parse_row_of row_of p = do
   row ← given (row_of bytes)
   parse_row p row
 
+-- a row, or otherwise another parser
+abbrev pub row_or : Productions → Option Row → Parses Tree → Parses Tree
+row_or p None otherwise = otherwise
+row_or p (Some row) otherwise = parse_row p row
+
+-- the row of a table whose code is next, or otherwise another parser
+abbrev pub parse_row_or : (List ℕ → Option Row) → Productions → Parses Tree → Parses Tree
+parse_row_or row_of p otherwise s = row_or p (row_of s.rest) otherwise s
+
 -- Lists.
-
-unfoldable pub ends : End → List ℕ → Bool
-ends end.E = is_e
-ends end.Encoding = is_encoding_end
-ends end.Function = is_function_end
-
--- items up to an end, after others
-abbrev pub list_after : Productions → Item → End → List Tree → Parses (List Tree)
-list_after p item end trees = items_after trees (ends end) (tree_as p item)
 
 -- items up to an `E`, which is read, behind n letters
 unfoldable pub parse_list : Productions → ℕ → Item → Parses Trees

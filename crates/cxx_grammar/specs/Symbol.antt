@@ -13,6 +13,7 @@ use Rattle.cxx_grammar.specs.Productions.{Productions, no_productions}
 use Rattle.cxx_grammar.specs.Names.{parse_name}
 use Rattle.cxx_grammar.specs.Types.{parse_type, parse_qualified_type}
 use Rattle.cxx_grammar.specs.Args.{parse_arg}
+use Rattle.cxx_grammar.specs.Expressions.{parse_expression, parse_braced}
 use Rattle.cxx_grammar.specs.Encodings.{parse_encoding}
 
 -- the productions that others may be inside of
@@ -23,6 +24,8 @@ productions_over p = record {
   type = parse_type p;
   qualified_type = parse_qualified_type p;
   arg = parse_arg p;
+  expression = parse_expression p;
+  braced = parse_braced p;
 }
 
 -- the productions, of which at most so many may nest

@@ -1,5 +1,5 @@
 -- Types (Itanium C++ ABI 5.1.5).
-use Rattle.std.specs.Prelude.{ℕ, nat_lt, List, [], length, drop, codes, Bool, true, false, not, ◌&&◌, Option, Some, None, if◌then◌else◌}
+use Rattle.std.specs.Prelude.{ℕ, nat_lt, List, [], length, drop, codes, Bool, false, not, ◌&&◌, Option, Some, None, if◌then◌else◌}
 use Rattle.cxx_tree.specs.declared.kinds.Cv.{Cv}
 use Rattle.cxx_tree.specs.declared.kinds.Prec.TheVariants.{Primary}
 use Rattle.cxx_tree.specs.Tree.{Tree, Trees, expansion, qualified, pointer, reference, member_pointer, objc_protocol, listed}
@@ -15,10 +15,10 @@ use Rattle.cxx_grammar.specs.declared.rows.End.TheVariants as end
 use Rattle.cxx_grammar.specs.declared.rows.Item.TheVariants as item
 use Rattle.cxx_grammar.specs.Parses.{Parses, ◌>>=◌, ◌>>◌, ◌<$>◌, pure, some, check, given, look, past, expect, optional, by, if_next, make, saved}
 use Rattle.cxx_grammar.specs.Cases.{case_of_type, case_of_exception}
-use Rattle.cxx_grammar.specs.Leaves.{make_name, make_word, parse_size, parse_identifier, parse_substitution, parse_template_param, parse_cv, parse_ref, parse_builtin, parse_float_type}
+use Rattle.cxx_grammar.specs.Leaves.{make_name, make_word, parse_identifier, parse_substitution, parse_template_param, parse_cv, parse_ref, parse_builtin, parse_float_type}
 use Rattle.cxx_grammar.specs.Productions.{Productions, name_tree}
 use Rattle.cxx_grammar.specs.Args.{parse_args, parse_with_args}
-use Rattle.cxx_grammar.specs.Rows.{type_row_of, parse_row_of, list_after, parse_list}
+use Rattle.cxx_grammar.specs.Rows.{type_row_of, parse_row_of, list_after, parse_list, parse_size, parse_row, computed_noexcept_row}
 
 -- Functions.
 
@@ -42,6 +42,7 @@ parse_throw p = do
 
 unfoldable pub exception_as : Productions → ExceptionCase → Parses (Option Tree)
 exception_as p exception.Noexcept = some <$> parse_noexcept
+exception_as p exception.Computed = some <$> parse_row p computed_noexcept_row
 exception_as p exception.Throw = some <$> parse_throw p
 exception_as p exception.None = pure None
 
@@ -74,6 +75,7 @@ parse_function_inside p cv exception = do
 
 -- <function-type> ::= [<CV-qualifiers>] [<exception-spec>] [Dx] F [Y] <bare-function-type> [<ref-qualifier>] E
 -- <exception-spec> ::= Do
+--                  ::= DO <expression> E
 --                  ::= Dw <type>* E
 abbrev pub parse_function_type : Productions → Parses Tree
 parse_function_type p = do
@@ -85,16 +87,17 @@ parse_function_type p = do
 -- Arrays, vectors, pointers to members.
 
 -- [<size>] _
-unfoldable pub parse_dimension : Parses (Option Tree)
-parse_dimension = do
+unfoldable pub parse_dimension : Productions → Parses (Option Tree)
+parse_dimension p = do
   is_empty ← optional "_"
-  if is_empty then pure None else some <$> parse_size
+  if is_empty then pure None else some <$> parse_size p
 
--- <array-type> ::= A [<dimension number>] _ <element type>
+-- <array-type> ::= A <positive dimension number> _ <element type>
+--              ::= A [<dimension expression>] _ <element type>
 abbrev pub parse_array_type : Productions → Bool → Parses Tree
 parse_array_type p is_bare = do
   past 1
-  dimension ← parse_dimension
+  dimension ← parse_dimension p
   element ← p.type is_bare
   make (array_of element dimension)
 
@@ -112,13 +115,13 @@ parse_element p is_bare is_number = do
   element_as p is_bare is_pixel
 
 -- <vector-type> ::= Dv <positive dimension number> _ <extended element type>
---               ::= Dv _ <element type>
+--               ::= Dv [<dimension expression>] _ <element type>
 abbrev pub parse_vector_type : Productions → Bool → Parses Tree
 parse_vector_type p is_bare = do
   past 2
   bytes ← look
   check (not (begins (codes "0") bytes))
-  dimension ← parse_dimension
+  dimension ← parse_dimension p
   element ← parse_element p is_bare (begins_source bytes)
   make (vector element dimension)
 
@@ -265,6 +268,7 @@ type_as p is_bare type_case.Class = saved (name_tree p)
 --        ::= <pointer-to-member-type>
 --        ::= <template-param>
 --        ::= <template-template-param> <template-args>
+--        ::= <decltype>
 --        ::= P <type> | R <type> | O <type> | C <type> | G <type>
 --        ::= <substitution>
 --        ::= Dp <type>

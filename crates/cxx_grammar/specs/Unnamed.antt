@@ -1,8 +1,8 @@
 -- Unnamed types and closures (Itanium C++ ABI 5.1.7).
-use Rattle.std.specs.Prelude.{ℕ, ◌+◌, List, [], ◌∷◌, Option, None, false, if◌then◌else◌, nat_lt}
+use Rattle.std.specs.Prelude.{ℕ, ◌+◌, List, None, nat_lt}
 use Rattle.cxx_tree.specs.Tree.{Tree, Trees, no_trees}
 use Rattle.cxx_tree.specs.Stored.{trees_from_list}
-use Rattle.cxx_tree.specs.Phrases.{closure, unnamed}
+use Rattle.cxx_tree.specs.Phrases.{closure, lambda, unnamed}
 use Rattle.cxx_grammar.specs.declared.rows.End.TheVariants as end
 use Rattle.cxx_grammar.specs.Parses.{Parses, ◌>>=◌, ◌>>◌, pure, check, past, expect, make, level, at_level}
 use Rattle.cxx_grammar.specs.Leaves.{parse_digits, make_word}
@@ -51,13 +51,30 @@ parse_lambda_sig p = do
   expect "E"
   pure (trees_from_list params)
 
+-- the parameters of a closure at a level. At most 512 productions nest, so no level is refused
+abbrev pub parse_closure_params : Productions → ℕ → Parses Trees
+parse_closure_params p binder = do
+  past 2
+  check (nat_lt binder 512)
+  at_level (binder + 1) (parse_lambda_sig p)
+
 -- <closure-type-name> ::= Ul <lambda-sig> E [<number>] _
 -- <lambda-sig> ::= v | <parameter type>+
--- At most 512 productions nest, so no level is refused.
 unfoldable pub parse_closure : Productions → Parses Tree
 parse_closure p = do
-  past 2
   binder ← level
-  check (nat_lt binder 512)
-  params ← at_level (binder + 1) (parse_lambda_sig p)
+  params ← parse_closure_params p binder
   parse_closure_end binder params
+
+-- the same as the value of a lambda
+abbrev pub parse_lambda_end : ℕ → Trees → Parses Tree
+parse_lambda_end binder params = do
+  parse_count
+  t ← make (lambda no_trees None params None)
+  bind_closure binder t
+
+unfoldable pub parse_lambda : Productions → Parses Tree
+parse_lambda p = do
+  binder ← level
+  params ← parse_closure_params p binder
+  parse_lambda_end binder params

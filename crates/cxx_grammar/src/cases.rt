@@ -55,6 +55,8 @@ pub enum FirstCase {
     Substitution,
     /// `T`
     Param,
+    /// `Dt` or `DT`
+    Decltype,
     /// A name without a scope.
     Unqualified,
 }
@@ -114,7 +116,7 @@ pub enum TypeCase {
     Builtin,
     /// `A`
     Array,
-    /// `Ts`, `Tu` or `Te`: a row, which is saved
+    /// `Dt`, `DT`, `Ts`, `Tu` or `Te`: a row, which is saved
     SavedRow,
     /// `T` and anything else
     Param,
@@ -137,6 +139,8 @@ pub enum TypeCase {
 pub enum ExceptionCase {
     /// `Do`
     Noexcept,
+    /// `DO`
+    Computed,
     /// `Dw`
     Throw,
     /// There is none.
@@ -146,10 +150,12 @@ pub enum ExceptionCase {
 /// The cases of a `<template-arg>`.
 #[derive(Clone, Copy)]
 pub enum ArgCase {
+    /// `X`
+    Expression,
     /// `J`
     Pack,
-    /// `LZ`, which isn't read yet.
-    Unread,
+    /// `LZ`
+    Encoding,
     /// `L`
     Literal,
     /// A type.
@@ -165,8 +171,89 @@ pub enum LiteralCase {
     Null,
     /// The letter of an integer type.
     Integer,
-    /// What isn't read here.
+    /// `f`, `d` or `e`
+    Float(FloatFormat),
+    /// `_Z`
+    Encoding,
+    /// `A`: the type of a string literal.
+    String,
+    /// `Ul`
+    Lambda,
+    /// What has no literals, or none that are read.
     Unread,
     /// A type.
     Typed,
+}
+
+/// The formats of floating literals.
+#[derive(Clone, Copy)]
+pub enum FloatFormat {
+    /// `float`: 8 digits, IEEE's single format.
+    Single,
+    /// `double`: 16 digits, IEEE's double format.
+    Double,
+    /// `long double`: 20 digits, the extended format of x87.
+    Extended,
+}
+
+/// The cases of an `<expression>` that is no row.
+#[derive(Clone, Copy)]
+pub enum ExpressionCase {
+    /// `nw` or `na`, perhaps behind `gs`: whether it is global, and whether it is an array's.
+    New(bool, bool),
+    /// A name behind `gs`.
+    GlobalName,
+    /// `L`
+    Literal,
+    /// `T`
+    Param,
+    /// `fp` or `fL`
+    FunctionParam,
+    /// `so`
+    Subobject,
+    /// `u`
+    Vendor,
+    /// `aw`: an operator that has no expression.
+    Unread,
+    /// A name.
+    Name,
+}
+
+/// The cases of an `<unresolved-name>`, after its `gs`.
+#[derive(Clone, Copy)]
+pub enum UnresolvedCase {
+    /// A name without a scope.
+    Base,
+    /// `sr` and a digit: names as scopes.
+    Simple,
+    /// `sr` and a name of `std`, or `srN` and a name: a type as the scope.
+    Type,
+    /// `srN` and anything else: a type and names as scopes.
+    Nested,
+    /// `sr` and anything else: a type that isn't resolved as the scope.
+    Unresolved,
+}
+
+/// The cases of an `<unresolved-type>`.
+#[derive(Clone, Copy)]
+pub enum UnresolvedTypeCase {
+    /// `T`
+    Param,
+    /// `Dt` or `DT`
+    Decltype,
+    /// `S`
+    Substitution,
+    /// Anything else.
+    Unread,
+}
+
+/// The cases of a `<base-unresolved-name>`.
+#[derive(Clone, Copy)]
+pub enum BaseNameCase {
+    /// A digit
+    Simple,
+    /// `dn`
+    Destructor,
+    /// An operator, perhaps behind `on`.
+    Operator,
 }

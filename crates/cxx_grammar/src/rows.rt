@@ -1,5 +1,7 @@
 //! Productions that are a row of items, of which a tree is made.
 
+use cxx_tree::Prec;
+
 /// An item of a row, or of a list.
 #[derive(Clone, Copy)]
 pub enum Item {
@@ -13,14 +15,38 @@ pub enum Item {
     Encoding,
     /// `<type>` that isn't `void`
     Param,
-    /// `<number> _`, which is a tree.
+    /// `<type>` that ends the operator of a conversion.
+    BareType,
+    /// `<expression>`
+    Expression,
+    /// `<braced-expression>`
+    Braced,
+    /// `<source-name>`
+    SourceName,
+    /// `<template-param>`
+    TemplateParam,
+    /// `<function-param>`
+    FunctionParam,
+    /// `<number>` or `<expression>`, and a `_`.
     Size,
+    /// Expressions up to an `E`.
+    Expressions,
+    /// Braced expressions up to an `E`.
+    Braces,
+    /// Template arguments up to an `E`.
+    Args,
+    /// `<expression>`, or `_` and expressions up to an `E`.
+    Operands,
     /// `<number> _`, which is skipped.
     Offset,
     /// `<call-offset>`, which is skipped.
     CallOffset,
     /// `[[<seq-id>] _]`, which is skipped.
     SeqId,
+    /// `[<number>]`, which is skipped.
+    Number,
+    /// `E`, which is skipped.
+    E,
 }
 
 /// Where the items of a list end.
@@ -32,17 +58,63 @@ pub enum End {
     Encoding,
     /// At the end of a function type: before `E`, `RE` or `OE`.
     Function,
+    /// Before a `_`.
+    Underscore,
 }
 
 /// What is made of the trees of a row.
 #[derive(Clone, Copy)]
 pub enum Maker {
+    /// The only tree.
+    Same,
+    /// The words, without a tree.
+    Name,
     /// Words, and the only tree.
     Prefixed,
+    /// The same, where the tree is an operand.
+    Unary,
     /// Words, and the only tree in parentheses.
-    Enclosing,
+    Enclosing(Prec),
     /// The vtable of a base: the derived type, and the base.
     CtorVtable,
+    /// An operator in front of its operand.
+    Prefix(Prec),
+    /// An operator behind its operand.
+    Postfix,
+    /// An operator between its operands.
+    Binary(Prec),
+    /// An object, and its member.
+    Member(Prec),
+    /// An array, and the index.
+    Subscript,
+    /// `?` and `:` between three operands.
+    Conditional,
+    /// A type, and an operand.
+    NamedCast,
+    /// A type, and its operands.
+    Conversion(Prec),
+    /// A function, and its arguments.
+    Call,
+    /// What braces have.
+    InitList,
+    /// A type, and what the braces behind it have.
+    TypedInitList,
+    /// A field, or if it is so an index, and its value.
+    Designated(bool),
+    /// The first index, the last one, and their value.
+    DesignatedRange,
+    /// A pattern.
+    Expansion,
+    /// A pattern that is counted.
+    CountPattern,
+    /// A pack that is counted.
+    CountPack,
+    /// Arguments that are counted.
+    CountArgs,
+    /// A pack, which is at the right of the dots if it is so.
+    Fold(bool),
+    /// The same with an initial value. The two are in the order in which they are printed.
+    FoldWith(bool),
 }
 
 /// A production: how many letters of its code are skipped, its items, what is made of their trees, and the words of

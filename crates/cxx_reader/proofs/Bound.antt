@@ -82,3 +82,7 @@ length-map f (x ∷ xs) = ap (λ (n : ℕ). suc n) (length-map f xs)
 -- no argument is left
 pub no_arg : (a : Store) (l : handle.List) (n : ℕ) → length (list_at a.held l) ≤ n → drop n (listed a l) ≡ []
 no_arg a l n h = drop-all n (map (stands a) (list_at a.held l)) (omega (arith, h, length-map (stands a) (list_at a.held l)))
+
+pub list_trees-grow : (a b : Store) → KeepsNodes a b → (l : handle.List) → IsListBelow a.held (size a) l → list_trees b l ≡ list_trees a l
+unfolding list_trees
+list_trees-grow a b g l h = ap (λ ts. trees_from_list ts) (listed-grows a b g l h)

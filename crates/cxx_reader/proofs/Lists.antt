@@ -1,5 +1,5 @@
 -- The nodes of a list that is read stand after those of the lists around it.
-use Rattle.std.proofs.Common.{ℕ, ◌≡◌, ◌+◌, ◌-◌, ◌<◌, ◌≤◌, List, [], ◌∷◌, ◌++◌, length, map, drop, take, refl, sym, ap, ◌∙◌, arith, subst, zero, suc, Option, Some, true, false, Bool, Result, Ok, Err, length-append}
+use Rattle.std.proofs.Common.{ℕ, ◌≡◌, ◌+◌, ◌-◌, ◌<◌, ◌≤◌, List, [], ◌∷◌, ◌++◌, length, map, drop, take, refl, sym, ap, ◌∙◌, arith, subst, zero, suc, Option, Some, None, true, false, Bool, Result, Ok, Err, length-append}
 use Rattle.std.specs.List.{AllByRecursion}
 use Rattle.std.proofs.Math.ListN.{get_or}
 use Rattle.std.proofs.lemmas.List.{map-append}
@@ -8,7 +8,9 @@ use Rattle.cxx_tree.specs.Kept.{KeepsNodes, SameNodes, IsNode}
 use Rattle.cxx_tree.specs.declared.node.List as handle
 use Rattle.std.specs.Prelude.{IfOk, OnOk, IsOkUnless, codes}
 use Rattle.cxx_tree.specs.Stored.{Store, size, list_at, IsListBelow, trees_from_list}
-use Rattle.cxx_tree.proofs.Grown.{nodes-same, nodes-trans, saved-same}
+use Rattle.cxx_tree.proofs.Grown.{nodes-same, nodes-grow, nodes-trans, saved-same}
+use Rattle.cxx_tree.specs.Grows.{Makes}
+use Rattle.abi_scalars.specs.Bytes.{begins}
 use Rattle.cxx_grammar.specs.State.{State, LearnedName}
 use Rattle.cxx_grammar.specs.Parses.{Parses, skip, item_more, is_e, repeat, past_word_if}
 use Rattle.cxx_reader.specs.declared.reader.Reader.{Reader}
@@ -17,12 +19,16 @@ use Rattle.cxx_tree.specs.declared.arena.Stop.TheVariants.{Unreadable, Memory}
 use Rattle.cxx_tree.specs.Stored.{Store, stands}
 use Rattle.cxx_grammar.specs.Productions.{Productions}
 use Rattle.cxx_grammar.specs.Names.{parse_next, parse_components}
+use Rattle.cxx_grammar.specs.Expressions.{parse_placement}
+use Rattle.cxx_grammar.specs.Unresolved.{parse_next_scope, parse_scope_list}
 use Rattle.cxx_grammar.specs.declared.rows.End.TheVariants as end
+use Rattle.cxx_grammar.specs.declared.rows.Item.TheVariants as item
 use Rattle.cxx_grammar.specs.declared.rows.Item.{Item}
-use Rattle.cxx_grammar.specs.Rows.{Row, item_as, make_as, parse_items, parse_row, list_after, parse_list}
+use Rattle.cxx_grammar.specs.declared.rows.Maker.{Maker}
+use Rattle.cxx_grammar.specs.Rows.{Row, Styled, item_as, make_as, make_few, parse_items, parse_row, list_after, rest_after, parse_list}
 use Rattle.cxx_reader.specs.Outcome.{state, trees_behind, Keeps, Moves, KeepsFront, Gives, GivesList, GivesNamed, GivesFrom, list_trees}
 use Rattle.cxx_tree.proofs.Forest.{below-more, below-push, same-forest}
-use Rattle.cxx_reader.proofs.Kept.{map-stands, stands-same, IsNode-same}
+use Rattle.cxx_reader.proofs.Kept.{map-stands, stands-same, IsNode-same, Moves-trans}
 use Rattle.cxx_reader.proofs.Turns.{SoFar, steps_fail, steps_end, ItemsSoFar, row_fail}
 
 pub drop-all : {A : Type 0} (n : ℕ) (xs : List A) → length xs ≤ n → drop n xs ≡ []
@@ -231,14 +237,13 @@ list_moves (Ok l) old mid after from e k g p n =
     }
 list_moves (Err stop) old mid after from e k g p n = tt
 
-begins_some : (bytes : List ℕ) → is_e bytes ≡ true → 0 < length bytes
-begins_some [] e = absurd (let f = e in cc)
-begins_some (b ∷ bytes) e = omega arith
+pub begins_some : (letter : ℕ) (bytes : List ℕ) → begins (letter ∷ []) bytes ≡ true → 0 < length bytes
+begins_some letter [] e = absurd (let f = e in cc)
+begins_some letter (b ∷ bytes) e = omega arith
 
 pub close_moves : (r : Result handle.List Stop) (old start mid after : Reader) (from : ℕ) → start.arena ≡ old.arena → length start.rest.now ≤ length old.rest.now → KeepsFront from start mid → from ≡ length start.arena.pending
-    → is_e mid.rest.now ≡ true → KeepsNodes mid.arena after.arena → after.arena.pending ≡ take from mid.arena.pending → length after.rest.now ≡ length mid.rest.now - 1 → OnOk r (Moves old after)
-close_moves (Ok l) old start mid after from e w k f b g p n =
-    let some = begins_some mid.rest.now b in
+    → 0 < length mid.rest.now → KeepsNodes mid.arena after.arena → after.arena.pending ≡ take from mid.arena.pending → length after.rest.now ≡ length mid.rest.now - 1 → OnOk r (Moves old after)
+close_moves (Ok l) old start mid after from e w k f some g p n =
     record {
       keeps = record {
         grows = nodes-trans old.arena mid.arena after.arena (subst (λ (x : Store). KeepsNodes x mid.arena) e k.grows) g;
@@ -247,4 +252,74 @@ close_moves (Ok l) old start mid after from e w k f b g p n =
       };
       takes = omega (arith, w, k.within, n, some);
     }
-close_moves (Err stop) old start mid after from e w k f b g p n = tt
+close_moves (Err stop) old start mid after from e w k f some g p n = tt
+
+-- a node was made after others
+pub grows-then : (r : Result ℕ Stop) (a mid b : Store) (t : Tree) → KeepsNodes a mid → Makes r mid b t → OnOk r (KeepsNodes a b)
+unfolding Makes
+grows-then (Ok i) a mid b t g m = nodes-trans a mid b g (nodes-grow mid b m.2)
+grows-then (Err e) a mid b t g m = tt
+
+pub pending-then : (r : Result ℕ Stop) (a mid b : Store) (from : ℕ) (t : Tree) → take from mid.pending ≡ take from a.pending → Makes r mid b t → OnOk r (take from b.pending ≡ take from a.pending)
+unfolding Makes
+pending-then (Ok i) a mid b from t e m = ap (take from) m.2.pending ∙ e
+pending-then (Err e) a mid b from t p m = tt
+
+-- no row is made of more than three nodes
+pub few_none : (maker : Maker) (words : Styled) (ts : List Tree) (s : State) → 3 < length ts → make_few maker words ts s ≡ None
+unfolding make_few
+few_none maker words [] s h = absurd (omega (arith, h))
+few_none maker words (a ∷ []) s h = absurd (omega (arith, h))
+few_none maker words (a ∷ b ∷ []) s h = absurd (omega (arith, h))
+few_none maker words (a ∷ b ∷ c ∷ []) s h = absurd (omega (arith, h))
+few_none maker words (a ∷ b ∷ c ∷ d ∷ ts) s h = refl
+
+-- items up to an `E` are read, or not
+pub rest_end : (p : Productions) (item : Item) (trees more : List Tree) (s u : State) → list_after p item end.E trees s ≡ Some (more, u) → is_e u.rest ≡ true → rest_after p item trees s ≡ Some (more, skip 1 u)
+rest_end p item trees more s u done e = rw (done, e) refl
+
+pub rest_stop : (e : Stop) (from : ℕ) (after : Reader) (p : Productions) (item : Item) (trees : List Tree) (s : State) → GivesFrom (Err e) from after (list_after p item end.E trees s) → GivesFrom (Err e) from after (rest_after p item trees s)
+rest_stop Unreadable from after p item trees s f = rw f refl
+rest_stop Memory from after p item trees s f = tt
+
+pub KeepsFront-arena : (from : ℕ) (a b c : Reader) → KeepsFront from a b → c.arena ≡ b.arena → length c.rest.now ≤ length b.rest.now → KeepsFront from a c
+KeepsFront-arena from a b c k e w =
+    record {
+      grows = subst (λ (x : Store). KeepsNodes a.arena x) (sym e) k.grows;
+      front = ap (λ (x : Store). take from x.pending) e ∙ k.front;
+      long = omega (arith, k.long, ap (λ (x : Store). length x.pending) e);
+      within = omega (arith, k.within, w);
+    }
+
+-- the placement of a `new` is read, or not
+pub place_stop : (e : Stop) (from : ℕ) (after : Reader) (p : Productions) (n : ℕ) (s : State) → GivesFrom (Err e) from after (list_after p item.Expression end.Underscore [] (skip n s)) → GivesList (Err e) after (parse_placement p n s)
+unfolding parse_placement
+place_stop Unreadable from after p n s f = rw f refl
+place_stop Memory from after p n s f = tt
+
+pub place_gives : (r : Result handle.List Stop) (after : Reader) (a : Store) (from : ℕ) (p : Productions) (n : ℕ) (s u : State)
+    → list_after p item.Expression end.Underscore [] (skip n s) ≡ Some (trees_behind from a, u) → begins (codes "_") u.rest ≡ true
+    → IfOk r (λ l. list_at after.arena.held l ≡ drop from a.pending)
+    → IfOk r (λ l. IsListBelow after.arena.held (size after.arena) l)
+    → KeepsNodes a after.arena → AllByRecursion (IsNode a) (drop from a.pending)
+    → state after ≡ skip 1 u → IsOkUnless r Memory → GivesList r after (parse_placement p n s)
+unfolding parse_placement
+place_gives r after a from p n s u done e is below g all st m = listed_gives r after a from (skip 1 u) (rw (done, e) refl) is below g all st m
+
+-- scopes are read, or not
+pub scopes_stop : (e : Stop) (after : Reader) (p : Productions) (outer : Tree) (s : State) {q : Tree} {u : State}
+    → SoFar (repeat is_e (parse_next_scope p) outer s) is_e (parse_next_scope p) q u → is_e u.rest ≡ false
+    → Gives (Err e) after (parse_next_scope p q u) → Gives (Err e) after (parse_scope_list p outer s)
+unfolding parse_scope_list
+scopes_stop Unreadable after p outer s l e f = rw (steps_fail l e f) refl
+scopes_stop Memory after p outer s l e f = tt
+
+pub scopes_end : (p : Productions) (outer : Tree) (s : State) {q : Tree} {u : State}
+    → SoFar (repeat is_e (parse_next_scope p) outer s) is_e (parse_next_scope p) q u → is_e u.rest ≡ true → parse_scope_list p outer s ≡ Some (q, skip 1 u)
+unfolding parse_scope_list
+scopes_end p outer s l e = rw (steps_end l e, e) refl
+
+-- bytes are read twice
+pub Moves-then : {A : Type 0} (r : Result A Stop) (a b c : Reader) → Moves a b → OnOk r (Moves b c) → OnOk r (Moves a c)
+Moves-then (Ok x) a b c m n = Moves-trans a b c m n.keeps
+Moves-then (Err e) a b c m n = tt

@@ -5,6 +5,7 @@ use Rattle.cxx_grammar.specs.Productions.{Productions}
 use Rattle.cxx_grammar.specs.Names.{parse_name}
 use Rattle.cxx_grammar.specs.Types.{parse_type, parse_qualified_type}
 use Rattle.cxx_grammar.specs.Args.{parse_arg}
+use Rattle.cxx_grammar.specs.Expressions.{parse_expression, parse_braced}
 use Rattle.cxx_grammar.specs.Encodings.{parse_encoding}
 use Rattle.cxx_grammar.specs.Symbol.{productions, productions_over}
 
@@ -25,6 +26,12 @@ type_opens d b s h = ap (λ (p : Productions). p.type b s) (one_level d h)
 pub qualified_opens : (d : ℕ) (b : Bool) (s : State) → 0 < d → (productions d).qualified_type b s ≡ parse_qualified_type (productions (d - 1)) b s
 qualified_opens d b s h = ap (λ (p : Productions). p.qualified_type b s) (one_level d h)
 
+pub expression_opens : (d : ℕ) (s : State) → 0 < d → (productions d).expression s ≡ parse_expression (productions (d - 1)) s
+expression_opens d s h = ap (λ (p : Productions). p.expression s) (one_level d h)
+
+pub braced_opens : (d : ℕ) (s : State) → 0 < d → (productions d).braced s ≡ parse_braced (productions (d - 1)) s
+braced_opens d s h = ap (λ (p : Productions). p.braced s) (one_level d h)
+
 pub encoding_opens : (d : ℕ) (s : State) → 0 < d → (productions d).encoding s ≡ parse_encoding (productions (d - 1)) s
 encoding_opens d s h = ap (λ (p : Productions). p.encoding s) (one_level d h)
 
@@ -35,6 +42,14 @@ no_name s = refl
 pub no_arg : (s : State) → (productions 0).arg s ≡ None
 unfolding productions
 no_arg s = refl
+
+pub no_expression : (s : State) → (productions 0).expression s ≡ None
+unfolding productions
+no_expression s = refl
+
+pub no_braced : (s : State) → (productions 0).braced s ≡ None
+unfolding productions
+no_braced s = refl
 
 pub no_type : (b : Bool) (s : State) → (productions 0).type b s ≡ None
 unfolding productions
@@ -48,4 +63,4 @@ pub no_encoding : (s : State) → (productions 0).encoding s ≡ None
 unfolding productions
 no_encoding s = refl
 
-pub ruleset opens = (encoding_opens, no_encoding, name_opens, no_name, arg_opens, no_arg, type_opens, no_type, qualified_opens, no_qualified)
+pub ruleset opens = (encoding_opens, no_encoding, name_opens, no_name, arg_opens, no_arg, expression_opens, no_expression, braced_opens, no_braced, type_opens, no_type, qualified_opens, no_qualified)

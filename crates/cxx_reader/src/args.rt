@@ -14,8 +14,10 @@ ghost use Rattle.cxx_reader.specs.Outcome.{state, Keeps, Moves, Gives, GivesList
 
 use crate::cases::{arg_case, begins, literal_case};
 use crate::reader::Reader;
-use crate::rows::read_list;
+use crate::rows::{read_list, read_row};
+use crate::specials::{encoding_row, expression_arg_row};
 use crate::types::read_type;
+use crate::unnamed::read_lambda;
 use cxx_grammar::cases::{ArgCase, LiteralCase};
 use cxx_grammar::rows::Item;
 use cxx_tree::{List, Node, Plain, Stop};
@@ -45,8 +47,9 @@ pub fn read_arg(reader: &mut Reader, depth: usize) -> Result<u32, Stop>
     }
     let depth = depth - 1;
     match arg_case(reader.rest) {
+        ArgCase::Expression => read_row(reader, depth, expression_arg_row()),
         ArgCase::Pack => read_pack(reader, depth),
-        ArgCase::Unread => Err(Stop::Unreadable),
+        ArgCase::Encoding => read_row(reader, depth, encoding_row()),
         ArgCase::Literal => read_literal(reader, depth),
         ArgCase::Type => read_type(reader, depth, false),
     }
@@ -62,9 +65,10 @@ fn read_pack(reader: &mut Reader, depth: usize) -> Result<u32, Stop>
     reader.make(Node::Plain(Plain::Several(args)))
 }
 
-// Reads `<expr-primary>`.
+/// Reads `<expr-primary>`.
 #[cycle(reader)]
-fn read_literal(reader: &mut Reader, depth: usize) -> Result<u32, Stop>
+#[inline(never)]
+pub fn read_literal(reader: &mut Reader, depth: usize) -> Result<u32, Stop>
     ensures reads { Gives result reader.new (spec.parse_literal (productions depth) (state reader.old)) }
     ensures moves { OnOk result (Moves reader.old reader.new) }
 {
@@ -73,6 +77,10 @@ fn read_literal(reader: &mut Reader, depth: usize) -> Result<u32, Stop>
         LiteralCase::Bool => reader.read_bool(),
         LiteralCase::Null => reader.read_null(),
         LiteralCase::Integer => reader.read_integer(),
+        LiteralCase::Float(format) => reader.read_float(format),
+        LiteralCase::Encoding => read_row(reader, depth, encoding_row()),
+        LiteralCase::String => read_string(reader, depth),
+        LiteralCase::Lambda => read_lambda_literal(reader, depth),
         LiteralCase::Unread => Err(Stop::Unreadable),
         LiteralCase::Typed => read_typed(reader, depth),
     }
@@ -89,7 +97,40 @@ fn read_typed(reader: &mut Reader, depth: usize) -> Result<u32, Stop>
     reader.make_typed_literal(t, number)
 }
 
+// Reads `<string type> E`.
+#[cycle(reader)]
+fn read_string(reader: &mut Reader, depth: usize) -> Result<u32, Stop>
+    ensures reads { Gives result reader.new (spec.parse_string (productions depth) (state reader.old)) }
+    ensures moves { OnOk result (Moves reader.old reader.new) }
+{
+    let t = tri!(read_type(reader, depth, false));
+    tri!(reader.expect(b'E'));
+    reader.make_string_literal(t)
+}
+
+// Reads `<closure type> E`.
+#[cycle(reader)]
+fn read_lambda_literal(reader: &mut Reader, depth: usize) -> Result<u32, Stop>
+    ensures reads { Gives result reader.new (spec.parse_lambda_literal (productions depth) (state reader.old)) }
+    ensures moves { OnOk result (Moves reader.old reader.new) }
+{
+    let lambda = tri!(read_lambda(reader, depth));
+    tri!(reader.expect(b'E'));
+    Ok(lambda)
+}
+
 impl<'a> Reader<'a> {
+    // Makes a string literal of a type.
+    fn make_string_literal(&mut self, t: u32) -> Result<u32, Stop>
+        requires t { IsNode self.old.arena t }
+        ensures reads { Gives result self.new (parses.make (phrases.string_literal (stands self.old.arena t))
+            (state self.old)) }
+        ensures keeps { OnOk result (Keeps self.old self.new) }
+        ensures rest { OnOk result (self.new.rest.now ≡ self.old.rest.now) }
+    {
+        self.arena.make_string_literal(t)
+    }
+
     // Makes a literal of a type with a number.
     fn make_typed_literal(&mut self, t: u32, number: &[u8]) -> Result<u32, Stop>
         requires t { IsNode self.old.arena t }

@@ -1,15 +1,21 @@
 //! Which case the next bytes select.
 #![tactic(auto, unfolding(cxx_grammar::specs::Words::builtin_of, cxx_grammar::specs::Words::integer_of))]
 
-ghost use Rattle.std.specs.Prelude.{◌≡◌, [], ◌∷◌, codes, if◌then◌else◌};
+ghost use Rattle.std.specs.Prelude.{◌≡◌, ◌<◌, [], ◌∷◌, codes, length, if◌then◌else◌};
 ghost use Rattle.abi_scalars.specs.Bytes.{begins, begins_digit, letter, past_letter};
 ghost use Rattle.cxx_grammar.specs.declared.cases.TypeCase.TheVariants as type_case;
+ghost use Rattle.cxx_grammar.specs.declared.cases.FirstCase.TheVariants as first;
+ghost use Rattle.cxx_grammar.specs.declared.cases.ExceptionCase.TheVariants as exception;
+ghost use Rattle.cxx_grammar.specs.declared.cases.ArgCase.TheVariants as arg;
+ghost use Rattle.cxx_grammar.specs.declared.cases.LiteralCase.TheVariants as literal;
+ghost use Rattle.cxx_grammar.specs.declared.cases.UnresolvedTypeCase.TheVariants as unresolved_type;
 ghost use Rattle.cxx_grammar.specs.Cases as spec;
 
 use crate::words::{builtin_of, integer_of};
 use cxx_grammar::cases::{
-    ArgCase, BaseCase, ComponentCase, EncodingCase, ExceptionCase, FirstCase, LiteralCase,
-    LocalCase, NameCase, PrefixCase, TypeCase,
+    ArgCase, BaseCase, BaseNameCase, ComponentCase, EncodingCase, ExceptionCase, ExpressionCase,
+    FirstCase, FloatFormat, LiteralCase, LocalCase, NameCase, PrefixCase, TypeCase, UnresolvedCase,
+    UnresolvedTypeCase,
 };
 
 /// Returns whether a letter is next.
@@ -113,11 +119,13 @@ pub fn local_case(bytes: &[u8]) -> LocalCase
 /// Returns the case of the first component of a `<nested-name>`.
 pub fn first_case(bytes: &[u8]) -> FirstCase
     ensures value { result ≡ spec.case_of_first bytes.now }
+    ensures some { result ≡ first.Decltype → 0 < length bytes.now }
 {
     match bytes {
         [b'S', b't', ..] => FirstCase::Std,
         [b'S', ..] => FirstCase::Substitution,
         [b'T', ..] => FirstCase::Param,
+        [b'D', b't' | b'T', ..] => FirstCase::Decltype,
         _ => FirstCase::Unqualified,
     }
 }
@@ -186,7 +194,7 @@ fn qualified_case(bytes: &[u8]) -> TypeCase
         else type_case.Qualified) }
 {
     match past_letter(past_letter(past_letter(bytes, b'r'), b'V'), b'K') {
-        [b'F', ..] | [b'D', b'o' | b'w' | b'x', ..] => TypeCase::Function,
+        [b'F', ..] | [b'D', b'o' | b'O' | b'w' | b'x', ..] => TypeCase::Function,
         _ => TypeCase::Qualified,
     }
 }
@@ -206,7 +214,8 @@ fn d_case(bytes: &[u8]) -> TypeCase
     ensures value { result ≡ spec.case_of_type (letter "D" ∷ bytes.now) }
 {
     match bytes {
-        [b'o' | b'w' | b'x', ..] => TypeCase::Function,
+        [b'o' | b'O' | b'w' | b'x', ..] => TypeCase::Function,
+        [b't' | b'T', ..] => TypeCase::SavedRow,
         [b'v', ..] => TypeCase::Vector,
         [b'p', ..] => TypeCase::Expansion,
         [b'F', ..] => TypeCase::Float,
@@ -218,9 +227,11 @@ fn d_case(bytes: &[u8]) -> TypeCase
 /// Returns the case of an `<exception-spec>`.
 pub fn exception_case(bytes: &[u8]) -> ExceptionCase
     ensures value { result ≡ spec.case_of_exception bytes.now }
+    ensures some { result ≡ exception.Computed → 0 < length bytes.now }
 {
     match bytes {
         [b'D', b'o', ..] => ExceptionCase::Noexcept,
+        [b'D', b'O', ..] => ExceptionCase::Computed,
         [b'D', b'w', ..] => ExceptionCase::Throw,
         _ => ExceptionCase::None,
     }
@@ -229,10 +240,13 @@ pub fn exception_case(bytes: &[u8]) -> ExceptionCase
 /// Returns the case of a `<template-arg>`.
 pub fn arg_case(bytes: &[u8]) -> ArgCase
     ensures value { result ≡ spec.case_of_arg bytes.now }
+    ensures some { result ≡ arg.Expression → 0 < length bytes.now }
+    ensures encoding { result ≡ arg.Encoding → 0 < length bytes.now }
 {
     match bytes {
+        [b'X', ..] => ArgCase::Expression,
         [b'J', ..] => ArgCase::Pack,
-        [b'L', b'Z', ..] => ArgCase::Unread,
+        [b'L', b'Z', ..] => ArgCase::Encoding,
         [b'L', ..] => ArgCase::Literal,
         _ => ArgCase::Type,
     }
@@ -241,15 +255,103 @@ pub fn arg_case(bytes: &[u8]) -> ArgCase
 /// Returns the case of an `<expr-primary>`, after its `L`.
 pub fn literal_case(bytes: &[u8]) -> LiteralCase
     ensures value { result ≡ spec.case_of_literal bytes.now }
+    ensures some { result ≡ literal.Encoding → 0 < length bytes.now }
 {
     match bytes {
         [b'b', ..] => LiteralCase::Bool,
+        [b'f', ..] => LiteralCase::Float(FloatFormat::Single),
+        [b'd', ..] => LiteralCase::Float(FloatFormat::Double),
+        [b'e', ..] => LiteralCase::Float(FloatFormat::Extended),
+        [b'_', b'Z', ..] => LiteralCase::Encoding,
+        [b'A', ..] => LiteralCase::String,
         [b'D', b'n', ..] => LiteralCase::Null,
-        [b'f' | b'd' | b'e' | b'_' | b'A' | b'T' | b'U', ..] => LiteralCase::Unread,
+        [b'U', b'l', ..] => LiteralCase::Lambda,
+        [b'_' | b'T' | b'U', ..] => LiteralCase::Unread,
         _ => if integer_of(bytes).is_some() {
             LiteralCase::Integer
         } else {
             LiteralCase::Typed
         },
+    }
+}
+
+/// Returns the case of an `<expression>` that is no row.
+pub fn expression_case(bytes: &[u8]) -> ExpressionCase
+    ensures value { result ≡ spec.case_of_expression bytes.now }
+{
+    match bytes {
+        [b'n', b'w', ..] => ExpressionCase::New(false, false),
+        [b'n', b'a', ..] => ExpressionCase::New(false, true),
+        [b'g', b's', rest @ ..] => global_case(rest),
+        [b'L', ..] => ExpressionCase::Literal,
+        [b'T', ..] => ExpressionCase::Param,
+        [b'f', b'p' | b'L', ..] => ExpressionCase::FunctionParam,
+        [b's', b'o', ..] => ExpressionCase::Subobject,
+        [b'u', ..] => ExpressionCase::Vendor,
+        [b'a', b'w', ..] => ExpressionCase::Unread,
+        _ => ExpressionCase::Name,
+    }
+}
+
+// The case of an expression that begins with `gs`, by what is behind it.
+fn global_case(bytes: &[u8]) -> ExpressionCase
+    ensures value { result ≡ spec.case_of_expression (letter "g" ∷ letter "s" ∷ bytes.now) }
+{
+    match bytes {
+        [b'n', b'w', ..] => ExpressionCase::New(true, false),
+        [b'n', b'a', ..] => ExpressionCase::New(true, true),
+        [b's', b'r', ..] | [b'o' | b'd', b'n', ..] | [b'0'..=b'9', ..] => {
+            ExpressionCase::GlobalName
+        }
+        _ => ExpressionCase::Name,
+    }
+}
+
+/// Returns the case of an `<unresolved-name>`, after its `gs`.
+pub fn unresolved_case(bytes: &[u8]) -> UnresolvedCase
+    ensures value { result ≡ spec.case_of_unresolved bytes.now }
+{
+    match bytes {
+        [b's', b'r', b'0'..=b'9', ..] => UnresolvedCase::Simple,
+        [b's', b'r', b'S', b't', ..] => UnresolvedCase::Type,
+        [b's', b'r', b'N', b'S', b't', ..] => UnresolvedCase::Type,
+        [b's', b'r', b'N', b'0'..=b'9', ..] => UnresolvedCase::Type,
+        [b's', b'r', b'N', ..] => UnresolvedCase::Nested,
+        [b's', b'r', ..] => UnresolvedCase::Unresolved,
+        _ => UnresolvedCase::Base,
+    }
+}
+
+/// Returns the case of an `<unresolved-type>`.
+pub fn unresolved_type_case(bytes: &[u8]) -> UnresolvedTypeCase
+    ensures value { result ≡ spec.case_of_unresolved_type bytes.now }
+    ensures some { result ≡ unresolved_type.Decltype → 0 < length bytes.now }
+{
+    match bytes {
+        [b'T', ..] => UnresolvedTypeCase::Param,
+        [b'D', b't' | b'T', ..] => UnresolvedTypeCase::Decltype,
+        [b'S', ..] => UnresolvedTypeCase::Substitution,
+        _ => UnresolvedTypeCase::Unread,
+    }
+}
+
+/// Returns the case of a `<base-unresolved-name>`.
+pub fn base_name_case(bytes: &[u8]) -> BaseNameCase
+    ensures value { result ≡ spec.case_of_base_name bytes.now }
+{
+    match bytes {
+        [b'0'..=b'9', ..] => BaseNameCase::Simple,
+        [b'd', b'n', ..] => BaseNameCase::Destructor,
+        _ => BaseNameCase::Operator,
+    }
+}
+
+/// Returns whether an initializer's values follow: `pi`.
+pub fn begins_values(bytes: &[u8]) -> bool
+    ensures value { result ≡ begins (codes "pi") bytes.now }
+{
+    match bytes {
+        [b'p', b'i', ..] => true,
+        _ => false,
     }
 }

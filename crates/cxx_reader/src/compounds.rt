@@ -1,5 +1,5 @@
 //! Types of functions, arrays, vectors and pointers to members (Itanium C++ ABI 5.1.5).
-#![tactic(auto, using(crate::proofs::Rules::productions), unfolding(cxx_tree::specs::Grows::Makes, cxx_tree::specs::Stored::tree_of, cxx_tree::specs::Stored::plain_tree, cxx_tree::specs::Stored::IsBelow, cxx_tree::specs::Stored::IsPlainBelow, cxx_tree::specs::Stored::stands, crate::specs::Outcome::list_trees, cxx_grammar::specs::Types::exception_as))]
+#![tactic(auto, using(crate::proofs::Rules::productions), unfolding(cxx_tree::specs::Grows::Makes, cxx_tree::specs::Stored::tree_of, cxx_tree::specs::Stored::plain_tree, cxx_tree::specs::Stored::IsBelow, cxx_tree::specs::Stored::IsPlainBelow, cxx_tree::specs::Stored::stands, crate::specs::Outcome::list_trees, cxx_grammar::specs::Types::exception_as, cxx_grammar::specs::Types::parse_dimension))]
 
 ghost use Rattle.std.specs.Prelude.{◌≡◌, ℕ, ◌<◌, ◌≤◌, length, take, OnOk, IfSome, option_map};
 ghost use Rattle.abi_scalars.specs.Texts.{begins_source};
@@ -13,7 +13,8 @@ ghost use Rattle.cxx_reader.specs.Outcome.{state, trees_behind, list_trees, Keep
 
 use crate::cases::{begins, exception_case};
 use crate::reader::Reader;
-use crate::rows::{read_items, read_list};
+use crate::rows::{read_items, read_list, read_row, read_size};
+use crate::specials::computed_noexcept_row;
 use crate::types::read_type;
 use abi_scalars::texts::begins_source;
 use cxx_grammar::cases::ExceptionCase;
@@ -67,6 +68,10 @@ fn read_exception(reader: &mut Reader, depth: usize) -> Result<Option<u32>, Stop
             let word = tri!(reader.read_noexcept());
             Ok(Some(word))
         }
+        ExceptionCase::Computed => {
+            let exception = tri!(read_row(reader, depth, computed_noexcept_row()));
+            Ok(Some(exception))
+        }
         ExceptionCase::Throw => {
             let exception = tri!(read_throw(reader, depth));
             Ok(Some(exception))
@@ -101,7 +106,7 @@ fn read_function_params(reader: &mut Reader, depth: usize) -> Result<(), Stop>
     read_items(reader, depth, Item::Param, End::Function, from)
 }
 
-/// Reads `<array-type> ::= A [<number>] _ <type>`, and saves it.
+/// Reads `<array-type> ::= A [<size>] _ <type>`, and saves it.
 #[cycle(reader)]
 #[inline(never)]
 pub fn read_array_type(reader: &mut Reader, depth: usize, is_bare: bool) -> Result<u32, Stop>
@@ -110,14 +115,14 @@ pub fn read_array_type(reader: &mut Reader, depth: usize, is_bare: bool) -> Resu
     ensures moves { OnOk result (Moves reader.old reader.new) }
 {
     reader.skip(1);
-    let dimension = tri!(reader.read_dimension());
+    let dimension = tri!(read_dimension(reader, depth));
     let element = tri!(read_type(reader, depth, is_bare));
     let t = tri!(reader.arena.make_array(element, dimension));
     tri!(reader.arena.save(t));
     Ok(t)
 }
 
-/// Reads `<vector-type> ::= Dv [<number>] _ <type> | Dv <number> _ p`, and saves it.
+/// Reads `<vector-type> ::= Dv [<size>] _ <type> | Dv <number> _ p`, and saves it.
 #[cycle(reader)]
 #[inline(never)]
 pub fn read_vector_type(reader: &mut Reader, depth: usize, is_bare: bool) -> Result<u32, Stop>
@@ -130,11 +135,24 @@ pub fn read_vector_type(reader: &mut Reader, depth: usize, is_bare: bool) -> Res
         return Err(Stop::Unreadable);
     }
     let is_number = begins_source(reader.rest);
-    let dimension = tri!(reader.read_dimension());
+    let dimension = tri!(read_dimension(reader, depth));
     let element = tri!(read_element(reader, depth, is_bare, is_number));
     let t = tri!(reader.arena.make_vector(element, dimension));
     tri!(reader.arena.save(t));
     Ok(t)
+}
+
+// Reads `[<size>] _`.
+#[cycle(reader)]
+fn read_dimension(reader: &mut Reader, depth: usize) -> Result<Option<u32>, Stop>
+    ensures reads { GivesOption result reader.new (spec.parse_dimension (productions depth) (state reader.old)) }
+    ensures moves { OnOk result (Moves reader.old reader.new) }
+{
+    if reader.skip_letter(b'_') {
+        return Ok(None);
+    }
+    let size = tri!(read_size(reader, depth));
+    Ok(Some(size))
 }
 
 // Reads the type of the elements of a vector, which may be `p` behind a number.

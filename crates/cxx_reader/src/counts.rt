@@ -2,7 +2,7 @@
 #![tactic(auto, using(crate::proofs::Kept::readers), unfolding(cxx_tree::specs::Grows::Makes, cxx_tree::specs::Stored::stands, crate::specs::Outcome::list_trees))]
 
 ghost use Rattle.std.specs.Prelude.{◌≡◌, [], ◌<◌, ◌≤◌, length, OnOk, None};
-ghost use Rattle.cxx_tree.specs.Phrases.{closure};
+ghost use Rattle.cxx_tree.specs.Phrases.{closure, lambda};
 ghost use Rattle.cxx_tree.specs.Stored.{size, text_at, list_at, IsText, IsListBelow};
 ghost use Rattle.cxx_tree.specs.Tree.{no_trees};
 ghost use Rattle.cxx_grammar.specs.Ordinals.{ordinal_of};
@@ -54,6 +54,41 @@ impl<'a> Reader<'a> {
         let digits = tri!(self.read_count());
         let t = tri!(self.make_counted(params, digits));
         self.bind_closure(level, t)
+    }
+
+    /// Reads `[<number>] _` behind the parameters of a lambda, and makes its value. It binds the template parameters of
+    /// its level.
+    pub fn read_lambda_end(&mut self, level: u64, params: List) -> Result<u32, Stop>
+        requires params { IsListBelow self.old.arena.held (size self.old.arena) params }
+        ensures reads { Gives result self.new (spec.parse_lambda_end level (list_trees self.old.arena params)
+            (state self.old)) }
+        ensures keeps { OnOk result (Keeps self.old self.new) }
+    {
+        tri!(self.read_count());
+        let t = tri!(self.make_lambda(params));
+        self.bind_closure(level, t)
+    }
+
+    // Makes a lambda without declarations and constraints.
+    fn make_lambda(&mut self, params: List) -> Result<u32, Stop>
+        requires params { IsListBelow self.old.arena.held (size self.old.arena) params }
+        ensures reads { Gives result self.new (make (lambda no_trees None (list_trees self.old.arena params) None)
+            (state self.old)) }
+        ensures keeps { OnOk result (Keeps self.old self.new) }
+        ensures rest { OnOk result (self.new.rest.now ≡ self.old.rest.now) }
+    {
+        match self.arena.list(&[]) {
+            Ok(declarations) => {
+                let signature = Signature {
+                    declarations,
+                    before: None,
+                    params,
+                    behind: None,
+                };
+                self.arena.make_lambda(self.alloc, signature)
+            }
+            Err(_) => Err(Stop::Memory),
+        }
     }
 
     // Makes a closure with its count.

@@ -1,13 +1,14 @@
 //! What of types holds no type.
-#![tactic(auto, using(crate::proofs::Kept::readers), unfolding(cxx_tree::specs::Stored::stands, cxx_tree::specs::Stored::tree_of, cxx_tree::specs::Stored::plain_tree, cxx_tree::specs::Stored::IsBelow, cxx_tree::specs::Stored::IsPlainBelow, cxx_tree::specs::Grows::Makes, cxx_grammar::specs::Parses::past_word_if, cxx_grammar::specs::Types::parse_function_mark, cxx_grammar::specs::Types::parse_dimension, cxx_grammar::specs::Leaves::parse_size, cxx_grammar::specs::Leaves::parse_float_type))]
+#![tactic(auto, using(crate::proofs::Kept::readers), unfolding(cxx_tree::specs::Stored::stands, cxx_tree::specs::Stored::tree_of, cxx_tree::specs::Stored::plain_tree, cxx_tree::specs::Stored::IsBelow, cxx_tree::specs::Stored::IsPlainBelow, cxx_tree::specs::Grows::Makes, cxx_grammar::specs::Parses::past_word_if, cxx_grammar::specs::Types::parse_function_mark, cxx_grammar::specs::Leaves::parse_float_type))]
 
 ghost use Rattle.std.specs.Prelude.{◌≡◌, ℕ, ◌<◌, ◌≤◌, ◌++◌, codes, length, take, OnOk, IfSome, Some, option_map};
 ghost use Rattle.cxx_tree.specs.Stored.{stands};
 ghost use Rattle.cxx_tree.specs.Kept.{KeepsNodes, IsNode};
 ghost use Rattle.cxx_grammar.specs.Leaves as leaves;
+ghost use Rattle.cxx_grammar.specs.Rows as rows;
 ghost use Rattle.cxx_grammar.specs.Parses.{make};
 ghost use Rattle.cxx_grammar.specs.Types as spec;
-ghost use Rattle.cxx_reader.specs.Outcome.{state, trees_behind, Keeps, Moves, Gives, GivesOption, GivesText, GivesUnit};
+ghost use Rattle.cxx_reader.specs.Outcome.{state, trees_behind, Keeps, Moves, Gives, GivesText, GivesUnit};
 
 use crate::cases::{begins_brain, begins_digit};
 use crate::reader::Reader;
@@ -88,26 +89,13 @@ impl<'a> Reader<'a> {
         read
     }
 
-    /// Reads `<number> _`, the size of an array, of a vector or of an integer.
-    pub fn read_size(&mut self) -> Result<u32, Stop>
-        ensures reads { Gives result self.new (leaves.parse_size (state self.old)) }
-        ensures moves { OnOk result (Moves self.old self.new) }
+    /// Reads the number that is the size of an array, of a vector or of an integer.
+    pub fn read_number_size(&mut self) -> Result<u32, Stop>
+        ensures reads { Gives result self.new (rows.parse_number_size (state self.old)) }
+        ensures keeps { OnOk result (Keeps self.old self.new) }
     {
-        let number = tri!(self.read_some_digits());
-        tri!(self.expect(b'_'));
+        let number = self.read_digits();
         self.arena.make_name(number)
-    }
-
-    /// Reads `[<number>] _`.
-    pub fn read_dimension(&mut self) -> Result<Option<u32>, Stop>
-        ensures reads { GivesOption result self.new (spec.parse_dimension (state self.old)) }
-        ensures moves { OnOk result (Moves self.old self.new) }
-    {
-        if self.skip_letter(b'_') {
-            return Ok(None);
-        }
-        let size = tri!(self.read_size());
-        Ok(Some(size))
     }
 
     /// Reads `DF16b`, `DF <number> _` or `DF <number> x`.

@@ -21,6 +21,8 @@ use crate::bases::{base_name, is_param_class, is_with_args, short_std};
 use crate::cases::{base_case, begins, component_case, first_case, name_case};
 use crate::locals::read_local_name;
 use crate::reader::{Info, LearnedName, Reader};
+use crate::rows::read_row;
+use crate::specials::decltype_row;
 use crate::types::read_type;
 use crate::unnamed::read_closure;
 use abi_scalars::texts::begins_source;
@@ -280,9 +282,9 @@ fn is_conversion(case: BaseCase) -> bool
     }
 }
 
-// Reads a name without a scope and without tags.
+/// Reads a name without a scope and without tags.
 #[cycle(reader)]
-fn read_base(reader: &mut Reader, depth: usize, case: BaseCase) -> Result<u32, Stop>
+pub fn read_base(reader: &mut Reader, depth: usize, case: BaseCase) -> Result<u32, Stop>
     ensures reads { Gives result reader.new (spec.base_as (productions depth) case (state reader.old)) }
     ensures moves { OnOk result (Moves reader.old reader.new) }
 {
@@ -360,6 +362,7 @@ fn read_first(reader: &mut Reader, depth: usize, info: Info) -> Result<LearnedNa
         FirstCase::Std => read_first_std(reader, depth, info),
         FirstCase::Substitution => read_first_substitution(reader, depth, info),
         FirstCase::Param => reader.read_first_param(info),
+        FirstCase::Decltype => read_first_decltype(reader, depth, info),
         FirstCase::Unqualified => read_unqualified_name(reader, depth, nested(None, info)),
     }
 }
@@ -375,6 +378,19 @@ fn read_first_std(reader: &mut Reader, depth: usize, info: Info) -> Result<Learn
     reader.skip(2);
     let node = tri!(reader.make_std());
     read_component(reader, depth, LearnedName { node, info })
+}
+
+#[cycle(reader)]
+#[inline(never)]
+fn read_first_decltype(reader: &mut Reader, depth: usize, info: Info) -> Result<LearnedName, Stop>
+    requires info { IsInfo reader.old.arena info }
+    requires rest { 0 < length reader.old.rest.now }
+    ensures reads { GivesNamed result reader.new (spec.first_decltype (productions depth)
+        (info_at reader.old.arena info) (state reader.old)) }
+    ensures moves { OnOk result (Moves reader.old reader.new) }
+{
+    let node = tri!(read_row(reader, depth, decltype_row()));
+    Ok(LearnedName { node, info })
 }
 
 #[cycle(reader)]

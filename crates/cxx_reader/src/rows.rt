@@ -1,5 +1,5 @@
 //! Lists of items, and productions that are a row of items.
-#![tactic(auto, using(crate::proofs::Rules::productions), unfolding(cxx_tree::specs::Grows::Makes, cxx_tree::specs::Stored::stands, crate::specs::Outcome::named_at, cxx_grammar::specs::Rows::tree_as, cxx_grammar::specs::Rows::item_as, cxx_grammar::specs::Rows::ends, cxx_grammar::specs::Rows::parse_params))]
+#![tactic(auto, using(crate::proofs::Rules::productions), unfolding(cxx_tree::specs::Grows::Makes, cxx_tree::specs::Stored::stands, crate::specs::Outcome::named_at, cxx_grammar::specs::Rows::tree_as, cxx_grammar::specs::Rows::item_as, cxx_grammar::specs::Rows::ends, cxx_grammar::specs::Rows::parse_params, cxx_grammar::specs::Rows::parse_size))]
 
 ghost use Rattle.std.specs.Prelude.{◌≡◌, ℕ, ◌<◌, ◌≤◌, length, drop, true, OnOk};
 ghost use Rattle.std.specs.List.{AllByRecursion};
@@ -8,13 +8,14 @@ ghost use Rattle.cxx_grammar.specs.Parses.{item_more};
 ghost use Rattle.cxx_grammar.specs.Productions.{name_tree};
 ghost use Rattle.cxx_grammar.specs.Rows as spec;
 ghost use Rattle.cxx_grammar.specs.Symbol.{productions};
-ghost use Rattle.cxx_reader.specs.Outcome.{state, trees_behind, KeepsFront, Moves, Gives, GivesFrom, GivesList};
-ghost use Rattle.cxx_grammar.specs.declared.rows.Item.TheVariants.{Param as param};
+ghost use Rattle.cxx_reader.specs.Outcome.{state, trees_behind, Keeps, KeepsFront, Moves, Gives, GivesFrom, GivesList};
+ghost use Rattle.cxx_grammar.specs.declared.rows.Item.TheVariants.{Param as param, Operands as operands};
 ghost use Rattle.cxx_reader.specs.Rows.{row_at};
 
 use crate::args::read_arg;
-use crate::cases::{begins, is_encoding_end, is_function_end};
+use crate::cases::{begins, begins_digit, is_encoding_end, is_function_end};
 use crate::encodings::read_encoding;
+use crate::expressions::{read_braced, read_expression};
 use crate::names::read_name;
 use crate::reader::Reader;
 use crate::types::read_type;
@@ -68,11 +69,60 @@ fn read_item(reader: &mut Reader, depth: usize, item: Item, from: usize) -> Resu
     ensures keeps { OnOk result (KeepsFront from reader.old reader.new) }
 {
     match item {
+        Item::Expressions => read_rest(reader, depth, Item::Expression, from),
+        Item::Braces => read_rest(reader, depth, Item::Braced, from),
+        Item::Args => read_rest(reader, depth, Item::Arg, from),
+        Item::Operands => read_operands(reader, depth, from),
         Item::Offset => reader.skip_offset(),
         Item::CallOffset => reader.skip_call_offset(),
         Item::SeqId => reader.skip_seq_id(),
+        Item::Number => reader.skip_optional_number(),
+        Item::E => reader.expect(b'E'),
         _ => collect(reader, depth, item, from),
     }
+}
+
+// Reads the items of a list up to an `E`, which is read too, and collects their nodes.
+#[cycle(reader)]
+#[inline(never)]
+fn read_rest(reader: &mut Reader, depth: usize, item: Item, from: usize) -> Result<(), Stop>
+    requires within { from ≤ length reader.old.arena.pending }
+    requires nodes { AllByRecursion (IsNode reader.old.arena) (drop from reader.old.arena.pending) }
+    ensures reads { GivesFrom result from reader.new (spec.rest_after (productions depth) item
+        (trees_behind from reader.old.arena) (state reader.old)) }
+    ensures keeps { OnOk result (KeepsFront from reader.old reader.new) }
+{
+    tri!(read_items(reader, depth, item, End::E, from));
+    reader.skip(1);
+    Ok(())
+}
+
+// Reads `<expression>` or `_ <expression>* E`, and collects the nodes.
+#[cycle(reader)]
+fn read_operands(reader: &mut Reader, depth: usize, from: usize) -> Result<(), Stop>
+    requires within { from ≤ length reader.old.arena.pending }
+    requires nodes { AllByRecursion (IsNode reader.old.arena) (drop from reader.old.arena.pending) }
+    ensures reads { GivesFrom result from reader.new (spec.item_as (productions depth)
+        (trees_behind from reader.old.arena) operands (state reader.old)) }
+    ensures keeps { OnOk result (KeepsFront from reader.old reader.new) }
+{
+    if begins(reader.rest, b'_') {
+        return read_operand_list(reader, depth, from);
+    }
+    collect(reader, depth, Item::Expression, from)
+}
+
+// Reads `_ <expression>* E`, and collects the nodes.
+#[cycle(reader)]
+fn read_operand_list(reader: &mut Reader, depth: usize, from: usize) -> Result<(), Stop>
+    requires within { from ≤ length reader.old.arena.pending }
+    requires nodes { AllByRecursion (IsNode reader.old.arena) (drop from reader.old.arena.pending) }
+    ensures reads { GivesFrom result from reader.new (spec.parse_operands (productions depth)
+        (trees_behind from reader.old.arena) (state reader.old)) }
+    ensures keeps { OnOk result (KeepsFront from reader.old reader.new) }
+{
+    reader.skip(1);
+    read_rest(reader, depth, Item::Expression, from)
 }
 
 /// Reads the items of a list up to its end, and collects their nodes. Those that were collected from `from` on are
@@ -103,7 +153,6 @@ pub fn read_items(
 #[cycle(reader)]
 #[inline(always)]
 pub fn read_list(reader: &mut Reader, depth: usize, n: usize, item: Item) -> Result<List, Stop>
-    requires n { 0 < n }
     ensures reads { GivesList result reader.new (spec.parse_list (productions depth) n item (state reader.old)) }
     ensures moves { OnOk result (Moves reader.old reader.new) }
 {
@@ -167,7 +216,13 @@ fn read_tree(reader: &mut Reader, depth: usize, item: Item) -> Result<u32, Stop>
     match item {
         Item::Type => read_type(reader, depth, false),
         Item::Param => read_param(reader, depth),
-        Item::Size => reader.read_size(),
+        Item::BareType => read_type(reader, depth, true),
+        Item::Expression => read_expression(reader, depth),
+        Item::Braced => read_braced(reader, depth),
+        Item::SourceName => reader.read_source_name(),
+        Item::TemplateParam => reader.read_template_param(),
+        Item::FunctionParam => reader.read_function_param(),
+        Item::Size => read_size(reader, depth),
         Item::Name => read_name_tree(reader, depth),
         Item::Arg => read_arg(reader, depth),
         Item::Encoding => read_encoding(reader, depth),
@@ -185,6 +240,29 @@ fn read_param(reader: &mut Reader, depth: usize) -> Result<u32, Stop>
         return Err(Stop::Unreadable);
     }
     read_type(reader, depth, false)
+}
+
+/// Reads `<number> _` or `<expression> _`, the size of an array, of a vector or of an integer.
+#[cycle(reader)]
+pub fn read_size(reader: &mut Reader, depth: usize) -> Result<u32, Stop>
+    ensures reads { Gives result reader.new (spec.parse_size (productions depth) (state reader.old)) }
+    ensures moves { OnOk result (Moves reader.old reader.new) }
+{
+    let size = tri!(read_size_inside(reader, depth));
+    tri!(reader.expect(b'_'));
+    Ok(size)
+}
+
+// Reads `<number>` or `<expression>`.
+#[cycle(reader)]
+fn read_size_inside(reader: &mut Reader, depth: usize) -> Result<u32, Stop>
+    ensures reads { Gives result reader.new (spec.parse_size_inside (productions depth) (state reader.old)) }
+    ensures keeps { OnOk result (Keeps reader.old reader.new) }
+{
+    if begins_digit(reader.rest) {
+        return reader.read_number_size();
+    }
+    read_expression(reader, depth)
 }
 
 /// Reads `<name>`, of which nothing else matters.
@@ -207,5 +285,6 @@ fn is_end(bytes: &[u8], end: End) -> bool
         End::E => begins(bytes, b'E'),
         End::Encoding => is_encoding_end(bytes),
         End::Function => is_function_end(bytes),
+        End::Underscore => begins(bytes, b'_'),
     }
 }

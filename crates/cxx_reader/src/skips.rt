@@ -3,12 +3,13 @@
 
 ghost use Rattle.std.specs.Prelude.{◌≡◌, ◌<◌, ◌≤◌, [], ◌∷◌, length, OnOk};
 ghost use Rattle.cxx_grammar.specs.Leaves as leaves;
+ghost use Rattle.cxx_grammar.specs.Rows as rows;
 ghost use Rattle.cxx_grammar.specs.Parses.{past_word};
 ghost use Rattle.cxx_reader.specs.Outcome.{state, GivesUnit};
 
 use crate::reader::Reader;
 use abi_scalars::numerals::Radix;
-use abi_scalars::texts::{digits, number_text};
+use abi_scalars::texts::{digits, number_text, optional_number_text};
 use cxx_tree::Stop;
 
 impl<'a> Reader<'a> {
@@ -35,6 +36,19 @@ impl<'a> Reader<'a> {
         };
         self.rest = rest;
         self.expect(b'_')
+    }
+
+    /// Skips `[<number>]`.
+    pub fn skip_optional_number(&mut self) -> Result<(), Stop>
+        ensures reads { GivesUnit result self.new (rows.skip_number (state self.old)) }
+        ensures arena { self.new.arena ≡ self.old.arena }
+        ensures within { OnOk result (length self.new.rest.now ≤ length self.old.rest.now) }
+    {
+        let Some((_, rest)) = optional_number_text(self.rest) else {
+            return Err(Stop::Unreadable);
+        };
+        self.rest = rest;
+        Ok(())
     }
 
     /// Skips `<call-offset> ::= h <number> _ | v <number> _ <number> _`.

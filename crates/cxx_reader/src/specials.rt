@@ -2,12 +2,14 @@
 #![tactic(auto, unfolding(cxx_grammar::specs::Rows::t_special_of, cxx_grammar::specs::Rows::g_special_of, cxx_grammar::specs::Rows::type_row_of))]
 
 ghost use Rattle.std.specs.Prelude.{◌≡◌, ◌<◌, [], ◌∷◌, Some, length, option_map, IfSome};
-ghost use Rattle.cxx_grammar.specs.declared.rows.Item.TheVariants.{CallOffset, Encoding, Size};
+ghost use Rattle.cxx_grammar.specs.declared.rows.Item.TheVariants.{CallOffset, Encoding};
 ghost use Rattle.cxx_grammar.specs.declared.rows.Maker.TheVariants.{Prefixed, Enclosing};
+ghost use Rattle.cxx_tree.specs.declared.kinds.Prec.TheVariants.{Primary};
 ghost use Rattle.cxx_grammar.specs.Rows as spec;
 ghost use Rattle.cxx_reader.specs.Rows.{row_at};
 
 use cxx_grammar::rows::{Item, Maker, Row};
+use cxx_tree::Prec;
 
 // A row of words and items, behind a code of so many letters.
 fn behind_words(
@@ -138,23 +140,23 @@ fn clone(words: &'static [u8]) -> Option<Row>
     behind_words(3, &[Item::Encoding], words, words)
 }
 
-// The row of an integer type of a size.
-fn enclosed_by(words: &'static [u8]) -> Option<Row>
-    ensures value { option_map row_at result ≡ Some (record {
+// A row of words and items in parentheses, behind a code of two letters.
+fn enclosing(items: &'static [Item], llvm: &'static [u8], gnu: &'static [u8]) -> Row
+    ensures value { row_at result ≡ record {
       skip = 2;
-      items = Size ∷ [];
-      maker = Enclosing;
-      words = record { llvm = words.entry.now; gnu = words.entry.now };
-    }) }
-    ensures some { IfSome result (λ row. 0 < row.skip) }
+      items = items.entry.now;
+      maker = Enclosing Primary;
+      words = record { llvm = llvm.entry.now; gnu = gnu.entry.now };
+    } }
+    ensures some { 0 < result.skip }
 {
-    Some(Row {
+    Row {
         skip: 2,
-        items: &[Item::Size],
-        maker: Maker::Enclosing,
-        llvm: words,
-        gnu: words,
-    })
+        items,
+        maker: Maker::Enclosing(Prec::Primary),
+        llvm,
+        gnu,
+    }
 }
 
 /// Returns the row of the type whose code is next, or `None` if there is none.
@@ -163,11 +165,63 @@ pub fn type_row(bytes: &[u8]) -> Option<Row>
     ensures some { IfSome result (λ row. (0 < row.skip) × (0 < length bytes.now)) }
 {
     match bytes {
-        [b'D', b'B', ..] => enclosed_by(b"_BitInt"),
-        [b'D', b'U', ..] => enclosed_by(b"unsigned _BitInt"),
+        [b'D', b't' | b'T', ..] => Some(decltype_row()),
+        [b'D', b'B', ..] => Some(enclosing(&[Item::Size], b"_BitInt", b"_BitInt")),
+        [b'D', b'U', ..] => Some(enclosing(
+            &[Item::Size],
+            b"unsigned _BitInt",
+            b"unsigned _BitInt",
+        )),
         [b'T', b's', ..] => behind(b"struct ", &[Item::Name]),
         [b'T', b'u', ..] => behind(b"union ", &[Item::Name]),
         [b'T', b'e', ..] => behind(b"enum ", &[Item::Name]),
         _ => None,
     }
+}
+
+/// Returns the row `<decltype> ::= Dt <expression> E | DT <expression> E`.
+pub fn decltype_row() -> Row
+    ensures value { row_at result ≡ spec.decltype_row }
+    ensures some { 0 < result.skip }
+{
+    enclosing(&[Item::Expression, Item::E], b"decltype", b"decltype ")
+}
+
+/// Returns the row `DO <expression> E` of an `<exception-spec>`.
+pub fn computed_noexcept_row() -> Row
+    ensures value { row_at result ≡ spec.computed_noexcept_row }
+    ensures some { 0 < result.skip }
+{
+    enclosing(&[Item::Expression, Item::E], b"noexcept", b"noexcept")
+}
+
+// The row of a tree that nothing is made of.
+fn same_row(skip: usize, items: &'static [Item]) -> Row
+    requires skip { 0 < skip }
+    ensures value { row_at result ≡ spec.same_row skip items.entry.now }
+    ensures some { 0 < result.skip }
+{
+    Row {
+        skip,
+        items,
+        maker: Maker::Same,
+        llvm: b"",
+        gnu: b"",
+    }
+}
+
+/// Returns the row `X <expression> E` of a `<template-arg>`.
+pub fn expression_arg_row() -> Row
+    ensures value { row_at result ≡ spec.expression_arg_row }
+    ensures some { 0 < result.skip }
+{
+    same_row(1, &[Item::Expression, Item::E])
+}
+
+/// Returns the row `_Z <encoding> E` of an `<expr-primary>`, which is that of `LZ <encoding> E` too.
+pub fn encoding_row() -> Row
+    ensures value { row_at result ≡ spec.encoding_row }
+    ensures some { 0 < result.skip }
+{
+    same_row(2, &[Item::Encoding, Item::E])
 }

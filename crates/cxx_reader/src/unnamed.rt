@@ -1,5 +1,5 @@
 //! Unnamed types and closures (Itanium C++ ABI 5.1.7).
-#![tactic(auto, using(crate::proofs::Rules::productions), unfolding(cxx_tree::specs::Grows::Makes, cxx_tree::specs::Stored::stands, crate::specs::Outcome::list_trees, cxx_grammar::specs::Unnamed::parse_closure))]
+#![tactic(auto, using(crate::proofs::Rules::productions), unfolding(cxx_tree::specs::Grows::Makes, cxx_tree::specs::Stored::stands, crate::specs::Outcome::list_trees, cxx_grammar::specs::Unnamed::parse_closure, cxx_grammar::specs::Unnamed::parse_lambda))]
 
 ghost use Rattle.std.specs.Prelude.{◌≡◌, ℕ, ◌<◌, ◌≤◌, length, OnOk};
 ghost use Rattle.cxx_grammar.specs.Unnamed as spec;
@@ -21,15 +21,39 @@ pub fn read_closure(reader: &mut Reader, depth: usize) -> Result<u32, Stop>
     ensures reads { Gives result reader.new (spec.parse_closure (productions depth) (state reader.old)) }
     ensures moves { OnOk result (Moves reader.old reader.new) }
 {
-    reader.skip(2);
     let level = reader.level;
+    let params = tri!(read_closure_params(reader, depth, level));
+    reader.read_closure_end(level, params)
+}
+
+/// Reads `<closure-type-name>` as the value of a lambda.
+#[cycle(reader)]
+#[inline(never)]
+pub fn read_lambda(reader: &mut Reader, depth: usize) -> Result<u32, Stop>
+    ensures reads { Gives result reader.new (spec.parse_lambda (productions depth) (state reader.old)) }
+    ensures moves { OnOk result (Moves reader.old reader.new) }
+{
+    let level = reader.level;
+    let params = tri!(read_closure_params(reader, depth, level));
+    reader.read_lambda_end(level, params)
+}
+
+// Reads `Ul <lambda-sig> E` at a level.
+#[cycle(reader)]
+fn read_closure_params(reader: &mut Reader, depth: usize, level: u64) -> Result<List, Stop>
+    requires level { level ≡ reader.old.level }
+    ensures reads { GivesList result reader.new (spec.parse_closure_params (productions depth) level
+        (state reader.old)) }
+    ensures moves { OnOk result (Moves reader.old reader.new) }
+{
+    reader.skip(2);
     if level >= MAX_LEVEL {
         return Err(Stop::Unreadable);
     }
     reader.level = level + 1;
     let params = tri!(read_lambda_sig(reader, depth));
     reader.level = level;
-    reader.read_closure_end(level, params)
+    Ok(params)
 }
 
 // Reads `<lambda-sig> E`.

@@ -62,6 +62,8 @@ pub struct Arena {
     pending: Vec<u32>,
     // The most nodes, items of lists, parts of phrases, bytes of texts, saved and pending nodes, each.
     limit: usize,
+    // Whether a call has failed because of the limit.
+    is_over: bool,
 }
 
 impl Model for Arena {
@@ -93,6 +95,7 @@ impl Arena {
             saved: Vec::new(alloc),
             pending: Vec::new(alloc),
             limit: MAX_LIMIT,
+            is_over: false,
         }
     }
 
@@ -113,6 +116,7 @@ impl Arena {
         self.saved.clear();
         self.pending.clear();
         self.limit = limit.min(MAX_LIMIT);
+        self.is_over = false;
     }
 
     /// Returns how many nodes there are.
@@ -129,6 +133,11 @@ impl Arena {
         ensures within { IsWithin self.now.limit self.now }
     {
         self.limit
+    }
+
+    /// Returns whether a call has failed because of the limit since the nodes were dropped.
+    pub fn is_over(&self) -> bool {
+        self.is_over
     }
 
     /// Returns a node.
@@ -249,6 +258,7 @@ impl Arena {
     {
         let index = self.entries.len();
         if index >= self.limit {
+            self.is_over = true;
             return Err(Stop::Memory);
         }
         match self.entries.push(Entry { node, counts }) {
@@ -278,7 +288,8 @@ impl Arena {
         ensures parts { self.new.held.parts ≡ self.old.held.parts }
         ensures err { OnErr result (self.new ≡ self.old) }
     {
-        range_behind(self.texts.len(), bytes.len(), self.limit)?;
+        let limit = self.limit;
+        range_behind(self.texts.len(), bytes.len(), limit, &mut self.is_over)?;
         self.texts.add_short(bytes)?;
         Ok(())
     }
@@ -327,7 +338,8 @@ impl Arena {
         ensures parts { self.new.held.parts ≡ self.old.held.parts }
         ensures err { OnErr result (self.new ≡ self.old) }
     {
-        let range = range_behind(self.lists.len(), items.len(), self.limit)?;
+        let limit = self.limit;
+        let range = range_behind(self.lists.len(), items.len(), limit, &mut self.is_over)?;
         self.lists.extend_from_slice(items)?;
         Ok(List { range })
     }
@@ -344,7 +356,8 @@ impl Arena {
         ensures lists { self.new.held.lists ≡ self.old.held.lists }
         ensures err { OnErr result (self.new ≡ self.old) }
     {
-        let range = range_behind(self.parts.len(), parts.len(), self.limit)?;
+        let limit = self.limit;
+        let range = range_behind(self.parts.len(), parts.len(), limit, &mut self.is_over)?;
         self.parts.extend_from_slice(parts)?;
         Ok(Parts { range })
     }
@@ -359,6 +372,7 @@ impl Arena {
         ensures memory { IsOkUnless result Stop.Memory }
     {
         if self.saved.len() >= self.limit {
+            self.is_over = true;
             return Err(Stop::Memory);
         }
         match self.saved.push(i) {
@@ -408,6 +422,7 @@ impl Arena {
         ensures memory { IsOkUnless result Stop.Memory }
     {
         if self.pending.len() >= self.limit {
+            self.is_over = true;
             return Err(Stop::Memory);
         }
         match self.pending.push(i) {
@@ -439,7 +454,8 @@ impl Arena {
         ensures texts { self.new.held.texts ≡ self.old.held.texts }
     {
         let more = self.pending.len() - from;
-        let range = range_behind(self.lists.len(), more, self.limit)?;
+        let limit = self.limit;
+        let range = range_behind(self.lists.len(), more, limit, &mut self.is_over)?;
         self.lists.extend_from_slice(&self.pending[from..])?;
         Ok(List { range })
     }
@@ -467,15 +483,22 @@ impl Arena {
     }
 }
 
-// The range of `more` items after `len` others, if there may be so many.
-fn range_behind(len: usize, more: usize, limit: usize) -> Result<Range, AllocError>
+// Returns the range of `more` items after `len` others, if there may be so many. Sets `is_over` otherwise.
+fn range_behind(
+    len: usize,
+    more: usize,
+    limit: usize,
+    is_over: &mut bool,
+) -> Result<Range, AllocError>
     requires len { len ≤ limit }
     requires limit { limit ≤ 4294967295 }
     ensures from { IfOk result (λ r. r.from ≡ len) }
     ensures to { IfOk result (λ r. r.to ≡ len + more) }
     ensures within { IfOk result (λ r. r.to ≤ limit) }
+    ensures over { OnErr result (is_over.new ≡ true) }
 {
     if more > limit - len {
+        *is_over = true;
         return Err(AllocError);
     }
     Ok(Range {

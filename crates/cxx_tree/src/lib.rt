@@ -30,7 +30,7 @@ mod types;
 
 pub use crate::arena::{Arena, Stop};
 pub use crate::counts::Measure;
-pub use crate::digits::{MOST_DIGITS, number_bytes};
+pub use crate::digits::{MOST_DIGITS, number_bytes, push_number};
 pub use crate::kinds::{Context, Cv, Guard, Listing, Manner, Phrase, Prec, RefQual, Role, Std};
 pub use crate::lambdas::Signature;
 pub use crate::node::{

@@ -22,8 +22,6 @@ mod memory;
 #[cfg(test)]
 mod scalars;
 #[cfg(test)]
-mod signatures;
-#[cfg(test)]
 mod tally;
 #[cfg(test)]
 mod texts;

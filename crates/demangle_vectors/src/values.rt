@@ -28,7 +28,6 @@ fn assert_name(
     assert_found(rt, demangler.text(), expected);
     let output = demangler.buffer().map(|buffer| buffer.main_bytes());
     assert!(rt; output == expected.map(|text| text.as_bytes()), "{symbol}");
-    assert!(rt; !demangler.is_signature(), "{symbol}");
 }
 
 /// Asserts the counts of the value.
@@ -43,7 +42,6 @@ fn assert_nothing_left(rt: &impl Abort, demangler: &Demangler) {
     assert_counts(rt, demangler, 0, 0);
     assert!(rt; demangler.component(0).is_none());
     assert!(rt; demangler.buffer().is_none());
-    assert!(rt; !demangler.is_signature());
 }
 
 /// Asserts that a new value has nothing, and returns names.

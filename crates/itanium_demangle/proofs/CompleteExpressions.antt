@@ -25,7 +25,7 @@ use Rattle.itanium_demangle.proofs.CompleteNames.{template_param_complete, encod
 module _ (d : ℕ) (kinds : TypesComplete d) (bares : BareNamesComplete d) (thunks : ThunksComplete d) where
   literal_met : {case : PrimaryCase} {x : Context} {p q : Position} {t : Tree} {c : Cost} → PrimaryAs case x p t q c → Small d c → (e m : ℕ)
       → Met text_len (literal_as case (parse_type d x) (parse_encoding d AtE (inside_encoding x)) (state_at p e m)) (reached shape_of t q c e m)
-  literal_met (external_name a end) deep e m = met_then _ (encoding_met d kinds bares thunks a deep e m) (omega arith) (met (rw end refl))
+  literal_met (external_name a end) deep e m = met_then _ (encoding_met d kinds bares thunks AtE a deep e m) (omega arith) (met (rw end refl))
   literal_met (value_literal {t = t} {value = v} a found has) deep e m =
       met (rw (kinds _ _ _ _ _ a deep e m, found, has) (same_read (sym (shape-literal_of t v)) refl refl refl refl))
 

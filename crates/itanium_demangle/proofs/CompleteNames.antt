@@ -15,8 +15,8 @@ use Rattle.itanium_syntax.specs.Names.{segment_case}
 use Rattle.itanium_syntax.specs.Names.{name_case, name_quals, tag_case}
 use Rattle.abi_scalars.specs.Scalars.{source_text}
 use Rattle.itanium_reader.specs.Parser.{shows_words}
-use Rattle.itanium_syntax.specs.Context.{inside_lambda, showing_words, inside_encoding, inside_params}
-use Rattle.itanium_syntax.specs.Encodings.{ends_here, encoding_case}
+use Rattle.itanium_syntax.specs.Context.{inside_lambda, showing_words, inside_encoding}
+use Rattle.itanium_syntax.specs.Encodings.{encoding_case}
 use Rattle.itanium_syntax.proofs.Fronts.{alone_after_name, initializer_after, after_drop, source_takes, after-le}
 use Rattle.itanium_grammar.specs.Tree.{Tree, bare_shape, own_quals, thunk_of, with_args, trees, unnamed_text, literal_operator_text, shape_of, name_printing}
 use Rattle.itanium_grammar.specs.Grammar.{Position, Cost, with_rest, SpecialAs, special_encoding}
@@ -36,14 +36,14 @@ use Rattle.itanium_grammar.specs.Grammar.{full_encoding, no_return_type, some_re
 use Rattle.itanium_grammar.specs.Grammar.{unscoped_name, std_name, substitution_name, plain_name, none_attached}
 use Rattle.itanium_grammar.specs.Grammar.{args_attached, nested, end_of_segments, args_segment, name_segment}
 use Rattle.itanium_grammar.proofs.Progress.{unqualified_takes, args_takes}
-use Rattle.itanium_grammar.specs.Cases.{EncodingEnd, AfterName, AtE, AtSymbolEnd, EncodingCase, SpecialCase, ReturnCase, EncodingParamsCase, EntityCase}
+use Rattle.itanium_grammar.specs.Cases.{EncodingEnd, AfterName, AtE, EncodingCase, SpecialCase, ReturnCase, EncodingParamsCase, EntityCase}
 use Rattle.itanium_grammar.specs.Cases.{SubstitutionCase, TagCase, UnqualifiedCase, OrdinaryCase, FirstSegmentCase, NameCase}
 use Rattle.itanium_grammar.specs.Cases.{UnscopedCase, AttachedCase, SegmentCase}
 use Rattle.itanium_reader.specs.Parser.{ParserState, after_turn, loop, ◌>>=◌, tag_as, tag_turn, parse_tags, ordinary_as}
 use Rattle.itanium_reader.specs.Parser.{parse_ordinary, parse_type, substitution_as, parse_substitution, template_param_as}
 use Rattle.itanium_reader.specs.Parser.{parse_template_param, unqualified_as, parse_unqualified, first_as, attached_by}
 use Rattle.itanium_reader.specs.Parser.{attached_as, unscoped_as, segment_as, segment_turn, parse_nested, return_as}
-use Rattle.itanium_reader.specs.Parser.{encoding_params_as, special_as, parse_special, encoding_by, thunk_by, at_symbol_end}
+use Rattle.itanium_reader.specs.Parser.{encoding_params_as, special_as, parse_special, encoding_by, thunk_by}
 use Rattle.itanium_reader.specs.Parser.{parse_thunk, encoding_as, parse_encoding, entity_as, parse_local, name_as}
 use Rattle.itanium_reader.specs.Parser.{parse_bare_name, parse_name, parse_args}
 use Rattle.itanium_demangle.specs.Meaning.{state_at}
@@ -110,7 +110,7 @@ module _ (d : ℕ) (lists : ArgsComplete d) (kinds : TypesComplete d) where
       let begun = plain_shape (codes "{lambda(") in
       let list = listed_each true begun (map shape_of ts) in
       let whole = lambda_built (map shape_of ts) k ∙ sym (shape-lambda_of ts k) in
-      met_then _ (typed_params_met AtE false d kinds params deep e m begun)
+      met_then _ (typed_params_met false d kinds params deep e m begun)
       (subst (λ (s : Shape). text_len list ≤ text_len s) whole (lambda_longer k list))
       (met (rw found (same_read whole refl refl refl refl)))
   ordinary_met (ordinary_conversion {t = t} a) deep e m = met (rw (kinds _ _ _ _ _ a deep e m, ← shape-conversion_to t) refl)
@@ -215,13 +215,13 @@ return_complete d kinds no_return_type deep e m = same_state refl refl (omega ar
 return_complete d kinds (some_return_type a) deep e m = rw (kinds _ _ _ _ _ a deep e m) refl
 
 -- the parameters of an encoding
-signature_met : (d : ℕ) → TypesComplete d → {case : EncodingParamsCase} {end : EncodingEnd} {x : Context} {t u : Tree} {p q : Position} {c : Cost} → EncodingParamsAs case end x t p u q c → Small d c → (e m : ℕ)
-    → Met text_len (encoding_params_as case end (parse_type d (inside_params end x)) (bare_of t) (state_at p e m)) (reached shape_of u q c e m)
-signature_met d kinds (no_encoding_params {t = t}) deep e m = met (same_read (sym (shape-encoding_of t)) refl refl (omega arith) (omega arith))
-signature_met d kinds (some_encoding_params {end = end} {t = t} {ts = ts} params) deep e m =
+encoding_params_met : (d : ℕ) → TypesComplete d → {case : EncodingParamsCase} {x : Context} {t u : Tree} {p q : Position} {c : Cost} → EncodingParamsAs case x t p u q c → Small d c → (e m : ℕ)
+    → Met text_len (encoding_params_as case (parse_type d x) (bare_of t) (state_at p e m)) (reached shape_of u q c e m)
+encoding_params_met d kinds (no_encoding_params {t = t}) deep e m = met (same_read (sym (shape-encoding_of t)) refl refl (omega arith) (omega arith))
+encoding_params_met d kinds (some_encoding_params {t = t} {ts = ts} params) deep e m =
     let list = listed_each true (params_opened (bare_shape t)) (map shape_of ts) in
     let whole = params_built (bare_shape t) (map shape_of ts) (own_quals t) ∙ sym (shape-function_encoding t ts) in
-    met_then _ (typed_params_met end false d kinds params deep e m (params_opened (bare_shape t)))
+    met_then _ (typed_params_met false d kinds params deep e m (params_opened (bare_shape t)))
     (subst (λ (s : Shape). text_len list ≤ text_len s) whole (params_longer (own_quals t) list))
     (met (same_read whole refl refl refl refl))
 
@@ -242,8 +242,8 @@ names_complete d bares x p q t c a deep e m =
     rw read (fits g (omega arith) ∙ same_read whole refl refl (omega (arith, bare.count_is)) (omega (arith, bare.peak_is)))
 
 module _ (d : ℕ) (kinds : TypesComplete d) (bares : BareNamesComplete d) (thunks : ThunksComplete d) where
-  special_as_complete : {case : SpecialCase} {end : EncodingEnd} {x : Context} {p q : Position} {t : Tree} {c : Cost} → SpecialAs case end x p t q c → Small d c → (e m : ℕ)
-      → special_as case (parse_type d x) (parse_name d x) (parse_thunk d end x) (state_at p e m) ≡ given shape_of t q c e m
+  special_as_complete : {case : SpecialCase} {x : Context} {p q : Position} {t : Tree} {c : Cost} → SpecialAs case x p t q c → Small d c → (e m : ℕ)
+      → special_as case (parse_type d x) (parse_name d x) (parse_thunk d x) (state_at p e m) ≡ given shape_of t q c e m
   special_as_complete (type_special {p = p} {t = t} a) deep e m =
       rw (kinds _ _ _ _ _ a deep e m) (same_read (sym (shape-worded (special_text p.rest) t (special_close p.rest))) refl refl refl refl)
   special_as_complete (name_special {p = p} {t = t} a) deep e m =
@@ -253,59 +253,54 @@ module _ (d : ℕ) (kinds : TypesComplete d) (bares : BareNamesComplete d) (thun
   special_as_complete (construction_special {t = t} {u = u} {c = c} a found b) deep e m =
       rw (kinds _ _ _ _ _ a (omega arith) e m, found, kinds _ _ _ _ _ b (omega arith) (e + c.count) (max m c.peak))
       (same_read (sym (shape-construction_of u t)) refl refl (omega arith) (omega arith))
-  special_as_complete (thunk_special a) deep e m = thunks _ _ _ _ _ _ a deep e m
+  special_as_complete (thunk_special a) deep e m = thunks _ _ _ _ _ a deep e m
 
-  pub special_complete : {end : EncodingEnd} {x : Context} {p q : Position} {t : Tree} {c : Cost} → SpecialAs (special_case p.rest) end x p t q c → Small d c → (e m : ℕ)
-      → parse_special d end x (state_at p e m) ≡ given shape_of t q c e m
+  pub special_complete : {x : Context} {p q : Position} {t : Tree} {c : Cost} → SpecialAs (special_case p.rest) x p t q c → Small d c → (e m : ℕ)
+      → parse_special d x (state_at p e m) ≡ given shape_of t q c e m
   unfolding parse_special
   special_complete a deep e m = special_as_complete a deep e m
 
-  encoding_as_met : {case : EncodingCase} {end : EncodingEnd} {x : Context} {p q : Position} {t : Tree} {c : Cost} → EncodingAs case end x p t q c → Small d c → (e m : ℕ)
-      → Met text_len (encoding_as case end (parse_special d end x) (parse_name d x) (parse_bare_name d x) (parse_type d x) (parse_type d (inside_params end x)) (state_at p e m)) (reached shape_of t q c e m)
+  encoding_as_met : {case : EncodingCase} {x : Context} {p q : Position} {t : Tree} {c : Cost} → EncodingAs case x p t q c → Small d c → (e m : ℕ)
+      → Met text_len (encoding_as case (parse_special d x) (parse_name d x) (parse_bare_name d x) (parse_type d x) (state_at p e m)) (reached shape_of t q c e m)
   encoding_as_met (special_encoding a) deep e m = met (special_complete a deep e m)
   encoding_as_met (name_encoding a) deep e m = met (names_complete d bares _ _ _ _ _ a deep e m)
-  encoding_as_met (full_encoding {end = end} {q = q} {r = r} {c = c} {d = f} a b g) deep e m =
+  encoding_as_met (full_encoding {q = q} {r = r} {c = c} {d = f} a b g) deep e m =
       rw (
         bares _ _ _ _ _ a (omega arith) e m,
-        same_return end a q.rest,
+        same_return a q.rest,
         return_complete d kinds b (omega arith) (e + c.count) (max m c.peak),
       )
-      (met_as (signature_met d kinds g (omega arith) (e + c.count + f.count) (max (max m c.peak) f.peak)) (same_read refl refl refl (omega arith) (omega arith)))
+      (met_as (encoding_params_met d kinds g (omega arith) (e + c.count + f.count) (max (max m c.peak) f.peak)) (same_read refl refl refl (omega arith) (omega arith)))
 
-  pub encoding_met : {end : EncodingEnd} {x : Context} {p q : Position} {t : Tree} {c : Cost} → EncodingAs (encoding_case end p.rest) end x p t q c → Small d c → (e m : ℕ)
+  pub encoding_met : (end : EncodingEnd) {x : Context} {p q : Position} {t : Tree} {c : Cost} → EncodingAs (encoding_case end p.rest) x p t q c → Small d c → (e m : ℕ)
       → Met text_len (parse_encoding d end x (state_at p e m)) (reached shape_of t q c e m)
   unfolding parse_encoding
-  encoding_met a deep e m = encoding_as_met a deep e m
+  encoding_met end a deep e m = encoding_as_met a deep e m
 
   -- where it ends after its name it isn't measured, and nothing in it is too long
-  alone_as_complete : {case : EncodingCase} {x : Context} {p q : Position} {t : Tree} {c : Cost} → encoding_case AfterName p.rest ≡ case → EncodingAs case AfterName x p t q c → Small d c → (e m : ℕ)
-      → encoding_as case AfterName (parse_special d AfterName x) (parse_name d x) (parse_bare_name d x) (parse_type d x) (parse_type d x) (state_at p e m) ≡ given shape_of t q c e m
+  alone_as_complete : {case : EncodingCase} {x : Context} {p q : Position} {t : Tree} {c : Cost} → encoding_case AfterName p.rest ≡ case → EncodingAs case x p t q c → Small d c → (e m : ℕ)
+      → encoding_as case (parse_special d x) (parse_name d x) (parse_bare_name d x) (parse_type d x) (state_at p e m) ≡ given shape_of t q c e m
   alone_as_complete is (special_encoding a) deep e m = special_complete a deep e m
   alone_as_complete is (name_encoding a) deep e m = names_complete d bares _ _ _ _ _ a deep e m
   alone_as_complete {p = p} is (full_encoding a b g) deep e m = absurd (alone_after_name p.rest is)
 
-  pub alone_complete : {x : Context} {p q : Position} {t : Tree} {c : Cost} → EncodingAs (encoding_case AfterName p.rest) AfterName x p t q c → Small d c → (e m : ℕ)
+  pub alone_complete : {x : Context} {p q : Position} {t : Tree} {c : Cost} → EncodingAs (encoding_case AfterName p.rest) x p t q c → Small d c → (e m : ℕ)
       → parse_encoding d AfterName x (state_at p e m) ≡ given shape_of t q c e m
   unfolding parse_encoding
   alone_complete a deep e m = alone_as_complete refl a deep e m
 
   -- the offsets of a thunk, and its encoding
-  pub thunk_by_met : {end : EncodingEnd} {x : Context} (p : Position) {q : Position} {t : Tree} {c : Cost} {offsets : ThunkOffsets} {rest : List ℕ} → thunk_offsets (drop 1 p.rest) ≡ Some (offsets, rest)
-      → EncodingAs (encoding_case end rest) end x (with_rest rest p) t q c → Small d c → (e m : ℕ)
-      → Met text_len (thunk_by (encoding_by end (parse_type d x) (parse_type d (inside_params end x)) (parse_bare_name d x) (parse_thunk d end x) x) (state_at p e m)) (reached shape_of (thunk_of offsets t) q c e m)
+  pub thunk_by_met : {x : Context} (p : Position) {q : Position} {t : Tree} {c : Cost} {offsets : ThunkOffsets} {rest : List ℕ} → thunk_offsets (drop 1 p.rest) ≡ Some (offsets, rest)
+      → EncodingAs (encoding_case AfterName rest) x (with_rest rest p) t q c → Small d c → (e m : ℕ)
+      → Met text_len (thunk_by (encoding_by AfterName (parse_type d x) (parse_bare_name d x) (parse_thunk d x) x) (state_at p e m)) (reached shape_of (thunk_of offsets t) q c e m)
   unfolding parse_special parse_name
   thunk_by_met p {t = t} {offsets = o} found a deep e m =
       rw found (met_then _ (encoding_as_met a deep e m) (thunk_longer o t) (met (same_read (sym (shape-thunk_of o t)) refl refl refl refl)))
 
   pub thunks_complete : ThunksComplete (suc d)
   unfolding parse_thunk
-  thunks_complete end x p q t c (thunk found a) deep e m =
+  thunks_complete x p q t c (thunk found a) deep e m =
       met_fits (met_as (thunk_by_met p found a (omega arith) (e + 1) m) (same_read refl refl refl (omega arith) refl)) (omega arith)
-
-  -- a signature
-  pub signature_by_met : {x : Context} {p q : Position} {t : Tree} {c : Cost} → EncodingAs (encoding_case AtSymbolEnd p.rest) AtSymbolEnd x p t q c → ends_here AtSymbolEnd q.rest ≡ true → Small d c → (e m : ℕ)
-      → Met text_len (parse_encoding d AtSymbolEnd x (state_at p e m) >>= at_symbol_end) (reached shape_of t q c e m)
-  signature_by_met a here deep e m = met_then _ (encoding_met a deep e m) (omega arith) (met (rw here refl))
 
   entity_complete : {case : EntityCase} {x : Context} {t u : Tree} {p q : Position} {c : Cost} → EntityAs case true x t p u q c → Small d c → (e m : ℕ)
       → entity_as case (parse_bare_name d x) (shape_of t) (state_at p e m) ≡ given bare_of u q c e m
@@ -319,7 +314,7 @@ module _ (d : ℕ) (kinds : TypesComplete d) (bares : BareNamesComplete d) (thun
       → Met bare_len (parse_local (parse_encoding d AtE (inside_encoding x)) (parse_bare_name d (showing_words x)) (state_at p e m)) (reached bare_of t q c e m)
   unfolding parse_local
   local_met (local {c = c} a b) deep e m =
-      met_then _ (encoding_met a (omega arith) e m) (entity_longer b)
+      met_then _ (encoding_met AtE a (omega arith) e m) (entity_longer b)
       (met (entity_complete b (omega arith) (e + c.count) (max m c.peak) ∙ same_read refl refl refl (omega arith) (omega arith)))
 
 module _ (d : ℕ) (lists : ArgsComplete d) (kinds : TypesComplete d) (bares : BareNamesComplete d) (thunks : ThunksComplete d) where

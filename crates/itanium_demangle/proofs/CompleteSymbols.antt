@@ -1,15 +1,13 @@
 -- Of symbols: what the grammar reads, the parser reads.
-use Rattle.std.proofs.Common.{◌≡◌, ℕ, zero, suc, ◌+◌, refl, arith}
+use Rattle.std.proofs.Common.{◌≡◌, ℕ, zero, suc, arith}
 use Rattle.itanium_syntax.specs.declared.context.Context.{Context}
 use Rattle.itanium_grammar.specs.Tree.{Tree, shape_of}
 use Rattle.itanium_grammar.specs.Cases.{AfterName}
-use Rattle.itanium_grammar.specs.Grammar.{Position, Cost, SymbolName, Signature, signature, name, args, pack, type, expression, thunk}
-use Rattle.itanium_reader.specs.Parser.{parse_encoding, parse_signature}
-use Rattle.itanium_demangle.proofs.Shapes.{same_read}
-use Rattle.itanium_demangle.proofs.Fitting.{met_as, met_fits}
+use Rattle.itanium_grammar.specs.Grammar.{Position, Cost, SymbolName, name, args, pack, type, expression, thunk}
+use Rattle.itanium_reader.specs.Parser.{parse_encoding}
 use Rattle.itanium_demangle.specs.Meaning.{state_at}
 use Rattle.itanium_demangle.proofs.Readings.{Small, given, BareNamesComplete, ArgsComplete, PacksComplete, TypesComplete, ExpressionsComplete, ThunksComplete}
-use Rattle.itanium_demangle.proofs.CompleteNames.{bare_names_complete, names_complete, thunks_complete, alone_complete, signature_by_met}
+use Rattle.itanium_demangle.proofs.CompleteNames.{bare_names_complete, names_complete, thunks_complete, alone_complete}
 use Rattle.itanium_demangle.proofs.CompleteExpressions.{each_argument_met, expressions_complete}
 use Rattle.itanium_demangle.proofs.CompleteArgs.{args_complete, packs_complete}
 use Rattle.itanium_demangle.proofs.CompleteTypes.{types_complete_at}
@@ -25,7 +23,7 @@ no_packs : PacksComplete 0
 no_packs x p q t c (pack a) deep e m = absurd (omega arith)
 
 no_thunks : ThunksComplete 0
-no_thunks end x p q t c (thunk found a) deep e m = absurd (omega arith)
+no_thunks x p q t c (thunk found a) deep e m = absurd (omega arith)
 
 no_values : ExpressionsComplete 0
 no_values x p q t c (expression a) deep e m = absurd (omega arith)
@@ -50,11 +48,3 @@ pub symbol_complete : {x : Context} {p q : Position} {t : Tree} {c : Cost} → S
     → parse_encoding d AfterName x (state_at p e m) ≡ given shape_of t q c e m
 symbol_complete a d deep e m =
     let (bares, lists, packs, kinds, values, thunks) = all_complete d in alone_complete d kinds bares thunks a deep e m
-
-pub signature_complete : (d : ℕ) {x : Context} {p q : Position} {t : Tree} {c : Cost} → Signature x p t q c → Small d c → (e m : ℕ)
-    → parse_signature d x (state_at p e m) ≡ given shape_of t q c e m
-unfolding parse_signature
-signature_complete zero (signature a here) deep e m = absurd (omega arith)
-signature_complete (suc d) (signature a here) deep e m =
-    let (bares, lists, packs, kinds, values, thunks) = all_complete d in
-    met_fits (met_as (signature_by_met d kinds bares thunks a here (omega arith) (e + 1) m) (same_read refl refl refl (omega arith) refl)) (omega arith)

@@ -14,7 +14,7 @@ use Rattle.itanium_grammar.specs.Grammar.{expansion_type, vendor_type, array_typ
 use Rattle.itanium_grammar.specs.Grammar.{pointer_type, cv_type, elaborated_type, template_param_type, substitution_type}
 use Rattle.itanium_grammar.specs.Grammar.{name_type, cv_function, cv_other, function, none_attached_to_type}
 use Rattle.itanium_grammar.specs.Grammar.{args_attached_to_type}
-use Rattle.itanium_grammar.specs.Cases.{AtE, TypeCase, CvCase, AttachedCase}
+use Rattle.itanium_grammar.specs.Cases.{TypeCase, CvCase, AttachedCase}
 use Rattle.itanium_reader.specs.Parser.{parse_function, cv_as, type_attached_as, type_as, parse_name, parse_args, parse_type}
 use Rattle.itanium_demangle.specs.Meaning.{state_at}
 use Rattle.itanium_demangle.proofs.Shapes.{same_read, one_more, shape-plain_text, shape-with_args, shape-pointer_to}
@@ -35,7 +35,7 @@ module _ (d : ℕ) (kinds : TypesComplete d) where
       let list = listed_each true opened (map shape_of ts) in
       let whole = function_built (shape_of t) (map shape_of ts) all ∙ sym (shape-function_to t ts all) in
       rw (plain, kinds _ _ _ _ _ a (omega arith) e m, there)
-      (met_then _ (typed_params_met AtE true d kinds b (omega arith) (e + c.count) (max m c.peak) opened)
+      (met_then _ (typed_params_met true d kinds b (omega arith) (e + c.count) (max m c.peak) opened)
       (subst (λ (s : Shape). text_len list ≤ text_len s) whole (function_longer (text_len (shape_of t)) all list))
       (met (same_read whole refl refl (omega arith) (omega arith))))
 

@@ -8,56 +8,50 @@ use Rattle.std.proofs.lemmas.Option.{some_pair_parts}
 use Rattle.demangle_text.specs.Shape.{Shape, text}
 use Rattle.abi_scalars.specs.Scalars.{front_digits, weighted, number, index_of, source_name}
 use Rattle.itanium_syntax.specs.Numbers.{ordinal, optional_number}
-use Rattle.itanium_grammar.specs.Answer.{start, max_depth, max_text, IsAnswer, IsAnswerOf}
+use Rattle.itanium_grammar.specs.Answer.{start, initial, max_depth, max_text, IsAnswer}
+use Rattle.itanium_grammar.specs.Cases.{AfterName}
 use Rattle.abi_scalars.specs.Symbol.{after_prefix, suffix}
 use Rattle.itanium_syntax.specs.Expressions.{literal_value}
 use Rattle.itanium_syntax.specs.Offsets.{thunk_offsets, past_base_offset}
 use Rattle.itanium_reader.specs.Parser.{ParserState, begun, loop, segment_turn, tag_turn, list_turn, typed_turn}
 use Rattle.itanium_reader.specs.Parser.{parse_unqualified, parse_substitution, parse_template_param, parse_nested}
 use Rattle.itanium_reader.specs.Parser.{parse_bare_name, parse_encoding, parse_local, parse_thunk, parse_special}
-use Rattle.itanium_reader.specs.Parser.{parse_primary, parse_expression, parse_argument, parse_name, parse_signature}
+use Rattle.itanium_reader.specs.Parser.{parse_primary, parse_expression, parse_argument, parse_name}
 use Rattle.itanium_demangle.specs.Examples.{WorkedSymbols, e_acute}
-use Rattle.itanium_demangle.specs.Meaning.{parse_mangled}
-use Rattle.itanium_demangle.proofs.Readers.{mangled}
+use Rattle.itanium_demangle.proofs.Readers.{symbols}
 use Rattle.itanium_demangle.proofs.Symbols.{no_prefix, not_read, printed}
 
 -- what the parser answers for a symbol, and whether it is UTF-8
 abbrev answered : Option (Shape × ParserState) → Option (List ℕ × Bool)
 answered parsed = option_map (λ r. (text r.0 ++ suffix r.1.rest, is_utf8 (text r.0))) parsed
 
-answer_by : (full : Bool) (symbol inside answer : List ℕ) → after_prefix symbol ≡ Some inside → answered (parse_mangled max_depth full (begun inside)) ≡ Some (answer, true) → IsAnswerOf full symbol (Some answer)
-answer_by full symbol inside answer prefix is = go (parse_mangled max_depth full (begun inside)) refl is
+some_answer : (symbol inside answer : List ℕ) → after_prefix symbol ≡ Some inside → answered (parse_encoding max_depth AfterName initial (begun inside)) ≡ Some (answer, true) → IsAnswer symbol (Some answer)
+some_answer symbol inside answer prefix is = go (parse_encoding max_depth AfterName initial (begun inside)) refl is
   where
-    go : (o : Option (Shape × ParserState)) → parse_mangled max_depth full (begun inside) ≡ o → answered o ≡ Some (answer, true) → IsAnswerOf full symbol (Some answer)
+    go : (o : Option (Shape × ParserState)) → parse_encoding max_depth AfterName initial (begun inside) ≡ o → answered o ≡ Some (answer, true) → IsAnswer symbol (Some answer)
     go None e f = cc
     go (Some (s, after)) e f =
         let parts = some_pair_parts _ _ _ _ f in
-        printed full symbol inside 0 0 s after (Some answer) prefix ((mangled full max_depth).reads (start inside) 0 0 s after e) (IsUtf8-from_is_utf8 (text s) parts.1, sym parts.0)
+        printed symbol inside 0 0 s after (Some answer) prefix ((symbols max_depth initial).reads (start inside) 0 0 s after e) (IsUtf8-from_is_utf8 (text s) parts.1, sym parts.0)
 
-none_by : (full : Bool) (symbol inside : List ℕ) → after_prefix symbol ≡ Some inside → answered (parse_mangled max_depth full (begun inside)) ≡ None → IsAnswerOf full symbol None
-none_by full symbol inside prefix is = go (parse_mangled max_depth full (begun inside)) refl is
+no_reading : (symbol inside : List ℕ) → after_prefix symbol ≡ Some inside → answered (parse_encoding max_depth AfterName initial (begun inside)) ≡ None → IsAnswer symbol None
+no_reading symbol inside prefix is = go (parse_encoding max_depth AfterName initial (begun inside)) refl is
   where
-    go : (o : Option (Shape × ParserState)) → parse_mangled max_depth full (begun inside) ≡ o → answered o ≡ None → IsAnswerOf full symbol None
-    go None e f = not_read full symbol inside prefix ((mangled full max_depth).none (start inside) 0 0 e)
+    go : (o : Option (Shape × ParserState)) → parse_encoding max_depth AfterName initial (begun inside) ≡ o → answered o ≡ None → IsAnswer symbol None
+    go None e f = not_read symbol inside prefix ((symbols max_depth initial).none (start inside) 0 0 e)
     go (Some (s, after)) e f = cc
 
-some_answer : (symbol inside answer : List ℕ) → after_prefix symbol ≡ Some inside → answered (parse_mangled max_depth false (begun inside)) ≡ Some (answer, true) → IsAnswer symbol (Some answer)
-some_answer symbol inside answer prefix is = answer_by false symbol inside answer prefix is
-
-no_reading : (symbol inside : List ℕ) → after_prefix symbol ≡ Some inside → answered (parse_mangled max_depth false (begun inside)) ≡ None → IsAnswer symbol None
-no_reading symbol inside prefix is = none_by false symbol inside prefix is
-
-not_text : (symbol inside answer : List ℕ) → after_prefix symbol ≡ Some inside → answered (parse_mangled max_depth false (begun inside)) ≡ Some (answer, false) → IsAnswer symbol None
-not_text symbol inside answer prefix is = go (parse_mangled max_depth false (begun inside)) refl is
+not_text : (symbol inside answer : List ℕ) → after_prefix symbol ≡ Some inside → answered (parse_encoding max_depth AfterName initial (begun inside)) ≡ Some (answer, false) → IsAnswer symbol None
+not_text symbol inside answer prefix is = go (parse_encoding max_depth AfterName initial (begun inside)) refl is
   where
-    go : (o : Option (Shape × ParserState)) → parse_mangled max_depth false (begun inside) ≡ o → answered o ≡ Some (answer, false) → IsAnswer symbol None
+    go : (o : Option (Shape × ParserState)) → parse_encoding max_depth AfterName initial (begun inside) ≡ o → answered o ≡ Some (answer, false) → IsAnswer symbol None
     go None e f = cc
     go (Some (s, after)) e f =
         let parts = some_pair_parts _ _ _ _ f in
-        printed false symbol inside 0 0 s after None prefix ((mangled false max_depth).reads (start inside) 0 0 s after e) (λ u. let yes = is_utf8-from_IsUtf8 (text s) u in cc)
+        printed symbol inside 0 0 s after None prefix ((symbols max_depth initial).reads (start inside) 0 0 s after e) (λ u. let yes = is_utf8-from_IsUtf8 (text s) u in cc)
 
 pub worked_symbols : WorkedSymbols
-unfolding max_text parse_signature parse_name parse_bare_name parse_encoding parse_local parse_thunk parse_special
+unfolding max_text parse_name parse_bare_name parse_encoding parse_local parse_thunk parse_special
     parse_primary parse_expression parse_argument literal_value thunk_offsets past_base_offset parse_nested loop
     segment_turn tag_turn list_turn typed_turn parse_unqualified parse_substitution parse_template_param source_name number
     index_of ordinal optional_number front_digits weighted digits is_utf8 chars lib.Utf8.encode
@@ -70,7 +64,7 @@ worked_symbols = record {
   ignored_rest = some_answer (codes "_Z3foo@plt") (codes "3foo@plt") (codes "foo") refl refl;
   two_bytes = some_answer (codes "_Z2" ++ e_acute) (codes "2" ++ e_acute) e_acute refl refl;
   half_a_letter = not_text (codes "_Z1" ++ e_acute) (codes "1" ++ e_acute) (195 ∷ []) refl refl;
-  no_prefix = no_prefix false (codes "malloc") refl;
+  no_prefix = no_prefix (codes "malloc") refl;
   nothing_after = no_reading (codes "_Z") [] refl refl;
   number_past_the_end = no_reading (codes "_Z18446744073709551615") (codes "18446744073709551615") refl refl;
   number_past_64_bits = no_reading (codes "_Z18446744073709551617a") (codes "18446744073709551617a") refl refl;
@@ -131,16 +125,4 @@ worked_symbols = record {
   typeinfo = some_answer (codes "_ZTIMN4llvm4json6ObjectEKFSt8optionalINS_9StringRefEES3_E")
       (codes "TIMN4llvm4json6ObjectEKFSt8optionalINS_9StringRefEES3_E")
       (codes "typeinfo for std::optional<llvm::StringRef> (llvm::json::Object::*)(llvm::StringRef) const") refl refl;
-  parameters = answer_by true (codes "_Z3fooi.cold") (codes "3fooi.cold") (codes "foo(int).cold") refl refl;
-  no_parameters = answer_by true (codes "_Z3foov@plt") (codes "3foov@plt") (codes "foo()") refl refl;
-  name_encoding = answer_by true (codes "_ZN1AIiE1xE") (codes "N1AIiE1xE") (codes "A<int>::x") refl refl;
-  own_qualifiers = answer_by true (codes "_ZNK3Foo3barEv") (codes "NK3Foo3barEv") (codes "Foo::bar() const") refl refl;
-  words_of_a_name = answer_by true (codes "_ZNK3Foo3barE") (codes "NK3Foo3barE") (codes "Foo::bar const") refl refl;
-  return_type = answer_by true (codes "_Z1fIiEvT_") (codes "1fIiEvT_") (codes "f<int>(int)") refl refl;
-  expanded_parameters = answer_by true (codes "_Z1fIJiiEEvDpT_") (codes "1fIJiiEEvDpT_") (codes "f<int, int>(int, int)") refl refl;
-  function_in_a_function = answer_by true (codes "_ZZ1fvENK1A1gEi") (codes "Z1fvENK1A1gEi") (codes "f()::A::g(int) const") refl refl;
-  thunk_with_parameters = answer_by true (codes "_ZThn8_N3Foo3barEv") (codes "Thn8_N3Foo3barEv") (codes "{virtual override thunk({offset(-8)}, Foo::bar())}") refl refl;
-  ended_by_an_e = none_by true (codes "_Z3fooE") (codes "3fooE") refl refl;
-  ended_by_an_underscore = none_by true (codes "_Z3foov_") (codes "3foov_") refl refl;
-  discriminator = none_by true (codes "_ZZ1fvE1x_0") (codes "Z1fvE1x_0") refl refl;
 }

@@ -4,25 +4,22 @@ use Rattle.std.proofs.lemmas.Option.{same_Some}
 use Rattle.demangle_text.specs.Shape.{Shape, text_len}
 use Rattle.itanium_syntax.specs.declared.context.Context.{Context}
 use Rattle.itanium_grammar.specs.Tree.{Tree, shape_of}
-use Rattle.itanium_grammar.specs.Grammar.{Position, Cost, Name, Thunk, SymbolName, Signature, Args, Pack, Expression, TypeOf}
-use Rattle.itanium_syntax.specs.Context.{showing_words}
+use Rattle.itanium_grammar.specs.Grammar.{Position, Cost, Name, Thunk, SymbolName, Args, Pack, Expression, TypeOf}
 use Rattle.itanium_grammar.specs.Cases.{EncodingEnd, AfterName}
-use Rattle.itanium_grammar.specs.Answer.{Mangled, initial}
-use Rattle.itanium_grammar.proofs.Agreement.{one_signature}
 use Rattle.itanium_grammar.proofs.Unambiguous.{Same, one_name, one_encoding_as, one_special, one_thunk, one_args, one_argument, one_pack, one_literal, one_expression, one_type}
 use Rattle.itanium_reader.specs.Parser.{ParserState, Parses, parse_bare_name, parse_name, parse_encoding, parse_special}
-use Rattle.itanium_reader.specs.Parser.{parse_thunk, parse_signature, parse_args, parse_argument, parse_pack}
+use Rattle.itanium_reader.specs.Parser.{parse_thunk, parse_args, parse_argument, parse_pack}
 use Rattle.itanium_reader.specs.Parser.{parse_primary, parse_expression, parse_type}
-use Rattle.itanium_demangle.specs.Meaning.{state_at, parse_mangled}
+use Rattle.itanium_demangle.specs.Meaning.{state_at}
 use Rattle.itanium_demangle.specs.Readers.{Encoding, IsParserOf, Narrow, bare_of, shape_of_args, SpecialName, Argument, Primary, LawsOfReaders}
 use Rattle.itanium_demangle.proofs.Fitting.{met_narrow, met_is}
 use Rattle.itanium_demangle.proofs.Readings.{Small, small, small_fits, IsComplete, IsMet, IsSound, Within, ArgumentsComplete, ArgumentsSound}
 use Rattle.itanium_demangle.proofs.CompleteNames.{names_complete, special_complete, encoding_met}
 use Rattle.itanium_demangle.proofs.CompleteExpressions.{primary_met, each_argument_met}
-use Rattle.itanium_demangle.proofs.CompleteSymbols.{all_complete, symbol_complete, signature_complete}
+use Rattle.itanium_demangle.proofs.CompleteSymbols.{all_complete, symbol_complete}
 use Rattle.itanium_demangle.proofs.SoundNames.{names_sound, special_sound, encoding_sound}
 use Rattle.itanium_demangle.proofs.SoundExpressions.{primary_sound, each_argument_sound}
-use Rattle.itanium_demangle.proofs.SoundSymbols.{all_sound, symbol_sound, signature_sound}
+use Rattle.itanium_demangle.proofs.SoundSymbols.{all_sound, symbol_sound}
 
 -- from one position there is at most one reading
 abbrev IsOne : {T : Type 0} → (Position → T → Position → Cost → Type 0) → Type 0
@@ -89,38 +86,28 @@ encodings d end x =
     let (bares_are, lists_are, packs_are, kinds_are, values_are, thunks_are) = all_complete d in
     let (bares, lists, packs, kinds, values, thunks) = all_sound d in
     narrow_parser_of (Encoding end x) d (parse_encoding d end x)
-    (λ p q t c a deep e m. encoding_met d kinds_are bares_are thunks_are a deep e m)
+    (λ p q t c a deep e m. encoding_met d kinds_are bares_are thunks_are end a deep e m)
     (encoding_sound d kinds_are bares_are thunks_are kinds bares thunks end x) (λ p q r t u c f a b. one_encoding_as a b)
 
-special_names_complete : (d : ℕ) (end : EncodingEnd) (x : Context) → IsComplete (SpecialName end x) shape_of d (parse_special d end x)
-special_names_complete d end x p q t c a deep e m =
+special_names_complete : (d : ℕ) (x : Context) → IsComplete (SpecialName x) shape_of d (parse_special d x)
+special_names_complete d x p q t c a deep e m =
     let (bares, lists, packs, kinds, values, thunks) = all_complete d in special_complete d kinds bares thunks a deep e m
 
-special_names : (d : ℕ) (end : EncodingEnd) (x : Context) → IsParserOf (SpecialName end x) (SpecialName end x) shape_of d (parse_special d end x)
-special_names d end x =
+special_names : (d : ℕ) (x : Context) → IsParserOf (SpecialName x) (SpecialName x) shape_of d (parse_special d x)
+special_names d x =
     let (bares_are, lists_are, packs_are, kinds_are, values_are, thunks_are) = all_complete d in
     let (bares, lists, packs, kinds, values, thunks) = all_sound d in
-    parser_of (SpecialName end x) shape_of d (parse_special d end x) (special_names_complete d end x)
-    (sound_by (SpecialName end x) shape_of d (parse_special d end x) (special_names_complete d end x) (special_sound d kinds_are bares_are thunks_are kinds bares thunks end x))
+    parser_of (SpecialName x) shape_of d (parse_special d x) (special_names_complete d x)
+    (sound_by (SpecialName x) shape_of d (parse_special d x) (special_names_complete d x) (special_sound d kinds_are bares_are thunks_are kinds bares thunks x))
     (λ p q r t u c f a b. one_special a b)
 
-thunks : (d : ℕ) (end : EncodingEnd) (x : Context) → IsParserOf (Thunk end x) (Thunk end x) shape_of d (parse_thunk d end x)
-thunks d end x = parser_of (Thunk end x) shape_of d (parse_thunk d end x) ((all_complete d).5 end x) ((all_sound d).5 end x) (λ p q r t u c f a b. one_thunk a b)
+thunks : (d : ℕ) (x : Context) → IsParserOf (Thunk x) (Thunk x) shape_of d (parse_thunk d x)
+thunks d x = parser_of (Thunk x) shape_of d (parse_thunk d x) ((all_complete d).5 x) ((all_sound d).5 x) (λ p q r t u c f a b. one_thunk a b)
 
-symbols : (d : ℕ) (x : Context) → IsParserOf (SymbolName x) (SymbolName x) shape_of d (parse_encoding d AfterName x)
+pub symbols : (d : ℕ) (x : Context) → IsParserOf (SymbolName x) (SymbolName x) shape_of d (parse_encoding d AfterName x)
 symbols d x =
     parser_of (SymbolName x) shape_of d (parse_encoding d AfterName x)
     (λ p q t c a deep e m. symbol_complete a d deep e m) (symbol_sound d x) (λ p q r t u c f a b. one_encoding_as a b)
-
-signatures : (d : ℕ) (x : Context) → IsParserOf (Signature x) (Signature x) shape_of d (parse_signature d x)
-signatures d x =
-    parser_of (Signature x) shape_of d (parse_signature d x)
-    (λ p q t c a deep e m. signature_complete d a deep e m) (signature_sound d x) (λ p q r t u c f a b. one_signature a b)
-
--- what follows the prefix of a symbol, as a signature or else as a name
-pub mangled : (full : Bool) (d : ℕ) → IsParserOf (Mangled full) (Mangled full) shape_of d (parse_mangled d full)
-mangled true d = signatures d (showing_words initial)
-mangled false d = symbols d initial
 
 lists : (d : ℕ) (x : Context) (of_name : Bool) → IsParserOf (Args of_name x) (Args of_name x) shape_of_args d (parse_args d x of_name)
 lists d x of_name =
@@ -173,7 +160,6 @@ laws_of_readers = record {
   special_names = special_names;
   thunks = thunks;
   symbols = symbols;
-  signatures = signatures;
   lists = lists;
   arguments = arguments;
   packs = packs;

@@ -2,7 +2,6 @@
 use Rattle.std.proofs.Common.{◌≡◌, ◌≤◌, ℕ, ◌+◌, max, Bool, true, false, Option, Some, arith}
 use Rattle.demangle_text.specs.Shape.{text_len}
 use Rattle.itanium_syntax.specs.declared.context.Context.{Context}
-use Rattle.itanium_grammar.specs.Cases.{EncodingEnd}
 use Rattle.itanium_grammar.specs.Tree.{shape_of}
 use Rattle.itanium_grammar.specs.Grammar.{Position, Cost, Name, Args, Thunk, Pack, Expression, TypeOf}
 use Rattle.itanium_grammar.specs.Answer.{max_text, Fits}
@@ -67,7 +66,7 @@ abbrev pub PacksComplete : ℕ → Type 0
 PacksComplete d = (x : Context) → IsComplete (Pack x) shape_of d (parse_pack d x)
 
 abbrev pub ThunksComplete : ℕ → Type 0
-ThunksComplete d = (end : EncodingEnd) (x : Context) → IsComplete (Thunk end x) shape_of d (parse_thunk d end x)
+ThunksComplete d = (x : Context) → IsComplete (Thunk x) shape_of d (parse_thunk d x)
 
 abbrev pub ExpressionsComplete : ℕ → Type 0
 ExpressionsComplete d = (x : Context) → IsComplete (Expression x) shape_of d (parse_expression d x)
@@ -91,7 +90,7 @@ abbrev pub PacksSound : ℕ → Type 0
 PacksSound d = (x : Context) → IsSound (Pack x) shape_of d (parse_pack d x)
 
 abbrev pub ThunksSound : ℕ → Type 0
-ThunksSound d = (end : EncodingEnd) (x : Context) → IsSound (Thunk end x) shape_of d (parse_thunk d end x)
+ThunksSound d = (x : Context) → IsSound (Thunk x) shape_of d (parse_thunk d x)
 
 abbrev pub ExpressionsSound : ℕ → Type 0
 ExpressionsSound d = (x : Context) → IsSound (Expression x) shape_of d (parse_expression d x)

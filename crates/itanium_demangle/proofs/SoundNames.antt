@@ -1,6 +1,6 @@
 -- Of names: what the parser reads, the grammar reads.
 use Rattle.std.proofs.Common.{◌≡◌, ◌<◌, ℕ, zero, suc, ◌+◌, max, Bool, true, false, List, map, length, drop, refl, ap, ◌∙◌, sym, arith, Option, Some, None, codes}
-use Rattle.std.proofs.lemmas.Option.{same_Some, option_and_then_some, slice_get-map, cond_some}
+use Rattle.std.proofs.lemmas.Option.{same_Some, option_and_then_some, slice_get-map}
 use Rattle.std.specs.Prelude.{option_map, slice_get, is_some}
 use Rattle.demangle_text.specs.Shape.{Shape, plain_shape, text_len}
 use Rattle.itanium_syntax.specs.declared.context.Context.{Context}
@@ -19,7 +19,7 @@ use Rattle.itanium_grammar.specs.Tree.{Tree, bare_shape, own_quals, plain_text, 
 use Rattle.itanium_grammar.specs.Grammar.{Position, Cost, with_rest, skip, save, last_of, past_initializer, both}
 use Rattle.itanium_grammar.specs.Grammar.{saving, SubstitutionAs, Substitution, ArgumentNamed, TemplateParam, TaggedAs}
 use Rattle.itanium_grammar.specs.Grammar.{OrdinaryAs, UnqualifiedAs, Unqualified, FirstAs, NameAs, Name, nothing, SpecialAs}
-use Rattle.itanium_grammar.specs.Grammar.{Signature, signature, Thunk, special_encoding, type_special, name_special}
+use Rattle.itanium_grammar.specs.Grammar.{Thunk, special_encoding, type_special, name_special}
 use Rattle.itanium_grammar.specs.Grammar.{temporary_special, construction_special, thunk_special, thunk, name_encoding}
 use Rattle.itanium_grammar.specs.Grammar.{Local, EntityAs, EncodingAs, ReturnAs, EncodingParamsAs}
 use Rattle.itanium_grammar.specs.Grammar.{UnscopedAs, AttachedAs, Nested, SegmentsAs, Args}
@@ -34,7 +34,7 @@ use Rattle.itanium_grammar.specs.Grammar.{some_return_type, no_encoding_params, 
 use Rattle.itanium_grammar.specs.Grammar.{substitution_name, plain_name, none_attached, args_attached, nested}
 use Rattle.itanium_grammar.specs.Grammar.{end_of_segments, args_segment, name_segment}
 use Rattle.itanium_grammar.proofs.Progress.{unqualified_takes, args_takes}
-use Rattle.itanium_grammar.specs.Cases.{EncodingEnd, AtE, AtSymbolEnd, EncodingCase, SpecialEncoding, NameEncoding, FullEncoding, SpecialCase, TypeSpecial, NameSpecial}
+use Rattle.itanium_grammar.specs.Cases.{EncodingEnd, AfterName, AtE, EncodingCase, SpecialEncoding, NameEncoding, FullEncoding, SpecialCase, TypeSpecial, NameSpecial}
 use Rattle.itanium_grammar.specs.Cases.{TemporarySpecial, ConstructionSpecial, ThunkSpecial, UnreadableSpecial, ReturnCase}
 use Rattle.itanium_grammar.specs.Cases.{NoReturnType, SomeReturnType, EncodingParamsCase, NoEncodingParams, SomeEncodingParams}
 use Rattle.itanium_grammar.specs.Cases.{EntityCase, StringLiteralEntity, DefaultArgumentEntity, NameEntity, UnreadableEntity}
@@ -50,7 +50,7 @@ use Rattle.itanium_reader.specs.Parser.{parse_substitution, template_param_as, p
 use Rattle.itanium_reader.specs.Parser.{params_as, ordinary_as, parse_ordinary, ctor_dtor_as, unqualified_as}
 use Rattle.itanium_reader.specs.Parser.{parse_unqualified, first_as, fitting, attached_by, attached_as, template_as}
 use Rattle.itanium_reader.specs.Parser.{unscoped_as, segment_as, segment_turn, parse_segments, parse_nested, return_as}
-use Rattle.itanium_reader.specs.Parser.{encoding_params_as, special_as, parse_special, encoding_by, thunk_by, at_symbol_end}
+use Rattle.itanium_reader.specs.Parser.{encoding_params_as, special_as, parse_special, encoding_by, thunk_by}
 use Rattle.itanium_reader.specs.Parser.{parse_thunk, encoding_as, parse_encoding, entity_as, parse_local, name_as}
 use Rattle.itanium_reader.specs.Parser.{parse_bare_name, parse_name, parse_args, parse_type}
 use Rattle.itanium_demangle.specs.Meaning.{state_at}
@@ -63,12 +63,12 @@ use Rattle.itanium_demangle.proofs.Waiting.{same_return, whole_name}
 use Rattle.itanium_demangle.proofs.Whole.{with_own_quals}
 use Rattle.itanium_demangle.proofs.Fitting.{Met, met_is, met_passed, met_passed_bare, passed}
 use Rattle.itanium_demangle.proofs.CompleteNames.{substitution_complete, template_param_complete, ordinary_met, unqualified_met}
-use Rattle.itanium_demangle.proofs.CompleteNames.{first_met, segments_met, encoding_met, thunk_by_met, signature_by_met, name_as_met}
+use Rattle.itanium_demangle.proofs.CompleteNames.{first_met, segments_met, encoding_met, thunk_by_met, name_as_met}
 use Rattle.itanium_demangle.proofs.CompleteNames.{bare_names_complete, names_complete, thunks_complete}
 use Rattle.itanium_syntax.specs.Types.{params_case}
 use Rattle.itanium_syntax.specs.Operators.{operator_here}
-use Rattle.itanium_syntax.specs.Context.{inside_lambda, showing_words, inside_encoding, inside_params}
-use Rattle.itanium_syntax.specs.Encodings.{ends_here, for_thunk, return_case, encoding_params_case, entity_case, encoding_case}
+use Rattle.itanium_syntax.specs.Context.{inside_lambda, showing_words, inside_encoding}
+use Rattle.itanium_syntax.specs.Encodings.{return_case, encoding_params_case, entity_case, encoding_case}
 use Rattle.itanium_reader.specs.Parser.{shows_words}
 use Rattle.demangle_quals.specs.declared.quals.Quals.{Quals}
 use Rattle.demangle_edit.specs.Built.{params_opened}
@@ -189,8 +189,8 @@ module _ (d : ℕ) (complete : TypesComplete d) (lists_are : ArgsComplete d) (ki
       let w : Within (OrdinaryAs UnnamedTypeName x p) d = record { tree = _; next = _; cost = _; reading = ordinary_unnamed_type found; deep = omega arith } in
       record { within = w; is = met_is (ordinary_met d lists_are complete w.reading w.deep e m) is })
   ordinary_sound LambdaName x p e m y is =
-      option_and_then_some _ (params_as (params_case AtE (drop 2 p.rest)) AtE false (parse_type d (inside_lambda x)) (plain_shape (codes "{lambda(")) (state_at (skip 2 p) e m)) y is (λ z params ends.
-      let listed = typed_params_sound AtE false d complete kinds (params_case AtE (drop 2 p.rest)) (inside_lambda x) (plain_shape (codes "{lambda(")) (skip 2 p) e m z params in
+      option_and_then_some _ (params_as (params_case (drop 2 p.rest)) false (parse_type d (inside_lambda x)) (plain_shape (codes "{lambda(")) (state_at (skip 2 p) e m)) y is (λ z params ends.
+      let listed = typed_params_sound false d complete kinds (params_case (drop 2 p.rest)) (inside_lambda x) (plain_shape (codes "{lambda(")) (skip 2 p) e m z params in
       let o = listed.within in
       let there = rw listed.is at ends in
       option_and_then_some _ (ordinal (drop 1 o.next.rest)) y there (λ b found _.
@@ -396,12 +396,12 @@ return_sound d kinds SomeReturnType x p e m after is =
     let i = found.within in
     record { next = i.next; cost = i.cost; reading = some_return_type i.reading; deep = i.deep; is = sym (same_Some _ _ left) ∙ ap (λ (y : Shape × ParserState). y.1) found.is })
 
-signature_sound : (d : ℕ) → TypesComplete d → TypesSound d → (case : EncodingParamsCase) (end : EncodingEnd) (x : Context) (t : Tree) (p : Position) (e m : ℕ) (y : Shape × ParserState)
-    → encoding_params_as case end (parse_type d (inside_params end x)) (bare_of t) (state_at p e m) ≡ Some y → Within (EncodingParamsAs case end x t p) d
-signature_sound d complete kinds NoEncodingParams end x t p e m y is = record { tree = _; next = _; cost = _; reading = no_encoding_params; deep = omega arith }
-signature_sound d complete kinds SomeEncodingParams end x t p e m y is =
-    option_and_then_some _ (params_as (params_case end p.rest) end false (parse_type d (inside_params end x)) (params_opened (bare_shape t)) (state_at p e m)) y is (λ z params _.
-    let i = (typed_params_sound end false d complete kinds (params_case end p.rest) (inside_params end x) (params_opened (bare_shape t)) p e m z params).within in
+encoding_params_sound : (d : ℕ) → TypesComplete d → TypesSound d → (case : EncodingParamsCase) (x : Context) (t : Tree) (p : Position) (e m : ℕ) (y : Shape × ParserState)
+    → encoding_params_as case (parse_type d x) (bare_of t) (state_at p e m) ≡ Some y → Within (EncodingParamsAs case x t p) d
+encoding_params_sound d complete kinds NoEncodingParams x t p e m y is = record { tree = _; next = _; cost = _; reading = no_encoding_params; deep = omega arith }
+encoding_params_sound d complete kinds SomeEncodingParams x t p e m y is =
+    option_and_then_some _ (params_as (params_case p.rest) false (parse_type d x) (params_opened (bare_shape t)) (state_at p e m)) y is (λ z params _.
+    let i = (typed_params_sound false d complete kinds (params_case p.rest) x (params_opened (bare_shape t)) p e m z params).within in
     record { tree = _; next = _; cost = _; reading = some_encoding_params i.reading; deep = i.deep })
 
 -- a name with its own qualifiers
@@ -423,22 +423,22 @@ names_sound d bares_are bares x p e m y is =
     whole a deep = names_complete d bares_are x _ _ _ _ a deep e m
 
 module _ (d : ℕ) (complete : TypesComplete d) (bares_are : BareNamesComplete d) (thunks_are : ThunksComplete d) (kinds : TypesSound d) (bares : BareNamesSound d) (thunks : ThunksSound d) where
-  special_as_sound : (case : SpecialCase) (end : EncodingEnd) (x : Context) (p : Position) (e m : ℕ) (y : Shape × ParserState)
-      → special_as case (parse_type d x) (parse_name d x) (parse_thunk d end x) (state_at p e m) ≡ Some y → Within (SpecialAs case end x p) d
-  special_as_sound TypeSpecial end x p e m y is =
+  special_as_sound : (case : SpecialCase) (x : Context) (p : Position) (e m : ℕ) (y : Shape × ParserState)
+      → special_as case (parse_type d x) (parse_name d x) (parse_thunk d x) (state_at p e m) ≡ Some y → Within (SpecialAs case x p) d
+  special_as_sound TypeSpecial x p e m y is =
       option_and_then_some _ (parse_type d x (state_at (skip 2 p) e m)) y is (λ z read _.
       let i = (kinds x (skip 2 p) e m z read).within in record { tree = _; next = _; cost = _; reading = type_special i.reading; deep = i.deep })
-  special_as_sound NameSpecial end x p e m y is =
+  special_as_sound NameSpecial x p e m y is =
       option_and_then_some _ (parse_name d x (state_at (skip 2 p) e m)) y is (λ z read _.
       let i = (names_sound d bares_are bares x (skip 2 p) e m z read).within in record { tree = _; next = _; cost = _; reading = name_special i.reading; deep = i.deep })
-  special_as_sound TemporarySpecial end x p e m y is =
+  special_as_sound TemporarySpecial x p e m y is =
       option_and_then_some _ (parse_name d x (state_at (skip 2 p) e m)) y is (λ z read more.
       let found = names_sound d bares_are bares x (skip 2 p) e m z read in
       let i = found.within in
       let there = rw found.is at more in
       option_and_then_some _ (index_of Base36 i.next.rest) y there (λ k number _.
       record { tree = _; next = _; cost = _; reading = temporary_special i.reading number; deep = i.deep }))
-  special_as_sound ConstructionSpecial end x p e m y is =
+  special_as_sound ConstructionSpecial x p e m y is =
       option_and_then_some _ (parse_type d x (state_at (skip 2 p) e m)) y is (λ z read more.
       let found = kinds x (skip 2 p) e m z read in
       let i = found.within in
@@ -447,59 +447,47 @@ module _ (d : ℕ) (complete : TypesComplete d) (bares_are : BareNamesComplete d
       option_and_then_some _ (parse_type d x (state_at (with_rest r i.next) (e + i.cost.count) (max m i.cost.peak))) y second (λ w other _.
       let o = (kinds x (with_rest r i.next) (e + i.cost.count) (max m i.cost.peak) w other).within in
       record { tree = _; next = _; cost = _; reading = construction_special i.reading offset o.reading; deep = omega (arith, i.deep, o.deep) })))
-  special_as_sound ThunkSpecial end x p e m y is =
-      let i = (thunks end x p e m y is).within in record { tree = _; next = _; cost = _; reading = thunk_special i.reading; deep = i.deep }
-  special_as_sound UnreadableSpecial end x p e m y is = cc
+  special_as_sound ThunkSpecial x p e m y is =
+      let i = (thunks x p e m y is).within in record { tree = _; next = _; cost = _; reading = thunk_special i.reading; deep = i.deep }
+  special_as_sound UnreadableSpecial x p e m y is = cc
 
-  pub special_sound : (end : EncodingEnd) (x : Context) (p : Position) (e m : ℕ) (y : Shape × ParserState) → parse_special d end x (state_at p e m) ≡ Some y → Within (SpecialAs (special_case p.rest) end x p) d
+  pub special_sound : (x : Context) (p : Position) (e m : ℕ) (y : Shape × ParserState) → parse_special d x (state_at p e m) ≡ Some y → Within (SpecialAs (special_case p.rest) x p) d
   unfolding parse_special
-  special_sound end x p e m y is = special_as_sound (special_case p.rest) end x p e m y is
+  special_sound x p e m y is = special_as_sound (special_case p.rest) x p e m y is
 
-  encoding_as_sound : (case : EncodingCase) (end : EncodingEnd) (x : Context) (p : Position) (e m : ℕ) (y : Shape × ParserState)
-      → encoding_as case end (parse_special d end x) (parse_name d x) (parse_bare_name d x) (parse_type d x) (parse_type d (inside_params end x)) (state_at p e m) ≡ Some y → Within (EncodingAs case end x p) d
-  encoding_as_sound SpecialEncoding end x p e m y is =
-      let i = special_sound end x p e m y is in record { tree = _; next = _; cost = _; reading = special_encoding i.reading; deep = i.deep }
-  encoding_as_sound NameEncoding end x p e m y is =
+  encoding_as_sound : (case : EncodingCase) (x : Context) (p : Position) (e m : ℕ) (y : Shape × ParserState)
+      → encoding_as case (parse_special d x) (parse_name d x) (parse_bare_name d x) (parse_type d x) (state_at p e m) ≡ Some y → Within (EncodingAs case x p) d
+  encoding_as_sound SpecialEncoding x p e m y is =
+      let i = special_sound x p e m y is in record { tree = _; next = _; cost = _; reading = special_encoding i.reading; deep = i.deep }
+  encoding_as_sound NameEncoding x p e m y is =
       let i = (names_sound d bares_are bares x p e m y is).within in record { tree = _; next = _; cost = _; reading = name_encoding i.reading; deep = i.deep }
-  encoding_as_sound FullEncoding end x p e m y is =
+  encoding_as_sound FullEncoding x p e m y is =
       option_and_then_some _ (parse_bare_name d x (state_at p e m)) y is (λ z named ends.
       let found = bares x p e m z named in
       let i = found.within in
-      let case = return_case end (shape_of i.tree).templ (shape_of i.tree).ctor i.next.rest in
-      let there = rw (found.is, same_return end i.reading i.next.rest) at ends in
-      option_and_then_some _ (return_as case (parse_type d x) (state_at i.next (e + i.cost.count) (max m i.cost.peak))) y there (λ after left signed.
+      let case = return_case (shape_of i.tree).templ (shape_of i.tree).ctor i.next.rest in
+      let there = rw (found.is, same_return i.reading i.next.rest) at ends in
+      option_and_then_some _ (return_as case (parse_type d x) (state_at i.next (e + i.cost.count) (max m i.cost.peak))) y there (λ after left params.
       let r = return_sound d kinds case x i.next (e + i.cost.count) (max m i.cost.peak) after left in
-      let s = signature_sound d complete kinds (encoding_params_case end r.next.rest) end x i.tree r.next (e + i.cost.count + r.cost.count) (max (max m i.cost.peak) r.cost.peak) y (rw r.is at signed) in
+      let s = encoding_params_sound d complete kinds (encoding_params_case r.next.rest) x i.tree r.next (e + i.cost.count + r.cost.count) (max (max m i.cost.peak) r.cost.peak) y (rw r.is at params) in
       record { tree = _; next = _; cost = _; reading = full_encoding i.reading r.reading s.reading; deep = omega (arith, i.deep, r.deep, s.deep) }))
 
-  pub encoding_sound : (end : EncodingEnd) (x : Context) (p : Position) (e m : ℕ) (y : Shape × ParserState) → parse_encoding d end x (state_at p e m) ≡ Some y → Found (EncodingAs (encoding_case end p.rest) end x p) shape_of d e m y
+  pub encoding_sound : (end : EncodingEnd) (x : Context) (p : Position) (e m : ℕ) (y : Shape × ParserState) → parse_encoding d end x (state_at p e m) ≡ Some y → Found (EncodingAs (encoding_case end p.rest) x p) shape_of d e m y
   unfolding parse_encoding
   encoding_sound end x p e m y is =
-      let w = encoding_as_sound (encoding_case end p.rest) end x p e m y is in
-      record { within = w; is = met_is (encoding_met d complete bares_are thunks_are w.reading w.deep e m) is }
+      let w = encoding_as_sound (encoding_case end p.rest) x p e m y is in
+      record { within = w; is = met_is (encoding_met d complete bares_are thunks_are end w.reading w.deep e m) is }
 
   pub thunks_sound : ThunksSound (suc d)
   unfolding parse_thunk parse_special parse_name
-  thunks_sound end x p e m y is =
-      let inner = for_thunk end in
-      option_and_then_some _ (thunk_by (encoding_by inner (parse_type d x) (parse_type d (inside_params inner x)) (parse_bare_name d x) (parse_thunk d inner x) x) (state_at p (e + 1) m)) y is (λ u thunked through.
+  thunks_sound x p e m y is =
+      option_and_then_some _ (thunk_by (encoding_by AfterName (parse_type d x) (parse_bare_name d x) (parse_thunk d x) x) (state_at p (e + 1) m)) y is (λ u thunked through.
       option_and_then_some _ (thunk_offsets (drop 1 p.rest)) u thunked (λ o offsets more.
-      option_and_then_some _ (encoding_as (encoding_case inner o.1) inner (parse_special d inner x) (parse_name d x) (parse_bare_name d x) (parse_type d x) (parse_type d (inside_params inner x)) (state_at (with_rest o.1 p) (e + 1) m)) u more (λ z read _.
-      let i = encoding_as_sound (encoding_case inner o.1) inner x (with_rest o.1 p) (e + 1) m z read in
+      option_and_then_some _ (encoding_as (encoding_case AfterName o.1) (parse_special d x) (parse_name d x) (parse_bare_name d x) (parse_type d x) (state_at (with_rest o.1 p) (e + 1) m)) u more (λ z read _.
+      let i = encoding_as_sound (encoding_case AfterName o.1) x (with_rest o.1 p) (e + 1) m z read in
       let narrow = met_passed (thunk_by_met d complete bares_are thunks_are p offsets i.reading i.deep (e + 1) m) thunked through in
-      let w : Within (Thunk end x p) (suc d) = record { tree = _; next = _; cost = _; reading = thunk offsets i.reading; deep = omega (arith, i.deep, narrow) } in
-      record { within = w; is = same_Some _ _ (sym is ∙ thunks_complete d complete bares_are thunks_are end x _ _ _ _ w.reading w.deep e m) })))
-
-  -- a signature
-  pub signature_by_sound : (x : Context) (p : Position) (e m : ℕ) (y : Shape × ParserState) → (parse_encoding d AtSymbolEnd x (state_at p e m) >>= at_symbol_end >>= fitting) ≡ Some y → Within (Signature x p) (suc d)
-  signature_by_sound x p e m y is =
-      option_and_then_some _ (parse_encoding d AtSymbolEnd x (state_at p e m) >>= at_symbol_end) y is (λ u ended through.
-      option_and_then_some _ (parse_encoding d AtSymbolEnd x (state_at p e m)) u ended (λ z read more.
-      let found = encoding_sound AtSymbolEnd x p e m z read in
-      let i = found.within in
-      let here = (cond_some (ends_here AtSymbolEnd i.next.rest) _ u (rw found.is at more)).0 in
-      let narrow = met_passed (signature_by_met d complete bares_are thunks_are i.reading here i.deep e m) ended through in
-      record { tree = _; next = _; cost = _; reading = signature i.reading here; deep = omega (arith, i.deep, narrow) }))
+      let w : Within (Thunk x p) (suc d) = record { tree = _; next = _; cost = _; reading = thunk offsets i.reading; deep = omega (arith, i.deep, narrow) } in
+      record { within = w; is = same_Some _ _ (sym is ∙ thunks_complete d complete bares_are thunks_are x _ _ _ _ w.reading w.deep e m) })))
 
   entity_sound : (case : EntityCase) (x : Context) (t : Tree) (p : Position) (e m : ℕ) (y : (Shape × Quals) × ParserState)
       → entity_as case (parse_bare_name d x) (shape_of t) (state_at p e m) ≡ Some y → Within (EntityAs case true x t p) d

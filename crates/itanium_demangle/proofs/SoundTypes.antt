@@ -18,7 +18,7 @@ use Rattle.itanium_grammar.specs.Grammar.{TypeAttachedAs, type, builtin_type, ex
 use Rattle.itanium_grammar.specs.Grammar.{function_type, pointer_to_member_type, pointer_type, cv_type, elaborated_type}
 use Rattle.itanium_grammar.specs.Grammar.{template_param_type, substitution_type, name_type, cv_function, cv_other, function}
 use Rattle.itanium_grammar.specs.Grammar.{none_attached_to_type, args_attached_to_type}
-use Rattle.itanium_grammar.specs.Cases.{AtE, TypeCase, BuiltinType, ExpansionType, VendorType, ArrayType, FunctionType}
+use Rattle.itanium_grammar.specs.Cases.{TypeCase, BuiltinType, ExpansionType, VendorType, ArrayType, FunctionType}
 use Rattle.itanium_grammar.specs.Cases.{PointerToMemberType, PointerType, CvType, ElaboratedType, TemplateParamType}
 use Rattle.itanium_grammar.specs.Cases.{SubstitutionType, UnreadableType, NameType, CvCase, CvFunction, CvOther}
 use Rattle.itanium_grammar.specs.Cases.{FunctionCase, ExternFunction, PlainFunction, AttachedCase, NoneAttached}
@@ -66,8 +66,8 @@ module _ (d : ℕ) (complete : TypesComplete d) (kinds : TypesSound d) where
       let i = found.within in
       let there = rw found.is at more in
       option_and_then_some _ (opening_step (shape_of i.tree)) y there (λ opened begun follows.
-      option_and_then_some _ (params_as (params_case AtE i.next.rest) AtE true (parse_type d x) opened (state_at i.next (e + i.cost.count) (max m i.cost.peak))) y follows (λ v params _.
-      let o = (typed_params_sound AtE true d complete kinds (params_case AtE i.next.rest) x opened i.next (e + i.cost.count) (max m i.cost.peak) v params).within in
+      option_and_then_some _ (params_as (params_case i.next.rest) true (parse_type d x) opened (state_at i.next (e + i.cost.count) (max m i.cost.peak))) y follows (λ v params _.
+      let o = (typed_params_sound true d complete kinds (params_case i.next.rest) x opened i.next (e + i.cost.count) (max m i.cost.peak) v params).within in
       let plain = plain_sound (shape_of i.tree) opened begun in
       record { tree = _; next = _; cost = _; reading = function case i.reading o.reading plain; deep = omega (arith, i.deep, o.deep) })))
 

@@ -15,29 +15,30 @@ use Rattle.demangle_text.specs.State.{shape, saved, scopes, main_bytes}
 use Rattle.abi_scalars.specs.Bytes.{begins}
 use Rattle.itanium_syntax.proofs.Fronts.{IsAfter, after_then}
 use Rattle.itanium_grammar.specs.Tree.{shape_of, printing}
-use Rattle.itanium_grammar.specs.Grammar.{Position, Cost}
-use Rattle.itanium_grammar.specs.Answer.{start, Mangled, max_depth, HasAnswer, HasNoAnswer, IsAnswerOf, HasCountsOf, HasComponentsOf, HasSavedOf}
+use Rattle.itanium_grammar.specs.Cases.{AfterName}
+use Rattle.itanium_grammar.specs.Grammar.{Position, Cost, SymbolName}
+use Rattle.itanium_grammar.specs.Answer.{start, initial, max_depth, HasAnswer, HasNoAnswer, IsAnswer, HasCounts, HasComponents, HasSaved}
 use Rattle.abi_scalars.specs.Symbol.{after_prefix, suffix}
 use Rattle.itanium_grammar.proofs.Agreement.{inside_takes}
 use Rattle.itanium_reader.specs.declared.reader.Reader.{Reader}
 use Rattle.itanium_reader.specs.declared.stop.Stop.{Stop}
 use Rattle.itanium_reader.specs.declared.stop.Stop.TheVariants.{Unreadable, Memory}
-use Rattle.itanium_reader.specs.Parser.{ParserState, begun}
+use Rattle.itanium_reader.specs.Parser.{ParserState, begun, parse_encoding}
 use Rattle.itanium_reader.specs.Outcome.{state, Gives}
-use Rattle.itanium_demangle.specs.Meaning.{StandsFor, parse_mangled, state_at, HasReading, HasNoReading, ReadsAs}
+use Rattle.itanium_demangle.specs.Meaning.{StandsFor, state_at, HasReading, HasNoReading, ReadsAs}
 use Rattle.itanium_demangle.specs.Demangler.{IsPrinted, IsText, answer_text, component_texts, component_shapes}
-use Rattle.itanium_demangle.proofs.Readers.{mangled}
+use Rattle.itanium_demangle.proofs.Readers.{symbols}
 
 -- what a call says of the parser, it says of trees
-pub reads_as : (result : Result (Unit {0}) Stop) (full : Bool) (d : ℕ) (before after : Reader) → Gives result after (parse_mangled d full (state before))
-    → ReadsAs result full d before after
-reads_as (Ok u) full d before after gives = (
+pub reads_as : (result : Result (Unit {0}) Stop) (d : ℕ) (before after : Reader) → Gives result after (parse_encoding d AfterName initial (state before))
+    → ReadsAs result d before after
+reads_as (Ok u) d before after gives = (
   gives.0,
   λ p stands.
-      (mangled full d).reads p before.entered (state before).most_saved (shape after.buffer.value after.found) (state after) (rw stands at gives.1),
+      (symbols d initial).reads p before.entered (state before).most_saved (shape after.buffer.value after.found) (state after) (rw stands at gives.1),
 )
-reads_as (Err Unreadable) full d before after none = λ p stands. (mangled full d).none p before.entered (state before).most_saved (rw stands at none)
-reads_as (Err Memory) full d before after gives = tt
+reads_as (Err Unreadable) d before after none = λ p stands. (symbols d initial).none p before.entered (state before).most_saved (rw stands at none)
+reads_as (Err Memory) d before after gives = tt
 
 -- a reader at the front of a symbol
 pub stands_at_start : (r : Reader) (bytes : List ℕ) → state r ≡ begun bytes → StandsFor r (start bytes)
@@ -55,14 +56,14 @@ pub state_begun : (buffer : Buffer) (bytes : List ℕ) → saved buffer ≡ [] �
 state_begun buffer bytes no_saved no_scopes = λ j. record (begun bytes) { saved = no_saved j; scopes = no_scopes j; most_saved = max 0 (length (no_saved j)) }
 
 -- what is read from there
-pub reading_from_start : (full : Bool) (d : ℕ) (before after : ParserState) (found : Shape) (bytes : List ℕ) → before ≡ begun bytes
-    → ((p : Position) → before ≡ state_at p before.entered before.most_saved → HasReading (Mangled full p) shape_of d before.entered before.most_saved found after)
-    → HasReading (Mangled full (start bytes)) shape_of d 0 0 found after
-reading_from_start full d before after found bytes is reads =
-    subst (λ (s : ParserState). (p : Position) → s ≡ state_at p s.entered s.most_saved → HasReading (Mangled full p) shape_of d s.entered s.most_saved found after) is reads (start bytes) refl
+pub reading_from_start : (d : ℕ) (before after : ParserState) (found : Shape) (bytes : List ℕ) → before ≡ begun bytes
+    → ((p : Position) → before ≡ state_at p before.entered before.most_saved → HasReading (SymbolName initial p) shape_of d before.entered before.most_saved found after)
+    → HasReading (SymbolName initial (start bytes)) shape_of d 0 0 found after
+reading_from_start d before after found bytes is reads =
+    subst (λ (s : ParserState). (p : Position) → s ≡ state_at p s.entered s.most_saved → HasReading (SymbolName initial p) shape_of d s.entered s.most_saved found after) is reads (start bytes) refl
 
-pub no_prefix : (full : Bool) (symbol : List ℕ) → after_prefix symbol ≡ None → HasNoAnswer full symbol
-no_prefix full symbol none tree next cost reading within utf8 = let p = reading.prefix in cc
+pub no_prefix : (symbol : List ℕ) → after_prefix symbol ≡ None → HasNoAnswer symbol
+no_prefix symbol none tree next cost reading within utf8 = let p = reading.prefix in cc
 
 begins_dot : (bytes : List ℕ) → begins (46 ∷ []) bytes ≡ true → (0 < length bytes) × (get_or bytes 0 0 ≡ 46)
 begins_dot [] e = cc
@@ -91,24 +92,24 @@ prefix_after symbol inside e = go (begins (95 ∷ 90 ∷ []) symbol) (begins (95
     go false true e = record { count = 3; is = cc }
     go false false e = cc
 
-pub not_read : (full : Bool) (symbol inside : List ℕ) → after_prefix symbol ≡ Some inside → HasNoReading (Mangled full (start inside)) max_depth → HasNoAnswer full symbol
-not_read full symbol inside prefix none tree next cost reading within utf8 =
+pub not_read : (symbol inside : List ℕ) → after_prefix symbol ≡ Some inside → HasNoReading (SymbolName initial (start inside)) max_depth → HasNoAnswer symbol
+not_read symbol inside prefix none tree next cost reading within utf8 =
     let here : reading.inside ≡ inside = cc in
-    none tree next cost (subst (λ v. Mangled full (start v) tree next cost) here reading.reading) within
+    none tree next cost (subst (λ v. SymbolName initial (start v) tree next cost) here reading.reading) within
 
-read_wrongly : (full : Bool) (symbol inside : List ℕ) (e m : ℕ) (found : Shape) (after : ParserState)
-    → after_prefix symbol ≡ Some inside → HasReading (Mangled full (start inside)) shape_of max_depth e m found after
-    → ¬ (IsUtf8 (text found)) → HasNoAnswer full symbol
-read_wrongly full symbol inside e m found after prefix has bad tree next cost reading within utf8 =
+read_wrongly : (symbol inside : List ℕ) (e m : ℕ) (found : Shape) (after : ParserState)
+    → after_prefix symbol ≡ Some inside → HasReading (SymbolName initial (start inside)) shape_of max_depth e m found after
+    → ¬ (IsUtf8 (text found)) → HasNoAnswer symbol
+read_wrongly symbol inside e m found after prefix has bad tree next cost reading within utf8 =
     let here : reading.inside ≡ inside = cc in
-    let same = has.one tree next cost (subst (λ v. Mangled full (start v) tree next cost) here reading.reading) within in
+    let same = has.one tree next cost (subst (λ v. SymbolName initial (start v) tree next cost) here reading.reading) within in
     let is : shape_of tree ≡ found = ap shape_of same.0 ∙ sym has.found_is in
     bad (subst (λ (v : Shape). IsUtf8 (text v)) is utf8)
 
-read_rightly : (full : Bool) (symbol inside answer : List ℕ) (e m : ℕ) (found : Shape) (after : ParserState)
-    → after_prefix symbol ≡ Some inside → HasReading (Mangled full (start inside)) shape_of max_depth e m found after
-    → IsUtf8 (text found) → answer ≡ text found ++ suffix after.rest → HasAnswer full symbol answer
-read_rightly full symbol inside answer e m found after prefix has utf8 built =
+read_rightly : (symbol inside answer : List ℕ) (e m : ℕ) (found : Shape) (after : ParserState)
+    → after_prefix symbol ≡ Some inside → HasReading (SymbolName initial (start inside)) shape_of max_depth e m found after
+    → IsUtf8 (text found) → answer ≡ text found ++ suffix after.rest → HasAnswer symbol answer
+read_rightly symbol inside answer e m found after prefix has utf8 built =
     let same_rest : after.rest ≡ has.next.rest = ap (λ (s : ParserState). s.rest) has.state_is in
     record {
       tree = has.tree;
@@ -120,23 +121,23 @@ read_rightly full symbol inside answer e m found after prefix has utf8 built =
       answer_is = built ∙ ap (λ (v : Shape). text v ++ suffix after.rest) has.found_is ∙ ap (λ (v : List ℕ). printing has.tree ++ suffix v) same_rest;
     }
 
-pub printed : (full : Bool) (symbol inside : List ℕ) (e m : ℕ) (found : Shape) (after : ParserState) (answer : Option (List ℕ)) → after_prefix symbol ≡ Some inside
-    → HasReading (Mangled full (start inside)) shape_of max_depth e m found after → IsPrinted (text found) (suffix after.rest) answer → IsAnswerOf full symbol answer
-printed full symbol inside e m found after None prefix has bad = read_wrongly full symbol inside e m found after prefix has bad
-printed full symbol inside e m found after (Some answer) prefix has good = read_rightly full symbol inside answer e m found after prefix has good.0 good.1
+pub printed : (symbol inside : List ℕ) (e m : ℕ) (found : Shape) (after : ParserState) (answer : Option (List ℕ)) → after_prefix symbol ≡ Some inside
+    → HasReading (SymbolName initial (start inside)) shape_of max_depth e m found after → IsPrinted (text found) (suffix after.rest) answer → IsAnswer symbol answer
+printed symbol inside e m found after None prefix has bad = read_wrongly symbol inside e m found after prefix has bad
+printed symbol inside e m found after (Some answer) prefix has good = read_rightly symbol inside answer e m found after prefix has good.0 good.1
 
-pub suffix_utf8 : (full : Bool) (symbol inside : List ℕ) (e m : ℕ) (found : Shape) (after : ParserState) → IsUtf8 symbol → after_prefix symbol ≡ Some inside
-    → HasReading (Mangled full (start inside)) shape_of max_depth e m found after → IsUtf8 (suffix after.rest)
-suffix_utf8 full symbol inside e m found after utf8 prefix has =
+pub suffix_utf8 : (symbol inside : List ℕ) (e m : ℕ) (found : Shape) (after : ParserState) → IsUtf8 symbol → after_prefix symbol ≡ Some inside
+    → HasReading (SymbolName initial (start inside)) shape_of max_depth e m found after → IsUtf8 (suffix after.rest)
+suffix_utf8 symbol inside e m found after utf8 prefix has =
     let same_rest : after.rest ≡ has.next.rest = ap (λ (s : ParserState). s.rest) has.state_is in
-    rw same_rest (suffix_from symbol has.next.rest utf8 (after_then (prefix_after symbol inside prefix) (inside_takes full inside has.tree has.next has.cost has.reading).after))
+    rw same_rest (suffix_from symbol has.next.rest utf8 (after_then (prefix_after symbol inside prefix) (inside_takes inside has.tree has.next has.cost has.reading).after))
 
 -- the counts of a reading that was found are those of every reading
-pub counted : (full : Bool) (symbol inside : List ℕ) (found : Shape) (after : ParserState) → after_prefix symbol ≡ Some inside
-    → HasReading (Mangled full (start inside)) shape_of max_depth 0 0 found after → HasCountsOf full symbol after.entered after.most_saved
-counted full symbol inside found after prefix has tree next cost reading within =
+pub counted : (symbol inside : List ℕ) (found : Shape) (after : ParserState) → after_prefix symbol ≡ Some inside
+    → HasReading (SymbolName initial (start inside)) shape_of max_depth 0 0 found after → HasCounts symbol after.entered after.most_saved
+counted symbol inside found after prefix has tree next cost reading within =
     let here : reading.inside ≡ inside = cc in
-    let same = has.one tree next cost (subst (λ v. Mangled full (start v) tree next cost) here reading.reading) within in
+    let same = has.one tree next cost (subst (λ v. SymbolName initial (start v) tree next cost) here reading.reading) within in
     let entered : after.entered ≡ 0 + has.cost.count = ap (λ (s : ParserState). s.entered) has.state_is in
     let most : after.most_saved ≡ max 0 has.cost.peak = ap (λ (s : ParserState). s.most_saved) has.state_is in
     let count : cost.count ≡ has.cost.count = ap (λ (c : Cost). c.count) same.2 in
@@ -144,37 +145,37 @@ counted full symbol inside found after prefix has tree next cost reading within 
     (omega (arith, entered, count), omega (arith, most, peak))
 
 -- the components that a reading which was found leaves saved are those of every reading
-left_saved : (full : Bool) (symbol inside : List ℕ) (e m : ℕ) (found : Shape) (after : ParserState) (components : List (List ℕ)) (answer : List ℕ) → after_prefix symbol ≡ Some inside
-    → HasReading (Mangled full (start inside)) shape_of max_depth e m found after → components ≡ map text after.saved → HasComponentsOf full symbol (Some answer) components
-left_saved full symbol inside e m found after components answer prefix has is tree next cost reading within =
+left_saved : (symbol inside : List ℕ) (e m : ℕ) (found : Shape) (after : ParserState) (components : List (List ℕ)) (answer : List ℕ) → after_prefix symbol ≡ Some inside
+    → HasReading (SymbolName initial (start inside)) shape_of max_depth e m found after → components ≡ map text after.saved → HasComponents symbol (Some answer) components
+left_saved symbol inside e m found after components answer prefix has is tree next cost reading within =
     let here : reading.inside ≡ inside = cc in
-    let same = has.one tree next cost (subst (λ v. Mangled full (start v) tree next cost) here reading.reading) within in
+    let same = has.one tree next cost (subst (λ v. SymbolName initial (start v) tree next cost) here reading.reading) within in
     is
     ∙ ap (map text) (ap (λ (s : ParserState). s.saved) has.state_is)
     ∙ map-map text shape_of has.next.saved
     ∙ sym (ap (λ (q : Position). map printing q.saved) same.1)
 
 -- what is kept as components after a reading that was found
-pub kept_components : (full : Bool) (symbol inside : List ℕ) (e m : ℕ) (found : Shape) (after : ParserState) (buffer : Box Buffer Global) (answered : Bool) → after_prefix symbol ≡ Some inside
-    → HasReading (Mangled full (start inside)) shape_of max_depth e m found after → saved buffer.value ≡ after.saved
-    → HasComponentsOf full symbol (answer_text answered (Some buffer)) (component_texts answered (Some buffer))
-kept_components full symbol inside e m found after buffer false prefix has same = refl
-kept_components full symbol inside e m found after buffer true prefix has same = left_saved full symbol inside e m found after _ (main_bytes buffer.value) prefix has (ap (map text) same)
+pub kept_components : (symbol inside : List ℕ) (e m : ℕ) (found : Shape) (after : ParserState) (buffer : Box Buffer Global) (answered : Bool) → after_prefix symbol ≡ Some inside
+    → HasReading (SymbolName initial (start inside)) shape_of max_depth e m found after → saved buffer.value ≡ after.saved
+    → HasComponents symbol (answer_text answered (Some buffer)) (component_texts answered (Some buffer))
+kept_components symbol inside e m found after buffer false prefix has same = refl
+kept_components symbol inside e m found after buffer true prefix has same = left_saved symbol inside e m found after _ (main_bytes buffer.value) prefix has (ap (map text) same)
 
 -- the shapes that a reading which was found leaves saved are those of every reading
-left_shapes : (full : Bool) (symbol inside : List ℕ) (e m : ℕ) (found : Shape) (after : ParserState) (shapes : List Shape) (answer : List ℕ) → after_prefix symbol ≡ Some inside
-    → HasReading (Mangled full (start inside)) shape_of max_depth e m found after → shapes ≡ after.saved → HasSavedOf full symbol (Some answer) shapes
-left_shapes full symbol inside e m found after shapes answer prefix has is tree next cost reading within =
+left_shapes : (symbol inside : List ℕ) (e m : ℕ) (found : Shape) (after : ParserState) (shapes : List Shape) (answer : List ℕ) → after_prefix symbol ≡ Some inside
+    → HasReading (SymbolName initial (start inside)) shape_of max_depth e m found after → shapes ≡ after.saved → HasSaved symbol (Some answer) shapes
+left_shapes symbol inside e m found after shapes answer prefix has is tree next cost reading within =
     let here : reading.inside ≡ inside = cc in
-    let same = has.one tree next cost (subst (λ v. Mangled full (start v) tree next cost) here reading.reading) within in
+    let same = has.one tree next cost (subst (λ v. SymbolName initial (start v) tree next cost) here reading.reading) within in
     is ∙ ap (λ (s : ParserState). s.saved) has.state_is ∙ sym (ap (λ (q : Position). map shape_of q.saved) same.1)
 
 -- what is kept as their shapes
-pub kept_shapes : (full : Bool) (symbol inside : List ℕ) (e m : ℕ) (found : Shape) (after : ParserState) (buffer : Box Buffer Global) (answered : Bool) → after_prefix symbol ≡ Some inside
-    → HasReading (Mangled full (start inside)) shape_of max_depth e m found after → saved buffer.value ≡ after.saved
-    → HasSavedOf full symbol (answer_text answered (Some buffer)) (component_shapes answered (Some buffer))
-kept_shapes full symbol inside e m found after buffer false prefix has same = refl
-kept_shapes full symbol inside e m found after buffer true prefix has same = left_shapes full symbol inside e m found after (saved buffer.value) (main_bytes buffer.value) prefix has same
+pub kept_shapes : (symbol inside : List ℕ) (e m : ℕ) (found : Shape) (after : ParserState) (buffer : Box Buffer Global) (answered : Bool) → after_prefix symbol ≡ Some inside
+    → HasReading (SymbolName initial (start inside)) shape_of max_depth e m found after → saved buffer.value ≡ after.saved
+    → HasSaved symbol (answer_text answered (Some buffer)) (component_shapes answered (Some buffer))
+kept_shapes symbol inside e m found after buffer false prefix has same = refl
+kept_shapes symbol inside e m found after buffer true prefix has same = left_shapes symbol inside e m found after (saved buffer.value) (main_bytes buffer.value) prefix has same
 
 -- an answer that is kept is UTF-8
 pub kept_text : (printing after : List ℕ) (buffer : Box Buffer Global) (answered : Bool)

@@ -20,7 +20,7 @@ use Rattle.itanium_grammar.specs.Grammar.{ordinary_operator, constructor_unquali
 use Rattle.itanium_grammar.specs.Grammar.{ordinary_unqualified, unqualified, std_name, substitution_name, plain_name}
 use Rattle.itanium_grammar.specs.Grammar.{none_attached, args_attached, name, nested_name, local_name, unscoped_name}
 use Rattle.itanium_grammar.specs.Grammar.{nested, local, string_literal_entity, default_argument_entity, name_entity}
-use Rattle.itanium_grammar.specs.Cases.{EncodingEnd, NameCase, NestedName, LocalName, UnscopedName, TagCase, OrdinaryCase, UnqualifiedCase, UnscopedCase, AttachedCase, EntityCase}
+use Rattle.itanium_grammar.specs.Cases.{NameCase, NestedName, LocalName, UnscopedName, TagCase, OrdinaryCase, UnqualifiedCase, UnscopedCase, AttachedCase, EntityCase}
 
 -- a name without own qualifiers
 pub record HasNoOwn (t : Tree) : Type 0 where
@@ -153,10 +153,10 @@ quals_flags bare quals shown = go (has_quals quals)
     go false = (refl, refl)
 
 -- so the same return type follows a name with and without its own qualifiers
-pub same_return : (end : EncodingEnd) {bare : Bool} {x : Context} {p q : Position} {t : Tree} {c : Cost} → Name bare x p t q c → (bytes : List ℕ)
-    → return_case end (bare_shape t).templ (bare_shape t).ctor bytes ≡ return_case end (shape_of t).templ (shape_of t).ctor bytes
-same_return end {x = x} {p = p} {t = t} a bytes =
+pub same_return : {bare : Bool} {x : Context} {p q : Position} {t : Tree} {c : Cost} → Name bare x p t q c → (bytes : List ℕ)
+    → return_case (bare_shape t).templ (bare_shape t).ctor bytes ≡ return_case (shape_of t).templ (shape_of t).ctor bytes
+same_return {x = x} {p = p} {t = t} a bytes =
     let flags = quals_flags (bare_shape t) (own_quals t) (shows_words (name_case p.rest) x.words_shown) in
-    ap₂ (λ templ ctor. return_case end templ ctor bytes)
+    ap₂ (λ templ ctor. return_case templ ctor bytes)
     (sym flags.0 ∙ ap (λ (s : Shape). s.templ) (whole_name a))
     (sym flags.1 ∙ ap (λ (s : Shape). s.ctor) (whole_name a))

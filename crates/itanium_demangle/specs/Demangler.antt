@@ -1,5 +1,5 @@
 -- What a demangler keeps between calls.
-use Rattle.std.specs.Prelude.{◌≡◌, ℕ, ◌++◌, Bool, true, false, List, [], map, Option, Some, None}
+use Rattle.std.specs.Prelude.{◌≡◌, ℕ, ◌++◌, Bool, true, List, [], map, Option, Some, None}
 use Rattle.std.specs.Str.{IsUtf8}
 use Rattle.std.specs.Prelude.{Box}
 use Rattle.std.specs.Global.{Global}
@@ -8,7 +8,6 @@ use Rattle.demangle_text.specs.Shape.{Shape, text}
 use Rattle.demangle_text.specs.State.{saved, scopes, frame, outermost, main_bytes}
 use Rattle.itanium_grammar.specs.Answer.{HasCounts, HasComponents, HasSaved, HasBounds, HasLength}
 use Rattle.abi_scalars.specs.Symbol.{after_prefix}
-use Rattle.itanium_grammar.specs.Answer.{IsSignatureOrName, HasCountsOf, HasComponentsOf, HasSavedOf, HasLengthOf}
 use Rattle.itanium_demangle.specs.declared.demangler.Demangler.TheInside.{Inside}
 use Rattle.itanium_demangle.specs.LastResult.{LastResult, no_result}
 
@@ -31,7 +30,6 @@ component_shapes answered buffer = []
 abbrev pub last_result : Inside → LastResult
 last_result d = record {
   text = answer_text d.answered d.buffer;
-  signature = d.signature;
   entered = d.entered;
   most_saved = d.most_saved;
   components = component_texts d.answered d.buffer;
@@ -59,23 +57,12 @@ abbrev pub IsPrinted : List ℕ → List ℕ → Option (List ℕ) → Type 0
 IsPrinted printing after (Some text) = IsUtf8 printing × (text ≡ printing ++ after)
 IsPrinted printing after None = ¬ (IsUtf8 printing)
 
--- after a symbol the counts, the components, their shapes and the length of the text are those of its readings as a
--- name, and without a prefix nothing is left
+-- after a symbol the counts, the components, their shapes and the length of the text are those of its readings, and
+-- without a prefix nothing is left
 pub record IsPrepared (symbol : List ℕ) (last : LastResult) : Type 0 where
-  pub not_signature : last.signature ≡ false
   pub counts : HasCounts symbol last.entered last.most_saved
   pub components : HasComponents symbol last.text last.components
   pub saved : HasSaved symbol last.text last.saved
   pub bounds : HasBounds symbol last.entered last.most_saved
   pub longest : HasLength symbol last.text
-  pub no_prefix : after_prefix symbol ≡ None → last ≡ no_result
-
--- the same where its signature was asked for, and what the text is: that, or its name where it has no signature
-pub record IsPreparedSignature (symbol : List ℕ) (last : LastResult) : Type 0 where
-  pub answer : IsSignatureOrName last.signature symbol last.text
-  pub counts : HasCountsOf last.signature symbol last.entered last.most_saved
-  pub components : HasComponentsOf last.signature symbol last.text last.components
-  pub saved : HasSavedOf last.signature symbol last.text last.saved
-  pub bounds : HasBounds symbol last.entered last.most_saved
-  pub longest : HasLengthOf last.signature symbol last.text
   pub no_prefix : after_prefix symbol ≡ None → last ≡ no_result

@@ -1,12 +1,12 @@
 -- Symbols with their answers.
 use Rattle.std.specs.Prelude.{ℕ, List, [], ◌∷◌, ◌++◌, Some, None, codes}
-use Rattle.itanium_grammar.specs.Answer.{IsAnswer, IsSignature}
+use Rattle.itanium_grammar.specs.Answer.{IsAnswer}
 
 -- the letter é in UTF-8
 abbrev pub e_acute : List ℕ
 e_acute = 195 ∷ 169 ∷ []
 
--- what some symbols answer, and signatures of some
+-- what some symbols answer
 pub record WorkedSymbols : Type 0 where
   pub nested : IsAnswer (codes "_ZN3Foo3barEv") (Some (codes "Foo::bar"))
   pub reference_qualified : IsAnswer (codes "_ZNO3Foo3barEv") (Some (codes "Foo::bar &&"))
@@ -88,17 +88,3 @@ pub record WorkedSymbols : Type 0 where
   pub typeinfo :
       IsAnswer (codes "_ZTIMN4llvm4json6ObjectEKFSt8optionalINS_9StringRefEES3_E")
       (Some (codes "typeinfo for std::optional<llvm::StringRef> (llvm::json::Object::*)(llvm::StringRef) const"))
-  pub parameters : IsSignature (codes "_Z3fooi.cold") (Some (codes "foo(int).cold"))
-  pub no_parameters : IsSignature (codes "_Z3foov@plt") (Some (codes "foo()"))
-  pub name_encoding : IsSignature (codes "_ZN1AIiE1xE") (Some (codes "A<int>::x"))
-  pub own_qualifiers : IsSignature (codes "_ZNK3Foo3barEv") (Some (codes "Foo::bar() const"))
-  pub words_of_a_name : IsSignature (codes "_ZNK3Foo3barE") (Some (codes "Foo::bar const"))
-  pub return_type : IsSignature (codes "_Z1fIiEvT_") (Some (codes "f<int>(int)"))
-  pub expanded_parameters : IsSignature (codes "_Z1fIJiiEEvDpT_") (Some (codes "f<int, int>(int, int)"))
-  pub function_in_a_function : IsSignature (codes "_ZZ1fvENK1A1gEi") (Some (codes "f()::A::g(int) const"))
-  pub thunk_with_parameters :
-      IsSignature (codes "_ZThn8_N3Foo3barEv")
-      (Some (codes "{virtual override thunk({offset(-8)}, Foo::bar())}"))
-  pub ended_by_an_e : IsSignature (codes "_Z3fooE") None
-  pub ended_by_an_underscore : IsSignature (codes "_Z3foov_") None
-  pub discriminator : IsSignature (codes "_ZZ1fvE1x_0") None

@@ -1,13 +1,11 @@
 -- What a demangler keeps of the last symbol.
-use Rattle.std.specs.Prelude.{ℕ, Bool, false, List, [], Option, None}
+use Rattle.std.specs.Prelude.{ℕ, List, [], Option, None}
 use Rattle.demangle_text.specs.Shape.{Shape}
 
 -- what is left of the last symbol that was prepared
 pub record LastResult : Type 0 where
-  -- the text of the last symbol: its name or its signature, if it has one
+  -- the name of the last symbol, if it has one
   pub text : Option (List ℕ)
-  -- true if the text is the symbol's signature; false if it is its name, or if there is none
-  pub signature : Bool
   -- the counted productions that were entered
   pub entered : ℕ
   -- the most components that were saved at one moment
@@ -19,4 +17,4 @@ pub record LastResult : Type 0 where
 
 -- nothing is left, as on a new value
 abbrev pub no_result : LastResult
-no_result = record { text = None; signature = false; entered = 0; most_saved = 0; components = []; saved = [] }
+no_result = record { text = None; entered = 0; most_saved = 0; components = []; saved = [] }

@@ -1,14 +1,11 @@
 -- What the result of a parser or of a reader means in terms of trees, for the laws of `specs/Readers` and the clauses
 -- of `read_mangled_name`.
-use Rattle.std.specs.Prelude.{◌≡◌, ℕ, ◌+◌, max, map, Bool, true, false, Result, Ok, Err}
+use Rattle.std.specs.Prelude.{◌≡◌, ℕ, ◌+◌, max, map, Result, Ok, Err}
 use Rattle.demangle_text.specs.State.{IsLiving, shape}
-use Rattle.itanium_syntax.specs.Context.{showing_words}
 use Rattle.itanium_grammar.specs.Tree.{shape_of}
-use Rattle.itanium_grammar.specs.Cases.{AfterName}
-use Rattle.itanium_grammar.specs.Grammar.{Position, Cost}
-use Rattle.itanium_grammar.specs.Answer.{Fits, Mangled, initial}
-use Rattle.itanium_reader.specs.Parser.{ParserState, Parses, parse_encoding, parse_signature}
-use Rattle.demangle_text.specs.Shape.{Shape}
+use Rattle.itanium_grammar.specs.Grammar.{Position, Cost, SymbolName}
+use Rattle.itanium_grammar.specs.Answer.{Fits, initial}
+use Rattle.itanium_reader.specs.Parser.{ParserState}
 use Rattle.itanium_reader.specs.Outcome.{state}
 use Rattle.itanium_reader.specs.declared.reader.Reader.{Reader}
 use Rattle.itanium_reader.specs.declared.stop.Stop.{Stop}
@@ -53,18 +50,13 @@ HasNoReading {T} R depth =
 abbrev pub StandsFor : Reader → Position → Type 0
 StandsFor r p = state r ≡ state_at p r.entered (state r).most_saved
 
--- what follows the prefix of a symbol, as the readers read it: as a signature, or else as a name
-abbrev pub parse_mangled : ℕ → Bool → Parses Shape
-parse_mangled depth true = parse_signature depth (showing_words initial)
-parse_mangled depth false = parse_encoding depth AfterName initial
-
 -- what a reader of symbols says of trees
-abbrev pub ReadsAs : Result (Unit {0}) Stop → Bool → ℕ → Reader → Reader → Type 0
-ReadsAs (Ok u) signature depth before after =
+abbrev pub ReadsAs : Result (Unit {0}) Stop → ℕ → Reader → Reader → Type 0
+ReadsAs (Ok u) depth before after =
     IsLiving after.buffer.value after.found
     × ((p : Position) → StandsFor before p
-    → HasReading (Mangled signature p) shape_of depth before.entered (state before).most_saved
+    → HasReading (SymbolName initial p) shape_of depth before.entered (state before).most_saved
     (shape after.buffer.value after.found) (state after))
-ReadsAs (Err Unreadable) signature depth before after =
-    (p : Position) → StandsFor before p → HasNoReading (Mangled signature p) depth
-ReadsAs (Err Memory) signature depth before after = Unit {0}
+ReadsAs (Err Unreadable) depth before after =
+    (p : Position) → StandsFor before p → HasNoReading (SymbolName initial p) depth
+ReadsAs (Err Memory) depth before after = Unit {0}

@@ -10,12 +10,12 @@ use Rattle.itanium_syntax.specs.Expressions.{primary_case}
 use Rattle.itanium_syntax.specs.Encodings.{encoding_case}
 use Rattle.itanium_syntax.specs.Specials.{special_case}
 use Rattle.itanium_grammar.specs.Tree.{Tree, shape_of, bare_shape, own_quals, printing}
-use Rattle.itanium_grammar.specs.Grammar.{Position, Cost, Name, EncodingAs, SpecialAs, Thunk, SymbolName, Signature, Args, ArgumentAs}
+use Rattle.itanium_grammar.specs.Grammar.{Position, Cost, Name, EncodingAs, SpecialAs, Thunk, SymbolName, Args, ArgumentAs}
 use Rattle.itanium_grammar.specs.Cases.{EncodingEnd, AfterName}
 use Rattle.itanium_grammar.specs.Grammar.{Pack, PrimaryAs, Expression, TypeOf}
 use Rattle.itanium_grammar.specs.Answer.{max_text}
 use Rattle.itanium_reader.specs.Parser.{ParserState, Parses, parse_bare_name, parse_name, parse_encoding, parse_special}
-use Rattle.itanium_reader.specs.Parser.{parse_thunk, parse_signature, parse_args, parse_argument, parse_pack}
+use Rattle.itanium_reader.specs.Parser.{parse_thunk, parse_args, parse_argument, parse_pack}
 use Rattle.itanium_reader.specs.Parser.{parse_primary, parse_expression, parse_type}
 use Rattle.itanium_demangle.specs.Meaning.{state_at, HasReading, HasNoReading}
 
@@ -49,11 +49,11 @@ shape_of_args ts = arguments_shape (map shape_of ts)
 
 -- <encoding>, by how it ends and what it begins with
 abbrev pub Encoding : EncodingEnd → Context → Position → Tree → Position → Cost → Type 0
-Encoding end x p = EncodingAs (encoding_case end p.rest) end x p
+Encoding end x p = EncodingAs (encoding_case end p.rest) x p
 
 -- <special-name>, by what it begins with
-abbrev pub SpecialName : EncodingEnd → Context → Position → Tree → Position → Cost → Type 0
-SpecialName end x p = SpecialAs (special_case p.rest) end x p
+abbrev pub SpecialName : Context → Position → Tree → Position → Cost → Type 0
+SpecialName x p = SpecialAs (special_case p.rest) x p
 
 -- <template-arg>, by what it begins with
 abbrev pub Argument : Context → Position → Tree → Position → Cost → Type 0
@@ -79,20 +79,16 @@ pub record LawsOfReaders : Type 0 where
       → IsParserOf (Encoding end x) (Narrow (Encoding end x)) shape_of depth (parse_encoding depth end x)
   -- <special-name>
   pub special_names :
-      (depth : ℕ) (end : EncodingEnd) (x : Context)
-      → IsParserOf (SpecialName end x) (SpecialName end x) shape_of depth (parse_special depth end x)
+      (depth : ℕ) (x : Context)
+      → IsParserOf (SpecialName x) (SpecialName x) shape_of depth (parse_special depth x)
   -- T <call-offset> <encoding> | T c <call-offset> <call-offset> <encoding>
   pub thunks :
-      (depth : ℕ) (end : EncodingEnd) (x : Context)
-      → IsParserOf (Thunk end x) (Thunk end x) shape_of depth (parse_thunk depth end x)
-  -- what follows the prefix of a symbol, as a name
+      (depth : ℕ) (x : Context)
+      → IsParserOf (Thunk x) (Thunk x) shape_of depth (parse_thunk depth x)
+  -- what follows the prefix of a symbol
   pub symbols :
       (depth : ℕ) (x : Context)
       → IsParserOf (SymbolName x) (SymbolName x) shape_of depth (parse_encoding depth AfterName x)
-  -- and as a signature
-  pub signatures :
-      (depth : ℕ) (x : Context)
-      → IsParserOf (Signature x) (Signature x) shape_of depth (parse_signature depth x)
   -- <template-args>, those of a name or others
   pub lists :
       (depth : ℕ) (x : Context) (of_name : Bool)

@@ -1,16 +1,14 @@
 //! `Demangler`, which demangles symbol after symbol.
-ghost use Rattle.std.specs.Prelude.{◌≡◌, IfOk, OnOk, OnErr, IfSome, MatchResult, ⊤, option_map, is_some, slice_get, map, [], length, Bool, true, false, Some, None};
+ghost use Rattle.std.specs.Prelude.{◌≡◌, IfOk, OnOk, OnErr, IfSome, MatchResult, ⊤, option_map, is_some, slice_get, map, [], length, true, false, Some, None};
 ghost use Rattle.std.specs.Borrow.{sem};
 ghost use Rattle.std.specs.String.{string_bytes};
 ghost use Rattle.std.specs.Str.{IsUtf8};
 ghost use Rattle.demangle_text.specs.State.{IsLiving, shape, saved, scopes, main_bytes, frame, inside, outside, outermost, frame_start};
 ghost use Rattle.demangle_text.specs.Shape.{text};
 ghost use Rattle.itanium_grammar.specs.Answer.{IsAnswer, HasAtMostOneReading, HasCounts, HasComponents, HasSaved, HasBounds, HasLength};
-ghost use Rattle.itanium_grammar.specs.Answer.{IsAnswerOf, IsSignatureOrName, HasAtMostOneReadingOf, HasCountsOf, HasComponentsOf};
-ghost use Rattle.itanium_grammar.specs.Answer.{HasSavedOf, HasLengthOf};
 ghost use Rattle.abi_scalars.specs.Symbol as spec;
 ghost use Rattle.itanium_reader.specs.Outcome.{state};
-ghost use Rattle.itanium_demangle.specs.Demangler.{IsPrinted, IsPrepared, IsPreparedSignature, IsText, IsEnded, answer_text, component_texts, component_shapes};
+ghost use Rattle.itanium_demangle.specs.Demangler.{IsPrinted, IsPrepared, IsText, IsEnded, answer_text, component_texts, component_shapes};
 ghost use Rattle.itanium_demangle.specs.LastResult.{no_result};
 
 use crate::mangled_name::read_mangled_name;
@@ -24,7 +22,7 @@ use std::marker::Model;
 use std::str::from_utf8_unchecked;
 
 /// The most counted productions that may nest in a symbol. The counted productions are names, types, argument lists,
-/// packs, thunks, expressions and signatures.
+/// packs, thunks and expressions.
 pub const MAX_DEPTH: usize = 128;
 
 /// Demangles symbol after symbol in the same buffer, and keeps the last result.
@@ -32,8 +30,6 @@ pub const MAX_DEPTH: usize = 128;
 pub struct Demangler {
     // Whether the last symbol had a result. The result is all of the buffer's output.
     answered: bool,
-    // Whether that result is a signature.
-    signature: bool,
     entered: usize,
     most_saved: usize,
     buffer: Option<Box<Buffer>>,
@@ -104,7 +100,6 @@ impl Demangler {
     {
         Demangler {
             answered: false,
-            signature: false,
             entered: 0,
             most_saved: 0,
             buffer: None,
@@ -118,7 +113,6 @@ impl Demangler {
         requires text { IsText (answer_text answered (Some reader.buffer)) }
         requires ended { IsEnded answered (Some reader.buffer) }
         ensures text { self.new.text ≡ answer_text answered (Some reader.entry.buffer) }
-        ensures signature { self.new.signature ≡ self.old.signature }
         ensures entered { self.new.entered ≡ reader.entry.entered }
         ensures most_saved { self.new.most_saved ≡ (state reader.entry).most_saved }
         ensures components { self.new.components ≡ component_texts answered (Some reader.entry.buffer) }
@@ -128,57 +122,6 @@ impl Demangler {
         self.entered = reader.entered;
         self.most_saved = reader.most_saved();
         self.buffer = Some(reader.buffer);
-    }
-
-    /// Reads a symbol as a signature if `as_signature` is true, and as a name otherwise, and keeps the result. Returns
-    /// whether there is one. The field `signature` is false afterwards: `prepare_signature` sets it.
-    #[tactic(auto, using(crate::proofs::Rules::answers))]
-    #[inline(always)]
-    fn read(&mut self, alloc: Global, symbol: &str, as_signature: bool) -> Result<bool, AllocError>
-        ensures answer { IfOk result (λ _. IsAnswerOf as_signature symbol.now self.new.text) }
-        ensures found { IfOk result (λ found. found ≡ is_some self.new.text) }
-        ensures not_signature { self.new.signature ≡ false }
-        ensures counts { IfOk result (λ _. HasCountsOf as_signature symbol.now self.new.entered self.new.most_saved) }
-        ensures components { IfOk result (λ _. HasComponentsOf as_signature symbol.now self.new.text
-            self.new.components) }
-        ensures saved { IfOk result (λ _. HasSavedOf as_signature symbol.now self.new.text self.new.saved) }
-        ensures bounds { IfOk result (λ _. HasBounds symbol.now self.new.entered self.new.most_saved) }
-        ensures longest { IfOk result (λ _. HasLengthOf as_signature symbol.now self.new.text) }
-        ensures one { HasAtMostOneReadingOf as_signature symbol.now }
-        ensures no_prefix { spec.after_prefix symbol.now ≡ None → (result ≡ Ok false) × (self.new ≡ no_result) }
-        ensures err { OnErr result (self.new ≡ no_result) }
-    {
-        self.answered = false;
-        self.signature = false;
-        self.entered = 0;
-        self.most_saved = 0;
-        let Some(inside) = after_prefix(symbol.as_bytes()) else {
-            return Ok(false);
-        };
-        let mut buffer = match self.buffer.take() {
-            Some(buffer) => buffer,
-            None => Box::new(alloc, Buffer::new(alloc))?,
-        };
-        let mark = begin_answer(&mut buffer);
-        let mut reader = Reader {
-            rest: inside,
-            found: buffer.empty(),
-            buffer,
-            quals: None,
-            entered: 0,
-            recorded_peak: 0,
-        };
-        match read_mangled_name(&mut reader, MAX_DEPTH, as_signature) {
-            Ok(()) => {}
-            Err(Stop::Unreadable) => {
-                self.keep(reader, false);
-                return Ok(false);
-            }
-            Err(Stop::Memory) => return Err(AllocError),
-        }
-        let answered = end_answer(&mut reader, mark)?;
-        self.keep(reader, answered);
-        Ok(answered)
     }
 
     /// Reads a symbol and keeps its name, which `text` returns afterwards. Returns `true` if the symbol has a name.
@@ -199,6 +142,7 @@ impl Demangler {
     /// `construction vtable for ` and `-in-`.
     ///
     /// Returns an error if an allocation fails. Then the value has no result, and it can be used again.
+    #[tactic(auto, using(crate::proofs::Rules::answers))]
     #[inline(always)]
     pub fn prepare(&mut self, alloc: Global, symbol: &str) -> Result<bool, AllocError>
         ensures answer { IfOk result (λ _. IsAnswer symbol.now self.new.text) }
@@ -211,48 +155,37 @@ impl Demangler {
         ensures one { HasAtMostOneReading symbol.now }
         ensures no_prefix { spec.after_prefix symbol.now ≡ None → (result ≡ Ok false) × (self.new ≡ no_result) }
         ensures err { OnErr result (self.new ≡ no_result) }
-        ensures not_signature { self.new.signature ≡ false }
     {
-        self.read(alloc, symbol, false)
-    }
-
-    /// Reads a symbol with its parameters and keeps its signature, which `text` returns afterwards. If the symbol has
-    /// no signature, reads its name as `prepare` does and keeps that. `is_signature` says which of the two was kept.
-    /// Returns `true` if there is one.
-    ///
-    /// A signature is read up to a byte that is no ASCII letter, digit or underscore, or up to the end of the symbol.
-    /// If `T` or `G` follows the prefix, a special name is read, and otherwise a name with its parameters. The
-    /// qualifiers of a member function are printed after the parameters. A return type is read and not printed. The
-    /// function of a thunk is printed with its parameters. If the byte after the signature is a dot, all from that dot
-    /// on is appended.
-    ///
-    /// A signature is a counted production itself: at most `MAX_DEPTH` counted productions nest, the signature
-    /// included, and none of them prints more than `MAX_TEXT` bytes. The result has at most `MAX_TEXT` bytes and those
-    /// from the dot on, if it is a signature. Counts and components are those of the reading whose printing was kept.
-    /// If there is no result, the counts are those of the second reading, as a name. For a symbol of n bytes,
-    /// `entered` is at most 2 · n then, and `most_saved` at most n.
-    ///
-    /// Returns an error if an allocation fails. Then the value has no result, and it can be used again.
-    pub fn prepare_signature(&mut self, alloc: Global, symbol: &str) -> Result<bool, AllocError>
-        ensures answer { IfOk result (λ _. IsSignatureOrName self.new.signature symbol.now self.new.text) }
-        ensures found { IfOk result (λ found. found ≡ is_some self.new.text) }
-        ensures counts { IfOk result (λ _. HasCountsOf self.new.signature symbol.now self.new.entered
-            self.new.most_saved) }
-        ensures components { IfOk result (λ _. HasComponentsOf self.new.signature symbol.now self.new.text
-            self.new.components) }
-        ensures saved { IfOk result (λ _. HasSavedOf self.new.signature symbol.now self.new.text self.new.saved) }
-        ensures bounds { IfOk result (λ _. HasBounds symbol.now self.new.entered self.new.most_saved) }
-        ensures longest { IfOk result (λ _. HasLengthOf self.new.signature symbol.now self.new.text) }
-        ensures one { HasAtMostOneReadingOf true symbol.now }
-        ensures no_prefix { spec.after_prefix symbol.now ≡ None → (result ≡ Ok false) × (self.new ≡ no_result) }
-        ensures err { OnErr result (self.new ≡ no_result) }
-    {
-        let found = self.read(alloc, symbol, true)?;
-        if !found {
-            return self.read(alloc, symbol, false);
+        self.answered = false;
+        self.entered = 0;
+        self.most_saved = 0;
+        let Some(inside) = after_prefix(symbol.as_bytes()) else {
+            return Ok(false);
+        };
+        let mut buffer = match self.buffer.take() {
+            Some(buffer) => buffer,
+            None => Box::new(alloc, Buffer::new(alloc))?,
+        };
+        let mark = begin_answer(&mut buffer);
+        let mut reader = Reader {
+            rest: inside,
+            found: buffer.empty(),
+            buffer,
+            quals: None,
+            entered: 0,
+            recorded_peak: 0,
+        };
+        match read_mangled_name(&mut reader, MAX_DEPTH) {
+            Ok(()) => {}
+            Err(Stop::Unreadable) => {
+                self.keep(reader, false);
+                return Ok(false);
+            }
+            Err(Stop::Memory) => return Err(AllocError),
         }
-        self.signature = true;
-        Ok(true)
+        let answered = end_answer(&mut reader, mark)?;
+        self.keep(reader, answered);
+        Ok(answered)
     }
 
     /// Returns the result of the last symbol, borrowed until the next call. Returns `None` if that symbol had none,
@@ -289,12 +222,11 @@ impl Demangler {
     }
 
     /// Returns how many counted productions the last symbol entered, also if it had no result. The counted productions
-    /// are names, types, argument lists, packs, thunks, expressions and signatures. Returns 0 before the first symbol,
-    /// after an error, and for a text without the prefix of a symbol.
+    /// are names, types, argument lists, packs, thunks and expressions. Returns 0 before the first symbol, after an
+    /// error, and for a text without the prefix of a symbol.
     ///
-    /// A production that is refused because `MAX_DEPTH` are open isn't entered. If a signature was asked for and there
-    /// is none, the productions are those of the name. Their number is at most twice the number of the symbol's bytes.
-    /// If no reading is within the limits, nothing more is proved of the number.
+    /// A production that is refused because `MAX_DEPTH` are open isn't entered. The number is at most twice the number
+    /// of the symbol's bytes. If no reading is within the limits, nothing more is proved of it.
     pub fn entered(&self) -> usize
         ensures value { result ≡ self.now.entered }
     {
@@ -327,15 +259,6 @@ impl Demangler {
         }
     }
 
-    /// Returns whether the result of the last symbol is its signature, which `prepare_signature` or
-    /// `demangle_signature` found. Returns `false` if the result is the symbol's name, if there is none, and before
-    /// the first symbol.
-    pub fn is_signature(&self) -> bool
-        ensures value { result ≡ self.now.signature }
-    {
-        self.signature
-    }
-
     /// Returns the name of a symbol as `prepare` reads it, borrowed until the next call, or `None` if it has none. The
     /// value keeps the name for `text`. Returns an error if an allocation fails; then the value keeps nothing. A text
     /// without the prefix of a symbol is never an error.
@@ -354,27 +277,6 @@ impl Demangler {
             (λ _. last ≡ no_result))) }
     {
         self.prepare(alloc, symbol)?;
-        Ok(self.text())
-    }
-
-    /// Returns the signature of a symbol as `prepare_signature` reads it, borrowed until the next call. Returns the
-    /// symbol's name if it has no signature, and `None` if it has neither. The value keeps the result for `text`.
-    /// Returns an error if an allocation fails; then the value keeps nothing.
-    pub fn demangle_signature<'a>(
-        &'a mut self,
-        alloc: Global,
-        symbol: &'a str,
-    ) -> Result<Option<&'a str>, AllocError>
-        ensures answer { IfOk result (λ found. (signature : Bool) × IsSignatureOrName signature symbol.now
-            (option_map (λ text. text.now) found)) }
-        ensures no_prefix { spec.after_prefix symbol.now ≡ None → result ≡ Ok None }
-        // `last` is the value after the borrow, as for `demangle`. It also keeps which of the two was returned.
-        ensures* kept { sem 𝓛 (follows_so the_row the_row self.entry.ghost_name none (λ _ _. ⊤)
-            (λ last. MatchResult result
-            (λ found. (last.text ≡ option_map (λ text. text.now) found) × IsPreparedSignature symbol.now last)
-            (λ _. last ≡ no_result))) }
-    {
-        self.prepare_signature(alloc, symbol)?;
         Ok(self.text())
     }
 }

@@ -25,12 +25,11 @@
 //! ```
 //!
 //! The name is borrowed until the next call. Use one `Demangler` for many symbols: each keeps its buffer from one
-//! symbol to the next. `demangle_signature` returns the name with the parameters of the function, such as
-//! `Foo::bar()`. If a symbol has no signature, it returns what `demangle` returns.
+//! symbol to the next.
 //!
-//! `prepare` and `prepare_signature` read a symbol. Then `text` returns the result, and `is_signature` says which it
-//! is. `entered` and `most_saved` return counts, `component` a text of the substitution table, `buffer` its shapes.
-//! `demangle_owned` returns the name as a string, `is_utf8` tests bytes, and the module `scalar` reads single items.
+//! `prepare` reads a symbol. Then `text` returns the result, `entered` and `most_saved` return counts, `component` a
+//! text of the substitution table, `buffer` its shapes. `demangle_owned` returns the name as a string, `is_utf8` tests
+//! bytes, and the module `scalar` reads single items.
 //!
 //! `itanium_productions` reads the symbol, and `itanium_grammar` defines its result. The proofs of this crate show
 //! that the readers agree with the grammar. Begin with `demangler.rt`.

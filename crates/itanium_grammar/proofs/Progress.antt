@@ -3,7 +3,7 @@ use Rattle.std.proofs.Common.{◌≡◌, Bool, List, Option, drop, refl, arith, 
 use Rattle.demangle_quals.specs.declared.quals.Quals.{Quals}
 use Rattle.itanium_syntax.specs.declared.context.Context.{Context}
 use Rattle.abi_scalars.specs.declared.numerals.Radix.TheVariants.{Decimal, Base36}
-use Rattle.itanium_grammar.specs.Cases.{EncodingEnd, EncodingCase, SpecialCase, PrimaryCase, ExpressionCase, NameCase, ReturnCase}
+use Rattle.itanium_grammar.specs.Cases.{EncodingCase, SpecialCase, PrimaryCase, ExpressionCase, NameCase, ReturnCase}
 use Rattle.itanium_grammar.specs.Cases.{EncodingParamsCase, EntityCase, UnscopedCase, AttachedCase, FirstSegmentCase, SegmentCase}
 use Rattle.itanium_grammar.specs.Cases.{UnqualifiedCase, OrdinaryCase, TagCase, SubstitutionCase, ArgumentListCase, ArgumentCase}
 use Rattle.itanium_grammar.specs.Cases.{TypeCase, CvCase, ParamsCase, TypeListCase}
@@ -80,12 +80,12 @@ mutual
       after_then (after_drop 2 p.rest) (takes_takes (ordinal_takes (drop 2 p.rest) (n, r) found) (name_takes a)).after
   entity_after (name_entity {p = p} a) = after_then (after_drop 1 p.rest) (name_takes a).after
 
-  pub encoding_as_takes : {case : EncodingCase} {end : EncodingEnd} {x : Context} {p q : Position} {t : Tree} {c : Cost} → EncodingAs case end x p t q c → Takes q.rest p.rest
+  pub encoding_as_takes : {case : EncodingCase} {x : Context} {p q : Position} {t : Tree} {c : Cost} → EncodingAs case x p t q c → Takes q.rest p.rest
   encoding_as_takes (special_encoding a) = special_takes a
   encoding_as_takes (name_encoding a) = name_takes a
-  encoding_as_takes (full_encoding a b d) = takes_then (name_takes a) (after_then (return_after b) (signature_after d))
+  encoding_as_takes (full_encoding a b d) = takes_then (name_takes a) (after_then (return_after b) (encoding_params_after d))
 
-  special_takes : {case : SpecialCase} {end : EncodingEnd} {x : Context} {p q : Position} {t : Tree} {c : Cost} → SpecialAs case end x p t q c → Takes q.rest p.rest
+  special_takes : {case : SpecialCase} {x : Context} {p q : Position} {t : Tree} {c : Cost} → SpecialAs case x p t q c → Takes q.rest p.rest
   special_takes (type_special {p = p} a) = after_takes (after_drop 2 p.rest) (type_takes a)
   special_takes (name_special {p = p} a) = after_takes (after_drop 2 p.rest) (name_takes a)
   special_takes (temporary_special {p = p} {q = q} {number = k} {rest = r} a found) =
@@ -94,7 +94,7 @@ mutual
       after_takes (after_drop 2 p.rest) (takes_takes (type_takes a) (takes_takes (base_offset_takes q.rest r found) (type_takes b)))
   special_takes (thunk_special a) = thunk_takes a
 
-  pub thunk_takes : {end : EncodingEnd} {x : Context} {p q : Position} {t : Tree} {c : Cost} → Thunk end x p t q c → Takes q.rest p.rest
+  pub thunk_takes : {x : Context} {p q : Position} {t : Tree} {c : Cost} → Thunk x p t q c → Takes q.rest p.rest
   thunk_takes (thunk {p = p} {offsets = o} {rest = r} found a) =
       after_takes (after_then (after_drop 1 p.rest) (thunk_offsets_after (drop 1 p.rest) (o, r) found)) (encoding_as_takes a)
 
@@ -102,9 +102,9 @@ mutual
   return_after (no_return_type {p = p}) = after_none p.rest
   return_after (some_return_type a) = (type_takes a).after
 
-  signature_after : {case : EncodingParamsCase} {end : EncodingEnd} {x : Context} {t u : Tree} {p q : Position} {c : Cost} → EncodingParamsAs case end x t p u q c → IsAfter q.rest p.rest
-  signature_after (no_encoding_params {p = p}) = after_none p.rest
-  signature_after (some_encoding_params a) = params_after a
+  encoding_params_after : {case : EncodingParamsCase} {x : Context} {t u : Tree} {p q : Position} {c : Cost} → EncodingParamsAs case x t p u q c → IsAfter q.rest p.rest
+  encoding_params_after (no_encoding_params {p = p}) = after_none p.rest
+  encoding_params_after (some_encoding_params a) = params_after a
 
   unscoped_takes : {case : UnscopedCase} {x : Context} {p q : Position} {t : Tree} {c : Cost} → UnscopedAs case x p t q c → Takes q.rest p.rest
   unscoped_takes (std_name {p = p} a b) = takes_then (after_takes (after_drop 2 p.rest) (unqualified_takes a)) (attached_after b)
@@ -222,11 +222,11 @@ mutual
   function_takes (function {p = p} {r = r} plain a b there) =
       after_takes (after_drop 1 p.rest) (takes_then (type_takes a) (after_then (params_after b) (after_then (reference_after r.rest) (after_drop 1 (past_reference r.rest)))))
 
-  params_after : {case : ParamsCase} {end : EncodingEnd} {in_function_type : Bool} {x : Context} {p q : Position} {ts : List Tree} {c : Cost} → ParamsAs case end in_function_type x p ts q c → IsAfter q.rest p.rest
+  params_after : {case : ParamsCase} {in_function_type : Bool} {x : Context} {p q : Position} {ts : List Tree} {c : Cost} → ParamsAs case in_function_type x p ts q c → IsAfter q.rest p.rest
   params_after (no_params {p = p}) = after_drop 1 p.rest
   params_after (some_params a) = types_after a
 
-  pub types_after : {case : TypeListCase} {end : EncodingEnd} {in_function_type : Bool} {x : Context} {p q : Position} {ts : List Tree} {c : Cost} → TypeListAs case end in_function_type x p ts q c → IsAfter q.rest p.rest
+  pub types_after : {case : TypeListCase} {in_function_type : Bool} {x : Context} {p q : Position} {ts : List Tree} {c : Cost} → TypeListAs case in_function_type x p ts q c → IsAfter q.rest p.rest
   types_after (end_of_types {p = p}) = after_none p.rest
   types_after (one_more_type a b) = after_then (type_takes a).after (types_after b)
 

@@ -4,7 +4,7 @@ use Rattle.std.proofs.lemmas.List.{append-nil}
 use Rattle.std.proofs.Math.Seq.{take-append_seam}
 use Rattle.demangle_quals.specs.declared.quals.Quals.{Quals}
 use Rattle.itanium_syntax.specs.declared.context.Context.{Context}
-use Rattle.itanium_grammar.specs.Cases.{EncodingEnd, ArgumentListCase, ArgumentCase, AttachedCase, CvCase, EntityCase, ExpressionCase}
+use Rattle.itanium_grammar.specs.Cases.{ArgumentListCase, ArgumentCase, AttachedCase, CvCase, EntityCase, ExpressionCase}
 use Rattle.itanium_grammar.specs.Cases.{FirstSegmentCase, OrdinaryCase, PrimaryCase, NameCase, ParamsCase, ReturnCase}
 use Rattle.itanium_grammar.specs.Cases.{SegmentCase, EncodingParamsCase, SpecialCase, SubstitutionCase, EncodingCase}
 use Rattle.itanium_grammar.specs.Cases.{TagCase, TypeCase, TypeListCase, UnqualifiedCase, UnscopedCase}
@@ -87,28 +87,28 @@ mutual
   entity_keeps (default_argument_entity a b) = name_keeps b
   entity_keeps (name_entity a) = name_keeps a
 
-  encoding_keeps : {case : EncodingCase} {end : EncodingEnd} {x : Context} {p : Position} {t : Tree} {q : Position} {c : Cost} → EncodingAs case end x p t q c → Keeps p.scopes q.scopes
+  encoding_keeps : {case : EncodingCase} {x : Context} {p : Position} {t : Tree} {q : Position} {c : Cost} → EncodingAs case x p t q c → Keeps p.scopes q.scopes
   encoding_keeps (special_encoding a) = special_keeps a
   encoding_keeps (name_encoding a) = name_keeps a
-  encoding_keeps (full_encoding a b d) = keeps_then (name_keeps a) (keeps_then (return_keeps b) (signature_keeps d))
+  encoding_keeps (full_encoding a b d) = keeps_then (name_keeps a) (keeps_then (return_keeps b) (encoding_params_keeps d))
 
-  special_keeps : {case : SpecialCase} {end : EncodingEnd} {x : Context} {p : Position} {t : Tree} {q : Position} {c : Cost} → SpecialAs case end x p t q c → Keeps p.scopes q.scopes
+  special_keeps : {case : SpecialCase} {x : Context} {p : Position} {t : Tree} {q : Position} {c : Cost} → SpecialAs case x p t q c → Keeps p.scopes q.scopes
   special_keeps (type_special a) = type_keeps a
   special_keeps (name_special a) = name_keeps a
   special_keeps (temporary_special a b) = name_keeps a
   special_keeps (construction_special a b d) = keeps_then (type_keeps a) (type_keeps d)
   special_keeps (thunk_special a) = thunk_keeps a
 
-  thunk_keeps : {end : EncodingEnd} {x : Context} {p : Position} {t : Tree} {q : Position} {c : Cost} → Thunk end x p t q c → Keeps p.scopes q.scopes
+  thunk_keeps : {x : Context} {p : Position} {t : Tree} {q : Position} {c : Cost} → Thunk x p t q c → Keeps p.scopes q.scopes
   thunk_keeps (thunk a b) = encoding_keeps b
 
   return_keeps : {case : ReturnCase} {x : Context} {p : Position} {q : Position} {c : Cost} → ReturnAs case x p q c → Keeps p.scopes q.scopes
   return_keeps no_return_type = keeps_all _
   return_keeps (some_return_type a) = type_keeps a
 
-  signature_keeps : {case : EncodingParamsCase} {end : EncodingEnd} {x : Context} {t : Tree} {p : Position} {u : Tree} {q : Position} {c : Cost} → EncodingParamsAs case end x t p u q c → Keeps p.scopes q.scopes
-  signature_keeps no_encoding_params = keeps_all _
-  signature_keeps (some_encoding_params a) = params_keeps a
+  encoding_params_keeps : {case : EncodingParamsCase} {x : Context} {t : Tree} {p : Position} {u : Tree} {q : Position} {c : Cost} → EncodingParamsAs case x t p u q c → Keeps p.scopes q.scopes
+  encoding_params_keeps no_encoding_params = keeps_all _
+  encoding_params_keeps (some_encoding_params a) = params_keeps a
 
   unscoped_keeps : {case : UnscopedCase} {x : Context} {p : Position} {t : Tree} {q : Position} {c : Cost} → UnscopedAs case x p t q c → Keeps p.scopes q.scopes
   unscoped_keeps (std_name a b) = keeps_then (unqualified_keeps a) (attached_keeps b)
@@ -214,11 +214,11 @@ mutual
   function_keeps : {x : Context} {quals : Quals} {p : Position} {t : Tree} {q : Position} {c : Cost} → Function x quals p t q c → Keeps p.scopes q.scopes
   function_keeps (function a b d f) = keeps_then (type_keeps b) (params_keeps d)
 
-  params_keeps : {case : ParamsCase} {end : EncodingEnd} {b : Bool} {x : Context} {p : Position} {ts : List Tree} {q : Position} {c : Cost} → ParamsAs case end b x p ts q c → Keeps p.scopes q.scopes
+  params_keeps : {case : ParamsCase} {b : Bool} {x : Context} {p : Position} {ts : List Tree} {q : Position} {c : Cost} → ParamsAs case b x p ts q c → Keeps p.scopes q.scopes
   params_keeps no_params = keeps_all _
   params_keeps (some_params a) = types_keeps a
 
-  types_keeps : {case : TypeListCase} {end : EncodingEnd} {b : Bool} {x : Context} {p : Position} {ts : List Tree} {q : Position} {c : Cost} → TypeListAs case end b x p ts q c → Keeps p.scopes q.scopes
+  types_keeps : {case : TypeListCase} {b : Bool} {x : Context} {p : Position} {ts : List Tree} {q : Position} {c : Cost} → TypeListAs case b x p ts q c → Keeps p.scopes q.scopes
   types_keeps end_of_types = keeps_all _
   types_keeps (one_more_type a b) = keeps_then (type_keeps a) (types_keeps b)
 

@@ -4,7 +4,7 @@ use Rattle.std.specs.Prelude.{option_map}
 use Rattle.std.proofs.lemmas.Option.{some_pair_parts, same_Some}
 use Rattle.demangle_quals.specs.declared.quals.Quals.{Quals}
 use Rattle.itanium_syntax.specs.declared.context.Context.{Context}
-use Rattle.itanium_grammar.specs.Cases.{EncodingEnd, AtE, EncodingCase, SpecialCase, PrimaryCase, ExpressionCase, NameCase, ReturnCase}
+use Rattle.itanium_grammar.specs.Cases.{AfterName, EncodingCase, SpecialCase, PrimaryCase, ExpressionCase, NameCase, ReturnCase}
 use Rattle.itanium_grammar.specs.Cases.{EncodingParamsCase, EntityCase, UnscopedCase, AttachedCase, FirstSegmentCase, SegmentCase}
 use Rattle.itanium_grammar.specs.Cases.{UnqualifiedCase, OrdinaryCase, TagCase, SubstitutionCase, ArgumentListCase, ArgumentCase}
 use Rattle.itanium_grammar.specs.Cases.{TypeCase, CvCase, ParamsCase, TypeListCase}
@@ -16,7 +16,7 @@ use Rattle.itanium_syntax.specs.Context.{showing_words}
 use Rattle.itanium_syntax.specs.Expressions.{is_external, literal_value, expression_text}
 use Rattle.itanium_syntax.specs.Offsets.{past_base_offset}
 use Rattle.itanium_syntax.specs.Specials.{special_text, special_close}
-use Rattle.itanium_syntax.specs.Encodings.{for_thunk, return_case, encoding_params_case, entity_case, encoding_case}
+use Rattle.itanium_syntax.specs.Encodings.{return_case, encoding_params_case, entity_case, encoding_case}
 use Rattle.itanium_syntax.specs.Args.{attached_case, argument_list_case}
 use Rattle.itanium_syntax.specs.Types.{params_case, type_list_case, elaborated_text, with_reference, past_reference}
 use Rattle.itanium_grammar.specs.Tree.{Tree, worded, temporary_of, construction_of, thunk_of, Operand, operand}
@@ -143,18 +143,18 @@ mutual
       record { tree = ap₂ (default_argument_of t) (sym found.0) same.tree; next = same.next; cost = same.cost }
   one_entity (name_entity {t = t} a) (name_entity b) = same_made (local_in t) (one_name a b)
 
-  pub one_encoding_as : {case : EncodingCase} {end : EncodingEnd} {x : Context} {p q r : Position} {t u : Tree} {c d : Cost} → EncodingAs case end x p t q c → EncodingAs case end x p u r d
+  pub one_encoding_as : {case : EncodingCase} {x : Context} {p q r : Position} {t u : Tree} {c d : Cost} → EncodingAs case x p t q c → EncodingAs case x p u r d
       → Same t u q r c d
   one_encoding_as (special_encoding a) (special_encoding b) = one_special a b
   one_encoding_as (name_encoding a) (name_encoding b) = one_name a b
-  one_encoding_as (full_encoding {end = end} {x = x} a b g) (full_encoding {r = r} {s = s} {u = u} {d = d} {e = e} f h k) =
+  one_encoding_as (full_encoding {x = x} a b g) (full_encoding {r = r} {s = s} {u = u} {d = d} {e = e} f h k) =
       let first = one_name a f in
-      let mid = one_return b (along (λ t o. ReturnAs (return_case end (shape_of t).templ (shape_of t).ctor o.rest) x o r d) (sym first.tree) (sym first.next) h) in
-      let same = one_signature g (along (λ t o. EncodingParamsAs (encoding_params_case end o.rest) end x t o u s e) (sym first.tree) (sym mid.0) k) in
+      let mid = one_return b (along (λ t o. ReturnAs (return_case (shape_of t).templ (shape_of t).ctor o.rest) x o r d) (sym first.tree) (sym first.next) h) in
+      let same = one_encoding_params g (along (λ t o. EncodingParamsAs (encoding_params_case o.rest) x t o u s e) (sym first.tree) (sym mid.0) k) in
       record { tree = same.tree; next = same.next; cost = ap₂ both first.cost (ap₂ both mid.1 same.cost) }
 
-  pub one_special : {case : SpecialCase} {end : EncodingEnd} {x : Context} {p q r : Position} {t u : Tree} {c d : Cost}
-      → SpecialAs case end x p t q c → SpecialAs case end x p u r d → Same t u q r c d
+  pub one_special : {case : SpecialCase} {x : Context} {p q r : Position} {t u : Tree} {c d : Cost}
+      → SpecialAs case x p t q c → SpecialAs case x p u r d → Same t u q r c d
   one_special (type_special {p = p} a) (type_special b) = same_made (λ t. worded (special_text p.rest) t (special_close p.rest)) (one_type a b)
   one_special (name_special {p = p} a) (name_special b) = same_made (λ t. worded (special_text p.rest) t (special_close p.rest)) (one_name a b)
   one_special (temporary_special a e) (temporary_special b g) =
@@ -168,20 +168,20 @@ mutual
       record { tree = ap₂ construction_of same.tree first.tree; next = same.next; cost = ap₂ both first.cost same.cost }
   one_special (thunk_special a) (thunk_special b) = one_thunk a b
 
-  pub one_thunk : {end : EncodingEnd} {x : Context} {p q r : Position} {t u : Tree} {c d : Cost} → Thunk end x p t q c → Thunk end x p u r d → Same t u q r c d
-  one_thunk (thunk {end = end} {x = x} {p = p} e a) (thunk {q = r} {t = u} {c = d} g b) =
+  pub one_thunk : {x : Context} {p q r : Position} {t u : Tree} {c d : Cost} → Thunk x p t q c → Thunk x p u r d → Same t u q r c d
+  one_thunk (thunk {x = x} {p = p} e a) (thunk {q = r} {t = u} {c = d} g b) =
       let found = some_pair_parts _ _ _ _ (sym g ∙ e) in
-      let same = one_encoding_as a (subst (λ v. EncodingAs (encoding_case (for_thunk end) v) (for_thunk end) x (with_rest v p) u r d) found.1 b) in
+      let same = one_encoding_as a (subst (λ v. EncodingAs (encoding_case AfterName v) x (with_rest v p) u r d) found.1 b) in
       same_counted printing (record { tree = ap₂ thunk_of (sym found.0) same.tree; next = same.next; cost = same.cost })
 
   one_return : {case : ReturnCase} {x : Context} {p q r : Position} {c d : Cost} → ReturnAs case x p q c → ReturnAs case x p r d → (q ≡ r) × (c ≡ d)
   one_return no_return_type no_return_type = (refl, refl)
   one_return (some_return_type a) (some_return_type b) = let same = one_type a b in (same.next, same.cost)
 
-  one_signature : {case : EncodingParamsCase} {end : EncodingEnd} {x : Context} {t u v : Tree} {p q r : Position} {c d : Cost}
-      → EncodingParamsAs case end x t p u q c → EncodingParamsAs case end x t p v r d → Same u v q r c d
-  one_signature no_encoding_params no_encoding_params = record { tree = refl; next = refl; cost = refl }
-  one_signature (some_encoding_params {t = t} a) (some_encoding_params b) =
+  one_encoding_params : {case : EncodingParamsCase} {x : Context} {t u v : Tree} {p q r : Position} {c d : Cost}
+      → EncodingParamsAs case x t p u q c → EncodingParamsAs case x t p v r d → Same u v q r c d
+  one_encoding_params no_encoding_params no_encoding_params = record { tree = refl; next = refl; cost = refl }
+  one_encoding_params (some_encoding_params {t = t} a) (some_encoding_params b) =
       let same = one_params a b in record { tree = ap (λ ts. function_encoding t (trees ts)) same.tree; next = same.next; cost = same.cost }
 
   one_unscoped : {case : UnscopedCase} {x : Context} {p q r : Position} {t u : Tree} {c d : Cost}
@@ -387,7 +387,7 @@ mutual
       → Function x quals p t q c → Function x quals p u r d → Same t u q r c d
   one_function (function {x = x} {quals = quals} plain a b there) (function {r = r} {ts = us} {d = d} other f h here) =
       let ret = one_type a f in
-      let params = one_params b (subst (λ o. ParamsAs (params_case AtE o.rest) AtE true x o us r d) (sym ret.next) h) in
+      let params = one_params b (subst (λ o. ParamsAs (params_case o.rest) true x o us r d) (sym ret.next) h) in
       let quals_same = ap (λ o. with_reference quals o.rest) params.next in
       record {
         tree = λ j. function_to (ret.tree j) (trees (params.tree j)) (quals_same j);
@@ -395,17 +395,17 @@ mutual
         cost = ap₂ both ret.cost params.cost;
       }
 
-  one_params : {case : ParamsCase} {end : EncodingEnd} {in_function_type : Bool} {x : Context} {p q r : Position} {ts us : List Tree} {c d : Cost}
-      → ParamsAs case end in_function_type x p ts q c → ParamsAs case end in_function_type x p us r d → Same ts us q r c d
+  one_params : {case : ParamsCase} {in_function_type : Bool} {x : Context} {p q r : Position} {ts us : List Tree} {c d : Cost}
+      → ParamsAs case in_function_type x p ts q c → ParamsAs case in_function_type x p us r d → Same ts us q r c d
   one_params no_params no_params = record { tree = refl; next = refl; cost = refl }
   one_params (some_params a) (some_params b) = one_types a b
 
-  one_types : {case : TypeListCase} {end : EncodingEnd} {in_function_type : Bool} {x : Context} {p q r : Position} {ts us : List Tree} {c d : Cost}
-      → TypeListAs case end in_function_type x p ts q c → TypeListAs case end in_function_type x p us r d → Same ts us q r c d
+  one_types : {case : TypeListCase} {in_function_type : Bool} {x : Context} {p q r : Position} {ts us : List Tree} {c d : Cost}
+      → TypeListAs case in_function_type x p ts q c → TypeListAs case in_function_type x p us r d → Same ts us q r c d
   one_types end_of_types end_of_types = record { tree = refl; next = refl; cost = refl }
-  one_types (one_more_type {end = end} {in_function_type = f} {x = x} a b) (one_more_type {r = r} {ts = us} {d = d} e g) =
+  one_types (one_more_type {in_function_type = f} {x = x} a b) (one_more_type {r = r} {ts = us} {d = d} e g) =
       let first = one_type a e in
-      let others = one_types b (subst (λ o. TypeListAs (type_list_case end f o.rest) end f x o us r d) (sym first.next) g) in
+      let others = one_types b (subst (λ o. TypeListAs (type_list_case f o.rest) f x o us r d) (sym first.next) g) in
       record { tree = ap₂ (λ t ts. t ∷ ts) first.tree others.tree; next = others.next; cost = ap₂ both first.cost others.cost }
 
   one_type_attached : {case : AttachedCase} {x : Context} {t u v : Tree} {p q r : Position} {c d : Cost}

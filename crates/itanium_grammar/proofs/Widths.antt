@@ -10,15 +10,15 @@ use Rattle.abi_scalars.specs.declared.numerals.Radix.{Radix}
 use Rattle.abi_scalars.specs.Bytes.{begins}
 use Rattle.abi_scalars.specs.Scalars.{numeral, plus_one, before_underscore, index_of}
 use Rattle.itanium_syntax.specs.Specials.{begins_t_and, special_text, special_close}
-use Rattle.itanium_grammar.specs.Answer.{max_text, longest_printing, start, Mangled, HasAnswer, IsAnswerOf, HasLengthOf}
+use Rattle.itanium_grammar.specs.Answer.{max_text, longest_printing, initial, start, HasAnswer, IsAnswer, HasLength}
 use Rattle.abi_scalars.specs.Symbol.{suffix}
 use Rattle.itanium_syntax.specs.Encodings.{encoding_case}
 use Rattle.itanium_syntax.proofs.Fronts.{alone_after_name}
 use Rattle.itanium_grammar.specs.Tree.{Tree, shape_of, printing, worded, temporary_of, construction_of}
-use Rattle.itanium_grammar.specs.Grammar.{Position, Cost, Name, TypeOf, Thunk, SpecialAs, EncodingAs, Signature, signature, special_encoding, full_encoding, name, type}
+use Rattle.itanium_grammar.specs.Grammar.{Position, Cost, Name, TypeOf, Thunk, SpecialAs, EncodingAs, SymbolName, special_encoding, full_encoding, name, type}
 use Rattle.itanium_grammar.specs.Grammar.{thunk, type_special, name_special, temporary_special, construction_special}
 use Rattle.itanium_grammar.specs.Grammar.{thunk_special, name_encoding}
-use Rattle.itanium_grammar.specs.Cases.{EncodingEnd, AfterName, SpecialCase, EncodingCase}
+use Rattle.itanium_grammar.specs.Cases.{AfterName, SpecialCase, EncodingCase}
 use Rattle.itanium_grammar.proofs.Agreement.{one_reading}
 
 -- what special names print
@@ -41,7 +41,7 @@ type_narrow (type a) = omega arith
 name_narrow : {x : Context} {p q : Position} {t : Tree} {c : Cost} → Name false x p t q c → length (printing t) ≤ c.width
 name_narrow (name a) = omega arith
 
-thunk_narrow : {end : EncodingEnd} {x : Context} {p q : Position} {t : Tree} {c : Cost} → Thunk end x p t q c → length (printing t) ≤ c.width
+thunk_narrow : {x : Context} {p q : Position} {t : Tree} {c : Cost} → Thunk x p t q c → length (printing t) ≤ c.width
 thunk_narrow (thunk found a) = omega arith
 
 -- the words around it
@@ -110,7 +110,7 @@ enough = omega arith
 worded_len : (bytes : List ℕ) (t : Tree) → length (printing t) ≤ max_text → length (concat (special_text bytes ∷ printing t ∷ special_close bytes ∷ [])) ≤ 2 * max_text + 28
 worded_len bytes t narrow = omega (arith, three_len (special_text bytes) (printing t) (special_close bytes), words_len bytes, close_len bytes)
 
-special_wide : {case : SpecialCase} {end : EncodingEnd} {x : Context} {p q : Position} {t : Tree} {c : Cost} → SpecialAs case end x p t q c → c.width ≤ max_text → length (printing t) ≤ 2 * max_text + 28
+special_wide : {case : SpecialCase} {x : Context} {p q : Position} {t : Tree} {c : Cost} → SpecialAs case x p t q c → c.width ≤ max_text → length (printing t) ≤ 2 * max_text + 28
 special_wide (type_special {p = p} {t = t} a) narrow =
     rw (worded_prints (special_text p.rest) t (special_close p.rest)) (worded_len p.rest t (omega (arith, type_narrow a)))
 special_wide (name_special {p = p} {t = t} a) narrow =
@@ -125,30 +125,26 @@ special_wide (construction_special {t = t} {u = u} a found b) narrow =
     (omega (arith, four_len (codes "construction vtable for ") (printing u) (codes "-in-") (printing t), type_narrow a, type_narrow b))
 special_wide (thunk_special a) narrow = omega (arith, thunk_narrow a)
 
-symbol_as_wide : {case : EncodingCase} {x : Context} {p q : Position} {t : Tree} {c : Cost} → encoding_case AfterName p.rest ≡ case → EncodingAs case AfterName x p t q c → c.width ≤ max_text → length (printing t) ≤ 2 * max_text + 28
+symbol_as_wide : {case : EncodingCase} {x : Context} {p q : Position} {t : Tree} {c : Cost} → encoding_case AfterName p.rest ≡ case → EncodingAs case x p t q c → c.width ≤ max_text → length (printing t) ≤ 2 * max_text + 28
 symbol_as_wide is (special_encoding a) narrow = special_wide a narrow
 symbol_as_wide is (name_encoding a) narrow = omega (arith, name_narrow a)
 symbol_as_wide {p = p} is (full_encoding a b d) narrow = absurd (alone_after_name p.rest is)
 
-signature_narrow : {x : Context} {p q : Position} {t : Tree} {c : Cost} → Signature x p t q c → length (printing t) ≤ c.width
-signature_narrow (signature a end) = omega arith
-
-inside_wide : (full : Bool) (inside : List ℕ) (t : Tree) (q : Position) (c : Cost) → Mangled full (start inside) t q c → c.width ≤ max_text → length (printing t) ≤ longest_printing full
-unfolding max_text
-inside_wide true inside t q c a narrow = omega (arith, signature_narrow a)
-inside_wide false inside t q c a narrow = omega (arith, symbol_as_wide refl a narrow)
-
 -- a symbol's printing
+inside_wide : (inside : List ℕ) (t : Tree) (q : Position) (c : Cost) → SymbolName initial (start inside) t q c → c.width ≤ max_text → length (printing t) ≤ longest_printing
+unfolding max_text
+inside_wide inside t q c a narrow = omega (arith, symbol_as_wide refl a narrow)
+
 -- an answer is no longer than the longest printing and its suffix
-pub answer_wide : (full : Bool) (bytes answer : List ℕ) (has : HasAnswer full bytes answer) → length answer ≤ longest_printing full + length (suffix has.next.rest)
-answer_wide full bytes answer has =
-    let wide = inside_wide full has.reading.inside has.tree has.next has.cost has.reading.reading has.within.width_fits in
+pub answer_wide : (bytes answer : List ℕ) (has : HasAnswer bytes answer) → length answer ≤ longest_printing + length (suffix has.next.rest)
+answer_wide bytes answer has =
+    let wide = inside_wide has.reading.inside has.tree has.next has.cost has.reading.reading has.within.width_fits in
     omega (arith, ap length has.answer_is, length-append (printing has.tree) (suffix has.next.rest), wide)
 
 -- so long is an answer at most
-pub answer_length : (full : Bool) (bytes : List ℕ) (answer : Option (List ℕ)) → IsAnswerOf full bytes answer → HasLengthOf full bytes answer
-answer_length full bytes None none = tt
-answer_length full bytes (Some answer) has = λ tree next cost reading within.
-    let same = (one_reading full bytes).agree has.tree tree has.next next has.cost cost has.reading reading has.within within in
+pub answer_length : (bytes : List ℕ) (answer : Option (List ℕ)) → IsAnswer bytes answer → HasLength bytes answer
+answer_length bytes None none = tt
+answer_length bytes (Some answer) has = λ tree next cost reading within.
+    let same = (one_reading bytes).agree has.tree tree has.next next has.cost cost has.reading reading has.within within in
     let left : suffix has.next.rest ≡ suffix next.rest = ap (λ (q : Position). suffix q.rest) same.1 in
-    omega (arith, answer_wide full bytes answer has, ap length left)
+    omega (arith, answer_wide bytes answer has, ap length left)

@@ -3,9 +3,8 @@
 -- x is a context. p, q, r and s are positions, one after another. t, u, v and parent are trees, ts is a list of trees,
 -- o, m and n are operands. c, d and e are costs. i, k and number are numbers. bytes, rest, value and text are bytes.
 --
--- The indices of a reading stand in this order: the case that the next bytes begin, where the family is named ..As; how
--- the encoding around it ends; truth values; the context; what stands in front; the position before; the tree; the
--- position after; the cost.
+-- The indices of a reading stand in this order: the case that the next bytes begin, where the family is named ..As;
+-- truth values; the context; what stands in front; the position before; the tree; the position after; the cost.
 use Rattle.std.specs.Prelude.{◌≡◌, ℕ, ◌+◌, ◌-◌, max, Bool, true, false, if◌then◌else◌, slice_get}
 use Rattle.std.specs.Prelude.{slice_index_or, List, [], ◌∷◌, ◌++◌, Option, Some, None, is_some, take, drop, length}
 use Rattle.std.specs.Prelude.{codes, option_map}
@@ -18,7 +17,7 @@ use Rattle.demangle_edit.specs.Expressions.{has_literal}
 use Rattle.itanium_syntax.specs.declared.abbreviations.Abbreviation.{Abbreviation}
 use Rattle.itanium_syntax.specs.declared.context.Context.{Context}
 use Rattle.abi_scalars.specs.declared.numerals.Radix.TheVariants.{Decimal, Base36}
-use Rattle.itanium_grammar.specs.Cases.{EncodingEnd, AfterName, AtE, AtSymbolEnd, EncodingCase, SpecialEncoding, NameEncoding}
+use Rattle.itanium_grammar.specs.Cases.{AfterName, AtE, EncodingCase, SpecialEncoding, NameEncoding}
 use Rattle.itanium_grammar.specs.Cases.{FullEncoding, SpecialCase, TypeSpecial, NameSpecial, TemporarySpecial, ConstructionSpecial, ThunkSpecial, NameCase, NestedName}
 use Rattle.itanium_grammar.specs.Cases.{LocalName, UnscopedName, ReturnCase, NoReturnType, SomeReturnType}
 use Rattle.itanium_grammar.specs.Cases.{EncodingParamsCase, NoEncodingParams, SomeEncodingParams, EntityCase, StringLiteralEntity}
@@ -41,8 +40,7 @@ use Rattle.abi_scalars.specs.Scalars.{source_name, index_of, source_text}
 use Rattle.itanium_syntax.specs.Numbers.{ordinal, optional_number}
 use Rattle.itanium_syntax.specs.Operators.{operator_here}
 use Rattle.itanium_syntax.specs.Abbreviations.{abbreviation_of}
-use Rattle.itanium_syntax.specs.Context.{opens_scope, inside_type, hiding_dots, inside_lambda, showing_words}
-use Rattle.itanium_syntax.specs.Context.{inside_encoding, inside_params}
+use Rattle.itanium_syntax.specs.Context.{opens_scope, inside_type, hiding_dots, inside_lambda, showing_words, inside_encoding}
 use Rattle.itanium_syntax.specs.Names.{name_case, unscoped_case, first_segment_case, segment_case}
 use Rattle.itanium_syntax.specs.Names.{unqualified_case, ordinary_case, tag_case, past_internal, past_initializer_letter}
 use Rattle.itanium_syntax.specs.Names.{name_quals, past_name_quals, first_segment_is_candidate, substitution_case}
@@ -51,7 +49,7 @@ use Rattle.itanium_syntax.specs.Expressions.{is_external, primary_case, literal_
 use Rattle.itanium_syntax.specs.declared.offsets.ThunkOffsets.{ThunkOffsets}
 use Rattle.itanium_syntax.specs.Offsets.{thunk_offsets, past_base_offset}
 use Rattle.itanium_syntax.specs.Specials.{special_case, special_text, special_close}
-use Rattle.itanium_syntax.specs.Encodings.{ends_here, for_thunk, return_case, encoding_params_case, entity_case, encoding_case}
+use Rattle.itanium_syntax.specs.Encodings.{return_case, encoding_params_case, entity_case, encoding_case}
 use Rattle.itanium_syntax.specs.Args.{attached_case, argument_list_case, argument_case}
 use Rattle.itanium_syntax.specs.Types.{type_case, builtin_text, past_builtin, cv_quals, past_cv, with_reference, past_reference, cv_case, function_case, params_case, type_list_case, elaborated_text}
 use Rattle.itanium_grammar.specs.Tree.{Tree, worded, temporary_of, construction_of, thunk_of, Operand, operand}
@@ -202,7 +200,7 @@ mutual
   -- the encoding words are shown, and no type is around it
   pub data Local : Bool → Context → Position → Tree → Position → Cost → Type 0 where
     local : {bare : Bool} {x : Context} {p q r : Position} {t u : Tree} {c d : Cost}
-        → EncodingAs (encoding_case AtE p.rest) AtE (inside_encoding x) p t q c
+        → EncodingAs (encoding_case AtE p.rest) (inside_encoding x) p t q c
         → EntityAs (entity_case q.rest) bare (showing_words x) t q u r d
         → Local bare x p u r (both c d)
 
@@ -223,58 +221,56 @@ mutual
         → EntityAs NameEntity bare x t p (local_in t u) q c
 
   -- <encoding> ::= <special-name> | <name> [<return type>] [<parameter types>], by how it ends and what it begins with
-  pub data EncodingAs : EncodingCase → EncodingEnd → Context → Position → Tree → Position → Cost → Type 0 where
+  pub data EncodingAs : EncodingCase → Context → Position → Tree → Position → Cost → Type 0 where
     -- <special-name>
-    special_encoding : {end : EncodingEnd} {x : Context} {p q : Position} {t : Tree} {c : Cost}
-        → SpecialAs (special_case p.rest) end x p t q c
-        → EncodingAs SpecialEncoding end x p t q c
+    special_encoding : {x : Context} {p q : Position} {t : Tree} {c : Cost}
+        → SpecialAs (special_case p.rest) x p t q c
+        → EncodingAs SpecialEncoding x p t q c
     -- a <name> that is all of it
-    name_encoding : {end : EncodingEnd} {x : Context} {p q : Position} {t : Tree} {c : Cost}
+    name_encoding : {x : Context} {p q : Position} {t : Tree} {c : Cost}
         → Name false x p t q c
-        → EncodingAs NameEncoding end x p t q c
+        → EncodingAs NameEncoding x p t q c
     -- a <name>, whose own qualifiers wait, then its return type and its parameters
-    full_encoding : {end : EncodingEnd} {x : Context} {p q r s : Position} {t u : Tree} {c d e : Cost}
+    full_encoding : {x : Context} {p q r s : Position} {t u : Tree} {c d e : Cost}
         → Name true x p t q c
-        → ReturnAs (return_case end (shape_of t).templ (shape_of t).ctor q.rest) x q r d
-        → EncodingParamsAs (encoding_params_case end r.rest) end x t r u s e
-        → EncodingAs FullEncoding end x p u s (both c (both d e))
+        → ReturnAs (return_case (shape_of t).templ (shape_of t).ctor q.rest) x q r d
+        → EncodingParamsAs (encoding_params_case r.rest) x t r u s e
+        → EncodingAs FullEncoding x p u s (both c (both d e))
 
   -- <special-name>, by what it begins with
-  pub data SpecialAs : SpecialCase → EncodingEnd → Context → Position → Tree → Position → Cost → Type 0 where
+  pub data SpecialAs : SpecialCase → Context → Position → Tree → Position → Cost → Type 0 where
     -- TV <type> | TT <type> | TI <type> | TS <type> | TF <type>
-    type_special : {end : EncodingEnd} {x : Context} {p q : Position} {t : Tree} {c : Cost}
+    type_special : {x : Context} {p q : Position} {t : Tree} {c : Cost}
         → TypeOf x (skip 2 p) t q c
-        → SpecialAs TypeSpecial end x p (worded (special_text p.rest) t (special_close p.rest)) q c
+        → SpecialAs TypeSpecial x p (worded (special_text p.rest) t (special_close p.rest)) q c
     -- TH <name> | TW <name> | GV <name>
-    name_special : {end : EncodingEnd} {x : Context} {p q : Position} {t : Tree} {c : Cost}
+    name_special : {x : Context} {p q : Position} {t : Tree} {c : Cost}
         → Name false x (skip 2 p) t q c
-        → SpecialAs NameSpecial end x p (worded (special_text p.rest) t (special_close p.rest)) q c
+        → SpecialAs NameSpecial x p (worded (special_text p.rest) t (special_close p.rest)) q c
     -- GR <name> [<seq-id>] _
     temporary_special :
-        {end : EncodingEnd} {x : Context} {p q : Position} {t : Tree} {c : Cost} {number : ℕ} {rest : List ℕ}
+        {x : Context} {p q : Position} {t : Tree} {c : Cost} {number : ℕ} {rest : List ℕ}
         → Name false x (skip 2 p) t q c
         → index_of Base36 q.rest ≡ Some (number, rest)
-        → SpecialAs TemporarySpecial end x p (temporary_of number t) (with_rest rest q) c
+        → SpecialAs TemporarySpecial x p (temporary_of number t) (with_rest rest q) c
     -- TC <type> <offset number> _ <base type>: the vtable of the base in the type; the number isn't printed
     construction_special :
-        {end : EncodingEnd} {x : Context} {p q r : Position} {t u : Tree} {c d : Cost} {rest : List ℕ}
+        {x : Context} {p q r : Position} {t u : Tree} {c d : Cost} {rest : List ℕ}
         → TypeOf x (skip 2 p) t q c
         → past_base_offset q.rest ≡ Some rest
         → TypeOf x (with_rest rest q) u r d
-        → SpecialAs ConstructionSpecial end x p (construction_of u t) r (both c d)
+        → SpecialAs ConstructionSpecial x p (construction_of u t) r (both c d)
     -- a thunk
-    thunk_special : {end : EncodingEnd} {x : Context} {p q : Position} {t : Tree} {c : Cost}
-        → Thunk end x p t q c
-        → SpecialAs ThunkSpecial end x p t q c
+    thunk_special : {x : Context} {p q : Position} {t : Tree} {c : Cost}
+        → Thunk x p t q c
+        → SpecialAs ThunkSpecial x p t q c
 
-  -- T <call-offset> <encoding> | T c <call-offset> <call-offset> <encoding>: counted. Its encoding has no parameters,
-  -- but in a signature
-  pub data Thunk : EncodingEnd → Context → Position → Tree → Position → Cost → Type 0 where
-    thunk : {end : EncodingEnd} {x : Context} {p q : Position} {t : Tree} {c : Cost} {offsets : ThunkOffsets}
-        {rest : List ℕ}
+  -- T <call-offset> <encoding> | T c <call-offset> <call-offset> <encoding>: counted. Its encoding has no parameters
+  pub data Thunk : Context → Position → Tree → Position → Cost → Type 0 where
+    thunk : {x : Context} {p q : Position} {t : Tree} {c : Cost} {offsets : ThunkOffsets} {rest : List ℕ}
         → thunk_offsets (drop 1 p.rest) ≡ Some (offsets, rest)
-        → EncodingAs (encoding_case (for_thunk end) rest) (for_thunk end) x (with_rest rest p) t q c
-        → Thunk end x p (thunk_of offsets t) q (counted (length (printing (thunk_of offsets t))) c)
+        → EncodingAs (encoding_case AfterName rest) x (with_rest rest p) t q c
+        → Thunk x p (thunk_of offsets t) q (counted (length (printing (thunk_of offsets t))) c)
 
   -- the return type of an encoding, or none: it isn't printed, and what it saved and the scopes that it left stay
   pub data ReturnAs : ReturnCase → Context → Position → Position → Cost → Type 0 where
@@ -287,15 +283,14 @@ mutual
         → ReturnAs SomeReturnType x p q c
 
   -- the parameters of an encoding, or none
-  pub data EncodingParamsAs : EncodingParamsCase → EncodingEnd → Context → Tree → Position → Tree → Position → Cost
-      → Type 0 where
+  pub data EncodingParamsAs : EncodingParamsCase → Context → Tree → Position → Tree → Position → Cost → Type 0 where
     -- the end of the encoding after the name or its return type
-    no_encoding_params : {end : EncodingEnd} {x : Context} {p : Position} {t : Tree}
-        → EncodingParamsAs NoEncodingParams end x t p (encoding_of t) p nothing
+    no_encoding_params : {x : Context} {p : Position} {t : Tree}
+        → EncodingParamsAs NoEncodingParams x t p (encoding_of t) p nothing
     -- <parameter types>
-    some_encoding_params : {end : EncodingEnd} {x : Context} {p q : Position} {t : Tree} {ts : List Tree} {c : Cost}
-        → ParamsAs (params_case end p.rest) end false (inside_params end x) p ts q c
-        → EncodingParamsAs SomeEncodingParams end x t p (function_encoding t (trees ts)) q c
+    some_encoding_params : {x : Context} {p q : Position} {t : Tree} {ts : List Tree} {c : Cost}
+        → ParamsAs (params_case p.rest) false x p ts q c
+        → EncodingParamsAs SomeEncodingParams x t p (function_encoding t (trees ts)) q c
 
   -- <unscoped-name> [<template-args>], or a <substitution> with <template-args>
   pub data UnscopedAs : UnscopedCase → Context → Position → Tree → Position → Cost → Type 0 where
@@ -338,7 +333,7 @@ mutual
         → OrdinaryAs UnnamedTypeName x p (plain_text (unnamed_text k)) (with_rest rest p) nothing
     -- <closure-type-name> ::= Ul <lambda-sig> E [<nonnegative number>] _
     ordinary_lambda : {x : Context} {p q : Position} {ts : List Tree} {c : Cost} {k : ℕ} {rest : List ℕ}
-        → ParamsAs (params_case AtE (drop 2 p.rest)) AtE false (inside_lambda x) (skip 2 p) ts q c
+        → ParamsAs (params_case (drop 2 p.rest)) false (inside_lambda x) (skip 2 p) ts q c
         → ordinal (drop 1 q.rest) ≡ Some (k, rest)
         → OrdinaryAs LambdaName x p (lambda_of (trees ts) k) (with_rest rest q) c
     -- <operator-name> ::= cv <type>
@@ -484,7 +479,7 @@ mutual
   pub data PrimaryAs : PrimaryCase → Context → Position → Tree → Position → Cost → Type 0 where
     -- L _Z <encoding> E: an external name
     external_name : {x : Context} {p q : Position} {t : Tree} {c : Cost}
-        → EncodingAs (encoding_case AtE (drop 3 p.rest)) AtE (inside_encoding x) (skip 3 p) t q c
+        → EncodingAs (encoding_case AtE (drop 3 p.rest)) (inside_encoding x) (skip 3 p) t q c
         → begins (codes "E") q.rest ≡ true
         → PrimaryAs ExternalName x p t (skip 1 q) c
     -- L <type> <value> E, where the type as it is printed has such a value
@@ -630,35 +625,32 @@ mutual
     function : {x : Context} {p q r : Position} {t : Tree} {ts : List Tree} {c d : Cost} {quals : Quals}
         → function_case p.rest ≡ PlainFunction
         → TypeOf x (skip 1 p) t q c
-        → ParamsAs (params_case AtE q.rest) AtE true x q ts r d
+        → ParamsAs (params_case q.rest) true x q ts r d
         → is_plain (shape_of t).form ≡ true
         → Function x quals p (function_to t (trees ts) (with_reference quals r.rest))
         (skip 1 (with_rest (past_reference r.rest) r)) (both c d)
 
   -- the parameters of a <function-type>, or else of a lambda or an encoding: none, or types
-  pub data ParamsAs : ParamsCase → EncodingEnd → Bool → Context → Position → List Tree → Position → Cost
-      → Type 0 where
+  pub data ParamsAs : ParamsCase → Bool → Context → Position → List Tree → Position → Cost → Type 0 where
     -- v, right before the end
-    no_params : {end : EncodingEnd} {in_function_type : Bool} {x : Context} {p : Position}
-        → ParamsAs NoParams end in_function_type x p [] (skip 1 p) nothing
+    no_params : {in_function_type : Bool} {x : Context} {p : Position}
+        → ParamsAs NoParams in_function_type x p [] (skip 1 p) nothing
     -- <type>*
-    some_params : {end : EncodingEnd} {in_function_type : Bool} {x : Context} {p q : Position} {ts : List Tree}
-        {c : Cost} → TypeListAs (type_list_case end in_function_type p.rest) end in_function_type x p ts q c
-        → ParamsAs SomeParams end in_function_type x p ts q c
+    some_params : {in_function_type : Bool} {x : Context} {p q : Position} {ts : List Tree} {c : Cost}
+        → TypeListAs (type_list_case in_function_type p.rest) in_function_type x p ts q c
+        → ParamsAs SomeParams in_function_type x p ts q c
 
   -- one more type of a list of parameters, or their end
-  pub data TypeListAs : TypeListCase → EncodingEnd → Bool → Context → Position → List Tree → Position → Cost
-      → Type 0 where
+  pub data TypeListAs : TypeListCase → Bool → Context → Position → List Tree → Position → Cost → Type 0 where
     -- the end, which isn't taken
-    end_of_types : {end : EncodingEnd} {in_function_type : Bool} {x : Context} {p : Position}
-        → TypeListAs EndOfTypes end in_function_type x p [] p nothing
+    end_of_types : {in_function_type : Bool} {x : Context} {p : Position}
+        → TypeListAs EndOfTypes in_function_type x p [] p nothing
     -- <type>
     one_more_type :
-        {end : EncodingEnd} {in_function_type : Bool} {x : Context} {p q r : Position} {t : Tree} {ts : List Tree}
-        {c d : Cost}
+        {in_function_type : Bool} {x : Context} {p q r : Position} {t : Tree} {ts : List Tree} {c d : Cost}
         → TypeOf x p t q c
-        → TypeListAs (type_list_case end in_function_type q.rest) end in_function_type x q ts r d
-        → TypeListAs NextType end in_function_type x p (t ∷ ts) r (both c d)
+        → TypeListAs (type_list_case in_function_type q.rest) in_function_type x q ts r d
+        → TypeListAs NextType in_function_type x p (t ∷ ts) r (both c d)
 
   -- <template-args> after a type, or none
   pub data TypeAttachedAs : AttachedCase → Context → Tree → Position → Tree → Position → Cost → Type 0 where
@@ -671,14 +663,6 @@ mutual
         → TypeAttachedAs ArgsAttached x t p (with_args t (trees ts))
         (save (with_args t (trees ts)) q) (both c (saving q))
 
--- what follows the prefix of a symbol, as a name: an encoding that ends right after its name
+-- what follows the prefix of a symbol: an encoding that ends right after its name
 abbrev pub SymbolName : Context → Position → Tree → Position → Cost → Type 0
-SymbolName x p = EncodingAs (encoding_case AfterName p.rest) AfterName x p
-
--- what follows the prefix of a symbol, as a signature, which has its parameters too: an encoding up to where no ASCII
--- letter, digit or underscore is next, counted
-pub data Signature : Context → Position → Tree → Position → Cost → Type 0 where
-  signature : {x : Context} {p q : Position} {t : Tree} {c : Cost}
-      → EncodingAs (encoding_case AtSymbolEnd p.rest) AtSymbolEnd x p t q c
-      → ends_here AtSymbolEnd q.rest ≡ true
-      → Signature x p t q (counted (length (printing t)) c)
+SymbolName x p = EncodingAs (encoding_case AfterName p.rest) x p

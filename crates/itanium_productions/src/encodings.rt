@@ -5,7 +5,7 @@ ghost use Rattle.std.specs.Prelude.{◌≡◌, OnOk};
 ghost use Rattle.std.specs.Option.{unwrap_or};
 ghost use Rattle.demangle_quals.specs.Quals.{no_quals};
 ghost use Rattle.demangle_text.specs.State.{IsLiving, shape, IsRun, SameFrame, main_bytes};
-ghost use Rattle.itanium_syntax.specs.Context.{inside_encoding, showing_words, inside_params};
+ghost use Rattle.itanium_syntax.specs.Context.{inside_encoding, showing_words};
 ghost use Rattle.itanium_syntax.specs.Encodings.{return_case, entity_case};
 ghost use Rattle.itanium_grammar.specs.Cases.{AtE};
 ghost use Rattle.itanium_reader.specs.Parser as spec;
@@ -35,19 +35,18 @@ pub(crate) fn read_return(
     reader: &mut Reader,
     depth: usize,
     context: Context,
-    end: EncodingEnd,
     templ: bool,
     ctor: bool,
 ) -> ReadResult
     requires count_fits { CountFits 2 (state reader.old) }
-    ensures reads { Leaves result reader.new (spec.return_as (return_case end templ ctor reader.old.rest.now)
+    ensures reads { Leaves result reader.new (spec.return_as (return_case templ ctor reader.old.rest.now)
         (spec.parse_type depth context) (state reader.old)) }
     ensures kept { OnOk result (SameFrame reader.old.buffer.value reader.new.buffer.value) }
     ensures output { OnOk result (main_bytes reader.new.buffer.value ≡ main_bytes reader.old.buffer.value) }
     ensures bounds { MayTakeNone 2 result (state reader.old) (state reader.new) }
     ensures saved { SavedBounds 0 result (state reader.old) (state reader.new) }
 {
-    match return_case(end, templ, ctor, reader.rest) {
+    match return_case(templ, ctor, reader.rest) {
         ReturnCase::NoReturnType => Ok(()),
         ReturnCase::SomeReturnType => {
             let mark = reader.buffer.open();
@@ -66,13 +65,11 @@ pub(crate) fn end_encoding(
     reader: &mut Reader,
     depth: usize,
     context: Context,
-    end: EncodingEnd,
     name: Piece,
 ) -> ReadResult
     requires count_fits { CountFits 2 (state reader.old) }
     requires living { IsLiving reader.old.buffer.value name }
-    ensures reads { Gives result reader.new (spec.encoding_end end (spec.parse_type depth context)
-        (spec.parse_type depth (inside_params end context))
+    ensures reads { Gives result reader.new (spec.encoding_end (spec.parse_type depth context)
         (shape reader.old.buffer.value name, unwrap_or reader.old.quals no_quals) (state reader.old)) }
     ensures run { OnOk result (IsRun reader.old.buffer.value reader.new.buffer.value) }
     ensures bounds { MayTakeNone 2 result (state reader.old) (state reader.new) }
@@ -81,14 +78,14 @@ pub(crate) fn end_encoding(
     let quals = reader.quals.unwrap_or(Quals::none());
     let templ = reader.buffer.templ(name);
     let ctor = reader.buffer.ctor(name);
-    tri!(read_return(reader, depth, context, end, templ, ctor));
-    let ended = match encoding_params_case(end, reader.rest) {
+    tri!(read_return(reader, depth, context, templ, ctor));
+    let ended = match encoding_params_case(reader.rest) {
         EncodingParamsCase::NoEncodingParams => {
             apply_name_qualifiers(&mut reader.buffer, name, quals, true)
         }
         EncodingParamsCase::SomeEncodingParams => {
             let list = or_memory!(open_params(&mut reader.buffer, name));
-            tri!(read_params(reader, depth, context.inside_params(end), end, false, list));
+            tri!(read_params(reader, depth, context, false, list));
             close_params(&mut reader.buffer, reader.found, quals)
         }
     };
@@ -100,7 +97,7 @@ pub(crate) fn end_encoding(
 /// no more than the special name or the name.
 #[tactic(auto, using(itanium_reader::proofs::Rules::encodings))]
 #[cycle(reader)]
-pub fn read_encoding(
+pub(crate) fn read_encoding(
     reader: &mut Reader,
     depth: usize,
     context: Context,
@@ -113,11 +110,11 @@ pub fn read_encoding(
     ensures saved { SavedBounds 1 result (state reader.old) (state reader.new) }
 {
     match encoding_case(end, reader.rest) {
-        EncodingCase::SpecialEncoding => read_special_name(reader, depth, context, end),
+        EncodingCase::SpecialEncoding => read_special_name(reader, depth, context),
         EncodingCase::NameEncoding => read_name(reader, depth, context, false),
         EncodingCase::FullEncoding => {
             tri!(read_name(reader, depth, context, true));
-            end_encoding(reader, depth, context, end, reader.found)
+            end_encoding(reader, depth, context, reader.found)
         }
     }
 }

@@ -8,7 +8,7 @@
 //! `itanium_demangle` proves that the parser agrees with the grammar.
 //!
 //! The readers call the methods of `itanium_reader`. Begin with `read_name` in `names.rt`, and then read `read_type`
-//! in `types.rt`. `read_encoding` in `encodings.rt` is for signatures, thunks, local names and external names.
+//! in `types.rt`. `read_encoding` in `encodings.rt` is for thunks, local names and external names.
 #![tactic(auto)]
 
 /// The value of a result. An error is returned from the function around it, as it is. `?` also converts the error,
@@ -40,6 +40,5 @@ mod names;
 mod specials;
 mod types;
 
-pub use crate::encodings::read_encoding;
 pub use crate::names::read_name;
 pub use crate::specials::read_special_name;

@@ -18,7 +18,6 @@ use demangle_edit::{append_leaf, open_parent};
 use itanium_reader::{ReadResult, Reader, Stop};
 use itanium_syntax::args::{AttachedCase, attached_case};
 use itanium_syntax::context::Context;
-use itanium_syntax::encodings::EncodingEnd;
 use itanium_syntax::names::{
     FirstSegmentCase, NameCase, OrdinaryCase, SegmentCase, UnqualifiedCase, UnscopedCase,
     begins_source, first_segment_case, name_case, name_quals, ordinary_case, segment_case,
@@ -43,7 +42,7 @@ pub(crate) fn read_closure_type_name(
     ensures saved { SavedBounds 1 result (state reader.old) (state reader.new) }
 {
     let list = or_memory!(reader.buffer.push(b"{lambda("));
-    tri!(read_params(reader, depth, context, EncodingEnd::AtE, false, list));
+    tri!(read_params(reader, depth, context, false, list));
     reader.end_lambda(reader.found)
 }
 

@@ -60,15 +60,10 @@ pub(crate) fn read_construction(reader: &mut Reader, depth: usize, context: Cont
 /// productions may nest, this one included.
 #[tactic(auto, using(itanium_reader::proofs::Rules::thunks))]
 #[cycle(reader)]
-pub(crate) fn read_thunk(
-    reader: &mut Reader,
-    depth: usize,
-    context: Context,
-    end: EncodingEnd,
-) -> ReadResult
+pub(crate) fn read_thunk(reader: &mut Reader, depth: usize, context: Context) -> ReadResult
     requires count_fits { CountFits 1 (state reader.old) }
     requires some { 0 < length reader.old.rest.now }
-    ensures reads { Gives result reader.new (spec.parse_thunk depth end context (state reader.old)) }
+    ensures reads { Gives result reader.new (spec.parse_thunk depth context (state reader.old)) }
     ensures run { OnOk result (IsRun reader.old.buffer.value reader.new.buffer.value) }
     ensures refused { depth ≡ 0 → reader.new.entered ≡ reader.old.entered }
     ensures bounds { TakesSome 1 result (state reader.old) (state reader.new) }
@@ -78,7 +73,7 @@ pub(crate) fn read_thunk(
     tri!(reader.open_thunk());
     let begun = reader.found;
     let mark = reader.buffer.open();
-    tri!(read_encoding(reader, depth, context, end.for_thunk()));
+    tri!(read_encoding(reader, depth, context, EncodingEnd::AfterName));
     tri!(reader.close_found(mark));
     tri!(reader.join_words(begun, b")}"));
     reader.check_width()
@@ -87,14 +82,9 @@ pub(crate) fn read_thunk(
 /// Reads `<special-name>`. Returns `Stop::Unreadable` for a special name that isn't supported.
 #[tactic(auto, using(itanium_reader::proofs::Rules::specials))]
 #[cycle(reader)]
-pub fn read_special_name(
-    reader: &mut Reader,
-    depth: usize,
-    context: Context,
-    end: EncodingEnd,
-) -> ReadResult
+pub fn read_special_name(reader: &mut Reader, depth: usize, context: Context) -> ReadResult
     requires count_fits { CountFits 1 (state reader.old) }
-    ensures reads { Gives result reader.new (spec.parse_special depth end context (state reader.old)) }
+    ensures reads { Gives result reader.new (spec.parse_special depth context (state reader.old)) }
     ensures run { OnOk result (IsRun reader.old.buffer.value reader.new.buffer.value) }
     ensures bounds { TakesSome 1 result (state reader.old) (state reader.new) }
     ensures saved { SavedBounds 1 result (state reader.old) (state reader.new) }
@@ -104,7 +94,7 @@ pub fn read_special_name(
         SpecialCase::NameSpecial => Framed::FramedName,
         SpecialCase::TemporarySpecial => return read_temporary(reader, depth, context),
         SpecialCase::ConstructionSpecial => return read_construction(reader, depth, context),
-        SpecialCase::ThunkSpecial => return read_thunk(reader, depth, context, end),
+        SpecialCase::ThunkSpecial => return read_thunk(reader, depth, context),
         SpecialCase::UnreadableSpecial => return Err(Stop::Unreadable),
     };
     let words = special_text(reader.rest);

@@ -18,7 +18,6 @@ use demangle_text::Piece;
 use itanium_reader::{ReadResult, Reader, Stop};
 use itanium_syntax::args::{AttachedCase, attached_case};
 use itanium_syntax::context::Context;
-use itanium_syntax::encodings::EncodingEnd;
 use itanium_syntax::numerals::optional_number;
 use itanium_syntax::types::{
     CvCase, FunctionCase, ParamsCase, TypeCase, TypeListCase, cv_case, cv_quals, elaborated_text,
@@ -246,7 +245,7 @@ pub(crate) fn read_function_type(
             let Some(list) = or_memory!(open_function(&mut reader.buffer, reader.found)) else {
                 return Err(Stop::Unreadable);
             };
-            tri!(read_params(reader, depth, context, EncodingEnd::AtE, true, list));
+            tri!(read_params(reader, depth, context, true, list));
             let (reference, rest) = ref_qualifier(reader.rest);
             let all = Quals { reference, ..quals };
             reader.found = or_memory!(close_function(&mut reader.buffer, reader.found, front, all));
@@ -257,28 +256,27 @@ pub(crate) fn read_function_type(
     }
 }
 
-/// Reads parameter types and appends each to `list`, with `, ` between them. Stops in front of `end`. If
+/// Reads parameter types and appends each to `list`, with `, ` between them. Stops in front of an `E`. If
 /// `in_function_type` is true, they are those of a `<function-type>`, and it also stops in front of an `R` or `O` that
-/// an `E` follows. A single `v` in front of `end` means that there are no parameters.
+/// an `E` follows. A single `v` in front of the `E` means that there are no parameters.
 #[tactic(auto, using(itanium_reader::proofs::Rules::typed_lists))]
 #[cycle(reader)]
 pub(crate) fn read_params(
     reader: &mut Reader,
     depth: usize,
     context: Context,
-    end: EncodingEnd,
     in_function_type: bool,
     list: Piece,
 ) -> ReadResult
     requires count_fits { CountFits 2 (state reader.old) }
     requires living { IsLiving reader.old.buffer.value list }
-    ensures reads { Gives result reader.new (spec.params_as (params_case end reader.old.rest.now) end
-        in_function_type (spec.parse_type depth context) (shape reader.old.buffer.value list) (state reader.old)) }
+    ensures reads { Gives result reader.new (spec.params_as (params_case reader.old.rest.now) in_function_type
+        (spec.parse_type depth context) (shape reader.old.buffer.value list) (state reader.old)) }
     ensures run { OnOk result (IsRun reader.old.buffer.value reader.new.buffer.value) }
     ensures bounds { MayTakeNone 2 result (state reader.old) (state reader.new) }
     ensures saved { SavedBounds 0 result (state reader.old) (state reader.new) }
 {
-    if let ParamsCase::NoParams = params_case(end, reader.rest) {
+    if let ParamsCase::NoParams = params_case(reader.rest) {
         reader.skip(1);
         reader.found = list;
         return Ok(());
@@ -286,7 +284,7 @@ pub(crate) fn read_params(
     let mut list = list;
     let mut first = true;
     loop {
-        match type_list_case(end, in_function_type, reader.rest) {
+        match type_list_case(in_function_type, reader.rest) {
             TypeListCase::EndOfTypes => {
                 reader.found = list;
                 return Ok(());

@@ -7,7 +7,6 @@ use Rattle.itanium_reader.proofs.Unfold.{bare_name_opens, no_bare_name, encoding
 use Rattle.itanium_reader.proofs.Unfold.{expression_opens, no_expression, primary_opens, argument_opens, thunk_opens}
 use Rattle.itanium_reader.proofs.Unfold.{no_thunk, special_opens, pack_opens, no_pack, type_opens, no_type}
 use Rattle.itanium_reader.proofs.Unfold.{substitution_opens, parameter_opens, unqualified_opens, symbol_opens}
-use Rattle.itanium_reader.proofs.Unfold.{signature_opens, no_signature}
 use Rattle.itanium_reader.proofs.Unfold.{nested_opens, nested_plain, internal_source_opens, outer_source_opens}
 use Rattle.itanium_reader.proofs.Unfold.{first_named, first_source_opens}
 use Rattle.itanium_reader.proofs.Turns.{no_attached, no_tags}
@@ -50,8 +49,6 @@ pub ruleset entities = (fronts, entities_some)
 pub ruleset local_names = (buffers, local_opens)
 
 pub ruleset symbols = (fronts, symbol_opens)
-
-pub ruleset signatures = (fronts, signature_opens, no_signature)
 
 pub ruleset thunks = (words, thunk_opens, no_thunk)
 

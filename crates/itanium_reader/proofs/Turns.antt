@@ -17,7 +17,7 @@ use Rattle.itanium_syntax.specs.Args.{argument_list_case}
 use Rattle.itanium_syntax.specs.Types.{type_list_case}
 use Rattle.itanium_reader.specs.Outcome.{LoopSoFar}
 use Rattle.itanium_reader.proofs.Loops.{loop_start, loop_end, loop_more, loop_fail, ListSoFar, list_start, list_end, list_more, list_fail}
-use Rattle.itanium_grammar.specs.Cases.{EncodingEnd, NoTag, NextTag}
+use Rattle.itanium_grammar.specs.Cases.{NoTag, NextTag}
 use Rattle.itanium_grammar.specs.Cases.{SegmentCase, EndOfSegments, ArgsSegment, NameSegment, EndOfArguments, NextArgument}
 use Rattle.itanium_grammar.specs.Cases.{EndOfTypes, NextType}
 use Rattle.itanium_grammar.specs.Answer.{max_text}
@@ -284,26 +284,26 @@ pub no_attached : (d : ℕ) (x : Context) (of_name : Bool) (name : Shape) (s : P
 no_attached d x of_name name s none = rw (none, no_args x of_name s) refl
 
 -- the turns of types that are put onto a list
-module _ {whole : Option (Shape × ParserState)} (end : EncodingEnd) (in_function_type : Bool) (type : Parses Shape) {first : Bool} {list : Shape} {s : ParserState}
-    (so_far : LoopSoFar whole (typed_turn end in_function_type type) (first, list) s) where
-  pub typed_end : type_list_case end in_function_type s.rest ≡ EndOfTypes → whole ≡ Some (list, s)
+module _ {whole : Option (Shape × ParserState)} (in_function_type : Bool) (type : Parses Shape) {first : Bool} {list : Shape} {s : ParserState}
+    (so_far : LoopSoFar whole (typed_turn in_function_type type) (first, list) s) where
+  pub typed_end : type_list_case in_function_type s.rest ≡ EndOfTypes → whole ≡ Some (list, s)
   unfolding typed_turn
   typed_end case = loop_end so_far (rw case refl)
 
-  pub typed_more : {next found : Shape} {after : ParserState} → type_list_case end in_function_type s.rest ≡ NextType → type s ≡ Some (next, after) → length after.rest < length s.rest
-      → found ≡ listed_more first list next → is_too_wide found ≡ false → LoopSoFar whole (typed_turn end in_function_type type) (false, found) after
+  pub typed_more : {next found : Shape} {after : ParserState} → type_list_case in_function_type s.rest ≡ NextType → type s ≡ Some (next, after) → length after.rest < length s.rest
+      → found ≡ listed_more first list next → is_too_wide found ≡ false → LoopSoFar whole (typed_turn in_function_type type) (false, found) after
   unfolding typed_turn
   typed_more {next} case read shorter built fits =
       let narrow : is_too_wide (listed_more first list next) ≡ false = ap is_too_wide (sym built) ∙ fits in
       loop_more so_far (rw (case, read, narrow, built) refl) shorter
 
-  pub typed_wide : {next found : Shape} {after : ParserState} → type_list_case end in_function_type s.rest ≡ NextType → type s ≡ Some (next, after)
+  pub typed_wide : {next found : Shape} {after : ParserState} → type_list_case in_function_type s.rest ≡ NextType → type s ≡ Some (next, after)
       → found ≡ listed_more first list next → is_too_wide found ≡ true → whole ≡ None
   unfolding typed_turn
   typed_wide {next} case read built wide =
       let long : is_too_wide (listed_more first list next) ≡ true = ap is_too_wide (sym built) ∙ wide in
       loop_fail so_far (rw (case, read, long) refl)
 
-  pub typed_fail : type_list_case end in_function_type s.rest ≡ NextType → type s ≡ None → whole ≡ None
+  pub typed_fail : type_list_case in_function_type s.rest ≡ NextType → type s ≡ None → whole ≡ None
   unfolding typed_turn
   typed_fail case none = loop_fail so_far (rw (case, none) refl)

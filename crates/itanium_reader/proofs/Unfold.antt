@@ -13,14 +13,14 @@ use Rattle.itanium_syntax.specs.declared.offsets.ThunkOffsets.{ThunkOffsets}
 use Rattle.itanium_syntax.specs.declared.offsets.ThunkOffsets.TheVariants.{Single, Covariant}
 use Rattle.itanium_syntax.specs.Offsets.{thunk_offsets}
 use Rattle.abi_scalars.specs.Scalars.{index_of, source_name, source_text}
-use Rattle.itanium_syntax.specs.Context.{opens_scope, inside_type, hiding_dots, inside_lambda, showing_words, inside_encoding, inside_params}
+use Rattle.itanium_syntax.specs.Context.{opens_scope, inside_type, hiding_dots, inside_lambda, showing_words, inside_encoding}
 use Rattle.itanium_syntax.specs.Names.{name_case, unqualified_case, tag_case}
 use Rattle.demangle_quals.specs.Quals.{no_quals}
 use Rattle.itanium_syntax.specs.Names.{ordinary_case, first_segment_case, substitution_case}
 use Rattle.abi_scalars.specs.Texts.{begins_source}
 use Rattle.itanium_syntax.specs.Names.{past_internal, past_name_quals, name_quals, first_segment_is_candidate}
 use Rattle.itanium_syntax.specs.Expressions.{expression_case}
-use Rattle.itanium_syntax.specs.Encodings.{for_thunk, entity_case, begins_special, encoding_case}
+use Rattle.itanium_syntax.specs.Encodings.{entity_case, begins_special, encoding_case}
 use Rattle.itanium_syntax.specs.Types.{type_case}
 use Rattle.itanium_reader.specs.declared.reader.Reader.{Reader}
 use Rattle.itanium_reader.specs.declared.stop.Stop.{Stop}
@@ -29,7 +29,7 @@ use Rattle.itanium_reader.specs.Outcome.{state, Gives, ChecksWidth}
 use Rattle.demangle_text.specs.State.{IsLiving, shape}
 use Rattle.std.specs.Prelude.{OnOk}
 use Rattle.itanium_grammar.specs.Cases.{UnqualifiedCase, OrdinaryName, ConstructorName, DestructorName, SourceName, TagCase, NoTag, NextTag}
-use Rattle.itanium_grammar.specs.Cases.{NameFirst, EncodingEnd, AfterName, AtE, AtSymbolEnd, SpecialEncoding, NameEncoding}
+use Rattle.itanium_grammar.specs.Cases.{NameFirst, EncodingEnd, AfterName, AtE, SpecialEncoding, NameEncoding}
 use Rattle.itanium_reader.specs.Parser.{ParserState, Turn, Parses, ParsesName, ParsesBareName, ◌>>=◌, is_too_wide, fitting}
 use Rattle.itanium_grammar.specs.Tree.{offset_text, thunk_shape, worded_shape}
 use Rattle.itanium_reader.specs.Parser.{fitting_bare, enter, with_rest, skip, save}
@@ -42,7 +42,7 @@ use Rattle.itanium_reader.specs.Parser.{name_as, qualified_by, parse_bare_name, 
 use Rattle.itanium_reader.specs.Parser.{entity_as, parse_local, primary_by, parse_primary, special_by, parse_special}
 use Rattle.itanium_reader.specs.Parser.{thunk_words, thunk_front, thunk_by, parse_thunk, expression_as, parse_expression, parse_argument}
 use Rattle.itanium_reader.specs.Parser.{argument_by, parse_list, parse_packed, parse_args}
-use Rattle.itanium_reader.specs.Parser.{parse_pack, type_as, parse_type, at_symbol_end, parse_signature}
+use Rattle.itanium_reader.specs.Parser.{parse_pack, type_as, parse_type}
 use Rattle.itanium_reader.proofs.Texts.{tagged_in}
 
 pub bare_name_opens : (d : ℕ) (x : Context) (s : ParserState) → 0 < d → parse_bare_name d x s
@@ -74,11 +74,11 @@ pub primary_opens : (d : ℕ) (x : Context) (s : ParserState) → parse_primary 
 unfolding parse_primary
 primary_opens d x s = refl
 
-thunk_level : (end : EncodingEnd) (x : Context) (s : ParserState) (d : ℕ) → 0 < d
-    → parse_thunk d end x s ≡ (thunk_by (parse_encoding (d - 1) (for_thunk end) x) (enter s) >>= fitting)
+thunk_level : (x : Context) (s : ParserState) (d : ℕ) → 0 < d
+    → parse_thunk d x s ≡ (thunk_by (parse_encoding (d - 1) AfterName x) (enter s) >>= fitting)
 unfolding parse_thunk parse_encoding parse_special parse_name
-thunk_level end x s zero h = absurd (omega arith)
-thunk_level end x s (suc d) h = let less : suc d - 1 ≡ d = omega arith in rw less refl
+thunk_level x s zero h = absurd (omega arith)
+thunk_level x s (suc d) h = let less : suc d - 1 ≡ d = omega arith in rw less refl
 
 -- a thunk is its words, what it stands for, and what closes it
 thunk_worded : (o : ThunkOffsets) (t : Shape) → thunk_shape o t ≡ worded_shape (thunk_words o) t (codes ")}")
@@ -115,32 +115,32 @@ thunk_by_words symbol s = by_offsets (thunk_offsets (drop 1 s.rest))
     by_offsets None = refl
     by_offsets (Some f) = by_symbol f.0 (symbol (with_rest f.1 s))
 
-pub thunk_opens : (d : ℕ) (end : EncodingEnd) (x : Context) (s : ParserState) → 0 < d
-    → parse_thunk d end x s ≡ ((thunk_front (enter s) >>= after_words (parse_encoding (d - 1) (for_thunk end) x)) >>= fitting)
-thunk_opens d end x s h =
-    thunk_level end x s d h ∙ ap (λ (read : Option (Shape × ParserState)). read >>= fitting) (thunk_by_words (parse_encoding (d - 1) (for_thunk end) x) (enter s))
+pub thunk_opens : (d : ℕ) (x : Context) (s : ParserState) → 0 < d
+    → parse_thunk d x s ≡ ((thunk_front (enter s) >>= after_words (parse_encoding (d - 1) AfterName x)) >>= fitting)
+thunk_opens d x s h =
+    thunk_level x s d h ∙ ap (λ (read : Option (Shape × ParserState)). read >>= fitting) (thunk_by_words (parse_encoding (d - 1) AfterName x) (enter s))
 
 -- a thunk is read, and isn't too long
-pub thunk_read : (d : ℕ) (end : EncodingEnd) (x : Context) (s : ParserState) {front t found : Shape} {mid after : ParserState} → 0 < d → thunk_front (enter s) ≡ Some (front, mid)
-    → parse_encoding (d - 1) (for_thunk end) x mid ≡ Some (t, after) → found ≡ worded_shape (text front) t (codes ")}") → is_too_wide found ≡ false → parse_thunk d end x s ≡ Some (found, after)
-thunk_read d end x s {front} {t} deep words read built fits =
+pub thunk_read : (d : ℕ) (x : Context) (s : ParserState) {front t found : Shape} {mid after : ParserState} → 0 < d → thunk_front (enter s) ≡ Some (front, mid)
+    → parse_encoding (d - 1) AfterName x mid ≡ Some (t, after) → found ≡ worded_shape (text front) t (codes ")}") → is_too_wide found ≡ false → parse_thunk d x s ≡ Some (found, after)
+thunk_read d x s {front} {t} deep words read built fits =
     let narrow : is_too_wide (worded_shape (text front) t (codes ")}")) ≡ false = ap is_too_wide (sym built) ∙ fits in
-    thunk_opens d end x s deep ∙ rw (words, read, narrow, sym built) refl
+    thunk_opens d x s deep ∙ rw (words, read, narrow, sym built) refl
 
 -- one that is
-pub thunk_wide : (d : ℕ) (end : EncodingEnd) (x : Context) (s : ParserState) {front t found : Shape} {mid after : ParserState} → 0 < d → thunk_front (enter s) ≡ Some (front, mid)
-    → parse_encoding (d - 1) (for_thunk end) x mid ≡ Some (t, after) → found ≡ worded_shape (text front) t (codes ")}") → is_too_wide found ≡ true → parse_thunk d end x s ≡ None
-thunk_wide d end x s {front} {t} deep words read built wide =
+pub thunk_wide : (d : ℕ) (x : Context) (s : ParserState) {front t found : Shape} {mid after : ParserState} → 0 < d → thunk_front (enter s) ≡ Some (front, mid)
+    → parse_encoding (d - 1) AfterName x mid ≡ Some (t, after) → found ≡ worded_shape (text front) t (codes ")}") → is_too_wide found ≡ true → parse_thunk d x s ≡ None
+thunk_wide d x s {front} {t} deep words read built wide =
     let long : is_too_wide (worded_shape (text front) t (codes ")}")) ≡ true = ap is_too_wide (sym built) ∙ wide in
-    thunk_opens d end x s deep ∙ rw (words, read, long) refl
+    thunk_opens d x s deep ∙ rw (words, read, long) refl
 
-pub no_thunk : (end : EncodingEnd) (x : Context) (s : ParserState) → parse_thunk 0 end x s ≡ None
+pub no_thunk : (x : Context) (s : ParserState) → parse_thunk 0 x s ≡ None
 unfolding parse_thunk
-no_thunk end x s = refl
+no_thunk x s = refl
 
-pub special_opens : (d : ℕ) (end : EncodingEnd) (x : Context) (s : ParserState) → parse_special d end x s ≡ special_by (parse_type d x) (parse_name d x) (parse_thunk d end x) s
+pub special_opens : (d : ℕ) (x : Context) (s : ParserState) → parse_special d x s ≡ special_by (parse_type d x) (parse_name d x) (parse_thunk d x) s
 unfolding parse_special
-special_opens d end x s = refl
+special_opens d x s = refl
 
 pub argument_opens : (d : ℕ) (x : Context) (s : ParserState)
     → parse_argument d x s ≡ argument_by (parse_pack d x) (parse_type d x) (parse_expression d x) (parse_primary d x) s
@@ -148,7 +148,7 @@ unfolding parse_argument
 argument_opens d x s = refl
 
 pub encoding_opens : (d : ℕ) (end : EncodingEnd) (x : Context) (s : ParserState)
-    → parse_encoding d end x s ≡ encoding_as (encoding_case end s.rest) end (parse_special d end x) (parse_name d x) (parse_bare_name d x) (parse_type d x) (parse_type d (inside_params end x)) s
+    → parse_encoding d end x s ≡ encoding_as (encoding_case end s.rest) (parse_special d x) (parse_name d x) (parse_bare_name d x) (parse_type d x) s
 unfolding parse_encoding
 encoding_opens d end x s = refl
 
@@ -318,27 +318,17 @@ first_source_opens type param x s h =
     let same = (source_case false s.rest h).0 in
     rw (first_named s.rest h) (ap (λ (read : Option (Shape × ParserState)). read >>= λ name. Some (name.0, save name.0 name.1)) (outer_source_opens type param s (rw same h) ∙ rw same refl))
 
--- what follows the prefix of a symbol, as a name
+-- what follows the prefix of a symbol
 pub symbol_opens : (d : ℕ) (x : Context) (s : ParserState)
-    → parse_encoding d AfterName x s ≡ (if begins_special s.rest then parse_special d AfterName x s else parse_name d x s)
+    → parse_encoding d AfterName x s ≡ (if begins_special s.rest then parse_special d x s else parse_name d x s)
 unfolding parse_encoding
 symbol_opens d x s = go (begins_special s.rest)
   where
     go : (special : Bool)
-        → encoding_as (if special then SpecialEncoding else NameEncoding) AfterName (parse_special d AfterName x) (parse_name d x) (parse_bare_name d x) (parse_type d x) (parse_type d x) s
-        ≡ (if special then parse_special d AfterName x s else parse_name d x s)
+        → encoding_as (if special then SpecialEncoding else NameEncoding) (parse_special d x) (parse_name d x) (parse_bare_name d x) (parse_type d x) s
+        ≡ (if special then parse_special d x s else parse_name d x s)
     go true = refl
     go false = refl
-
--- a signature
-pub signature_opens : (d : ℕ) (x : Context) (s : ParserState) → 0 < d → parse_signature d x s ≡ (parse_encoding (d - 1) AtSymbolEnd x (enter s) >>= at_symbol_end >>= fitting)
-unfolding parse_signature
-signature_opens zero x s h = absurd (omega arith)
-signature_opens (suc d) x s h = let less : suc d - 1 ≡ d = omega arith in rw less refl
-
-pub no_signature : (x : Context) (s : ParserState) → parse_signature 0 x s ≡ None
-unfolding parse_signature
-no_signature x s = refl
 
 -- the qualifiers of a <nested-name> are read in front of the rest
 pub nested_opens : (unqualified : ParsesName) (args : Parses Shape) (x : Context) (s : ParserState) → parse_nested unqualified args x s

@@ -22,8 +22,7 @@ use Rattle.abi_scalars.specs.Scalars.{source_name, index_of, source_text}
 use Rattle.itanium_syntax.specs.Numbers.{ordinal, optional_number}
 use Rattle.itanium_syntax.specs.Operators.{operator_here}
 use Rattle.itanium_syntax.specs.Abbreviations.{abbreviation_of}
-use Rattle.itanium_syntax.specs.Context.{opens_scope, inside_type, hiding_dots, inside_lambda, showing_words}
-use Rattle.itanium_syntax.specs.Context.{inside_encoding, inside_params}
+use Rattle.itanium_syntax.specs.Context.{opens_scope, inside_type, hiding_dots, inside_lambda, showing_words, inside_encoding}
 use Rattle.itanium_syntax.specs.Names.{name_case, unscoped_case, first_segment_case, segment_case}
 use Rattle.itanium_syntax.specs.Names.{unqualified_case, ordinary_case, tag_case, past_internal, past_initializer_letter}
 use Rattle.itanium_syntax.specs.Names.{name_quals, past_name_quals, first_segment_is_candidate, substitution_case}
@@ -31,14 +30,14 @@ use Rattle.abi_scalars.specs.Bytes.{begins}
 use Rattle.itanium_syntax.specs.Expressions.{is_external, primary_case, literal_value, expression_text, expression_case}
 use Rattle.itanium_syntax.specs.Offsets.{thunk_offsets, past_base_offset}
 use Rattle.itanium_syntax.specs.Specials.{special_case, special_text, special_close}
-use Rattle.itanium_syntax.specs.Encodings.{ends_here, for_thunk, return_case, encoding_params_case, entity_case, encoding_case}
+use Rattle.itanium_syntax.specs.Encodings.{return_case, encoding_params_case, entity_case, encoding_case}
 use Rattle.itanium_syntax.specs.Args.{attached_case, argument_list_case, argument_case}
 use Rattle.itanium_syntax.specs.Types.{type_case, builtin_text, past_builtin, cv_quals, past_cv, with_reference, past_reference, cv_case, function_case, params_case, type_list_case, elaborated_text}
 use Rattle.itanium_grammar.specs.Answer.{max_text}
 use Rattle.itanium_grammar.specs.Tree.{offset_text, worded_shape, temporary_shape, construction_shape, thunk_shape, pre_shape}
 use Rattle.itanium_grammar.specs.Tree.{post_shape, binary_shape, greater_shape, conditional_shape, abbreviation_shape}
 use Rattle.itanium_grammar.specs.Tree.{conversion_shape, elaborated_shape, unnamed_text, literal_operator_text}
-use Rattle.itanium_grammar.specs.Cases.{EncodingEnd, AtE, AtSymbolEnd, EncodingCase, SpecialEncoding, NameEncoding}
+use Rattle.itanium_grammar.specs.Cases.{EncodingEnd, AfterName, AtE, EncodingCase, SpecialEncoding, NameEncoding}
 use Rattle.itanium_grammar.specs.Cases.{FullEncoding, SpecialCase, TypeSpecial, NameSpecial}
 use Rattle.itanium_grammar.specs.Cases.{TemporarySpecial, ConstructionSpecial, ThunkSpecial, UnreadableSpecial, NameCase}
 use Rattle.itanium_grammar.specs.Cases.{NestedName, LocalName, UnscopedName, ReturnCase, NoReturnType, SomeReturnType}
@@ -242,18 +241,17 @@ type_list_as NextType type so_far s =
     type s >>= λ next. fitting (listed_more so_far.0 so_far.1 next.0, next.1) >>= next_item
 
 -- one turn of the loop over types: the next bytes select the case
-unfoldable pub typed_turn : EncodingEnd → Bool → Parses Shape → Bool × Shape
-    → Parses (Turn (Bool × Shape) Shape)
-typed_turn end in_function_type type so_far s = type_list_as (type_list_case end in_function_type s.rest) type so_far s
+unfoldable pub typed_turn : Bool → Parses Shape → Bool × Shape → Parses (Turn (Bool × Shape) Shape)
+typed_turn in_function_type type so_far s = type_list_as (type_list_case in_function_type s.rest) type so_far s
 
--- types up to this end, or of a function type to a <ref-qualifier> in front of its E, put onto a list
-abbrev pub parse_typed : EncodingEnd → Bool → Parses Shape → Shape → Parses Shape
-parse_typed end in_function_type type list s = parse_loop (typed_turn end in_function_type type) (true, list) s
+-- types up to an E, or of a function type to a <ref-qualifier> in front of it, put onto a list
+abbrev pub parse_typed : Bool → Parses Shape → Shape → Parses Shape
+parse_typed in_function_type type list s = parse_loop (typed_turn in_function_type type) (true, list) s
 
 -- such parameters, put onto a list: v right before the end stands for none
-abbrev pub params_as : ParamsCase → EncodingEnd → Bool → Parses Shape → Shape → Parses Shape
-params_as NoParams end in_function_type type list s = Some (list, skip 1 s)
-params_as SomeParams end in_function_type type list s = parse_typed end in_function_type type list s
+abbrev pub params_as : ParamsCase → Bool → Parses Shape → Shape → Parses Shape
+params_as NoParams in_function_type type list s = Some (list, skip 1 s)
+params_as SomeParams in_function_type type list s = parse_typed in_function_type type list s
 
 -- what is after the parameters of a lambda
 abbrev pub lambda_end : Shape → Parses Shape
@@ -262,7 +260,7 @@ lambda_end list s = ordinal (drop 1 s.rest) >>= λ found. Some (lambda_closed fo
 -- <closure-type-name> after its Ul
 abbrev pub parse_lambda : Parses Shape → Parses Shape
 parse_lambda type s =
-    params_as (params_case AtE s.rest) AtE false type (plain_shape (codes "{lambda(")) s >>= λ list.
+    params_as (params_case s.rest) false type (plain_shape (codes "{lambda(")) s >>= λ list.
     lambda_end list.0 list.1
 
 -- <unnamed-type-name> after its Ut
@@ -431,17 +429,17 @@ return_as NoReturnType type s = Some s
 return_as SomeReturnType type s = dropped (type s)
 
 -- the parameters of an encoding after its name, or none: and then the qualifiers that waited
-abbrev pub encoding_params_as : EncodingParamsCase → EncodingEnd → Parses Shape → Shape × Quals → Parses Shape
-encoding_params_as NoEncodingParams end param name s = Some (with_name_qualifiers name.0 name.1 true, s)
-encoding_params_as SomeEncodingParams end param name s =
-    params_as (params_case end s.rest) end false param (params_opened name.0) s >>= λ list.
+abbrev pub encoding_params_as : EncodingParamsCase → Parses Shape → Shape × Quals → Parses Shape
+encoding_params_as NoEncodingParams type name s = Some (with_name_qualifiers name.0 name.1 true, s)
+encoding_params_as SomeEncodingParams type name s =
+    params_as (params_case s.rest) false type (params_opened name.0) s >>= λ list.
     Some (params_closed name.1 list.0, list.1)
 
--- what is after the name of an encoding: its return type by the first parser, its parameters by the second
-abbrev pub encoding_end : EncodingEnd → Parses Shape → Parses Shape → Shape × Quals → Parses Shape
-encoding_end end type param name s =
-    return_as (return_case end name.0.templ name.0.ctor s.rest) type s >>= λ after.
-    encoding_params_as (encoding_params_case end after.rest) end param name after
+-- what is after the name of an encoding
+abbrev pub encoding_end : Parses Shape → Shape × Quals → Parses Shape
+encoding_end type name s =
+    return_as (return_case name.0.templ name.0.ctor s.rest) type s >>= λ after.
+    encoding_params_as (encoding_params_case after.rest) type name after
 
 -- the words of a name's own qualifiers are shown inside a local name, so also of its entity
 abbrev pub shows_words : NameCase → Bool → Bool
@@ -506,23 +504,20 @@ thunk_by encoding s =
     Some (thunk_shape found.0 t.0, t.1)
 
 -- <encoding>, by what it begins with
-abbrev pub encoding_as : EncodingCase → EncodingEnd → Parses Shape → Parses Shape → ParsesBareName → Parses Shape
-    → Parses Shape → Parses Shape
-encoding_as SpecialEncoding end special name bare type param s = special s
-encoding_as NameEncoding end special name bare type param s = name s
-encoding_as FullEncoding end special name bare type param s =
-    bare s >>= λ found. encoding_end end type param found.0 found.1
+abbrev pub encoding_as : EncodingCase → Parses Shape → Parses Shape → ParsesBareName → Parses Shape → Parses Shape
+encoding_as SpecialEncoding special name bare type s = special s
+encoding_as NameEncoding special name bare type s = name s
+encoding_as FullEncoding special name bare type s = bare s >>= λ found. encoding_end type found.0 found.1
 
 -- <encoding>, by what it is made of
-abbrev pub encoding_by : EncodingEnd → Parses Shape → Parses Shape → ParsesBareName → Parses Shape → Context
-    → Parses Shape
-encoding_by end type param bare thunk x s =
-    encoding_as (encoding_case end s.rest) end (special_by type (qualified_by bare x) thunk) (qualified_by bare x) bare
-    type param s
+abbrev pub encoding_by : EncodingEnd → Parses Shape → ParsesBareName → Parses Shape → Context → Parses Shape
+encoding_by end type bare thunk x s =
+    encoding_as (encoding_case end s.rest) (special_by type (qualified_by bare x) thunk) (qualified_by bare x) bare
+    type s
 
 -- the <encoding> of a local or an external name, by what it is made of
 abbrev pub encoding_in : Parses Shape → ParsesBareName → Parses Shape → Context → Parses Shape
-encoding_in type bare thunk x s = encoding_by AtE type type bare thunk x s
+encoding_in type bare thunk x s = encoding_by AtE type bare thunk x s
 
 -- what follows the encoding of a <local-name>
 abbrev pub entity_as : EntityCase → ParsesBareName → Shape → ParsesBareName
@@ -668,7 +663,7 @@ function_end front quals list s =
 -- what is after what a function returns, where that is plain
 abbrev pub function_params : Parses Shape → Quals → Shape → Parses Shape
 function_params type quals ret s =
-    opening_step ret >>= λ opened. params_as (params_case AtE s.rest) AtE true type opened s >>= λ list.
+    opening_step ret >>= λ opened. params_as (params_case s.rest) true type opened s >>= λ list.
     function_end (text_len ret) quals list.0 list.1
 
 -- <function-type>, by what it begins with
@@ -777,7 +772,7 @@ unfoldable mutual
       (parse_args d x true)
       (parse_local
       (encoding_in (parse_type d (inside_encoding x)) (parse_bare_name d (inside_encoding x))
-      (parse_thunk d AtE (inside_encoding x)) (inside_encoding x))
+      (parse_thunk d (inside_encoding x)) (inside_encoding x))
       (parse_bare_name d (showing_words x)))
       x (enter s) >>= fitting_bare
 
@@ -788,7 +783,7 @@ unfoldable mutual
       parse_list (argument_by (parse_pack d x) (parse_type d x) (parse_expression d x)
       (primary_by (parse_type d x)
       (encoding_in (parse_type d (inside_encoding x)) (parse_bare_name d (inside_encoding x))
-      (parse_thunk d AtE (inside_encoding x)) (inside_encoding x))))
+      (parse_thunk d (inside_encoding x)) (inside_encoding x))))
       (opens_scope of_name x) (enter s) >>= fitting
 
   -- J <template-arg>* E
@@ -799,7 +794,7 @@ unfoldable mutual
       (parse_expression d (hiding_dots x))
       (primary_by (parse_type d (hiding_dots x))
       (encoding_in (parse_type d (inside_encoding (hiding_dots x)))
-      (parse_bare_name d (inside_encoding (hiding_dots x))) (parse_thunk d AtE (inside_encoding (hiding_dots x)))
+      (parse_bare_name d (inside_encoding (hiding_dots x))) (parse_thunk d (inside_encoding (hiding_dots x)))
       (inside_encoding (hiding_dots x)))))
       (enter s) >>= fitting
 
@@ -817,15 +812,15 @@ unfoldable mutual
   parse_expression (suc d) x s =
       expression_as (expression_case s.rest) (parse_expression d x) (primary_by (parse_type d x)
       (encoding_in (parse_type d (inside_encoding x)) (parse_bare_name d (inside_encoding x))
-      (parse_thunk d AtE (inside_encoding x)) (inside_encoding x)))
+      (parse_thunk d (inside_encoding x)) (inside_encoding x)))
       x (enter s) >>= fitting
 
   -- T <call-offset> <encoding> and T c <call-offset> <call-offset> <encoding>
-  pub parse_thunk : ℕ → EncodingEnd → Context → Parses Shape
-  parse_thunk zero end x s = None
-  parse_thunk (suc d) end x s =
-      thunk_by (encoding_by (for_thunk end) (parse_type d x) (parse_type d (inside_params (for_thunk end) x))
-      (parse_bare_name d x) (parse_thunk d (for_thunk end) x) x) (enter s) >>= fitting
+  pub parse_thunk : ℕ → Context → Parses Shape
+  parse_thunk zero x s = None
+  parse_thunk (suc d) x s =
+      thunk_by (encoding_by AfterName (parse_type d x) (parse_bare_name d x) (parse_thunk d x) x) (enter s)
+      >>= fitting
 
 -- <unqualified-name>, whose types nest at most d productions
 abbrev pub unqualified_name : ℕ → Context → ParsesName
@@ -836,14 +831,14 @@ unfoldable pub parse_name : ℕ → Context → Parses Shape
 parse_name d x = qualified_by (parse_bare_name d x) x
 
 -- <special-name>
-unfoldable pub parse_special : ℕ → EncodingEnd → Context → Parses Shape
-parse_special d end x = special_by (parse_type d x) (parse_name d x) (parse_thunk d end x)
+unfoldable pub parse_special : ℕ → Context → Parses Shape
+parse_special d x = special_by (parse_type d x) (parse_name d x) (parse_thunk d x)
 
 -- <encoding>
 unfoldable pub parse_encoding : ℕ → EncodingEnd → Context → Parses Shape
 parse_encoding d end x s =
-    encoding_as (encoding_case end s.rest) end (parse_special d end x) (parse_name d x) (parse_bare_name d x)
-    (parse_type d x) (parse_type d (inside_params end x)) s
+    encoding_as (encoding_case end s.rest) (parse_special d x) (parse_name d x) (parse_bare_name d x)
+    (parse_type d x) s
 
 -- <expr-primary>
 unfoldable pub parse_primary : ℕ → Context → Parses Shape
@@ -852,12 +847,3 @@ parse_primary d x = primary_by (parse_type d x) (parse_encoding d AtE (inside_en
 -- <template-arg>
 unfoldable pub parse_argument : ℕ → Context → Parses Shape
 parse_argument d x = argument_by (parse_pack d x) (parse_type d x) (parse_expression d x) (parse_primary d x)
-
--- what was parsed, where a symbol ends after it
-abbrev pub at_symbol_end : Shape × ParserState → Option (Shape × ParserState)
-at_symbol_end found = if ends_here AtSymbolEnd found.1.rest then Some found else None
-
--- what follows the prefix of a symbol, as a signature
-unfoldable pub parse_signature : ℕ → Context → Parses Shape
-parse_signature zero x s = None
-parse_signature (suc d) x s = parse_encoding d AtSymbolEnd x (enter s) >>= at_symbol_end >>= fitting

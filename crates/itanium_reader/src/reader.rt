@@ -25,7 +25,7 @@ use itanium_syntax::types::{builtin_text, past_builtin};
 use std::alloc::AllocError;
 
 /// The most bytes that a counted production of a symbol may print, also if its text is dropped later. The counted
-/// productions are names, types, argument lists, packs, thunks, expressions and signatures.
+/// productions are names, types, argument lists, packs, thunks and expressions.
 pub const MAX_TEXT: usize = 1_048_576;
 
 /// Returns `MAX_TEXT`, in bytes. It is a function, because proofs get the value from a clause.

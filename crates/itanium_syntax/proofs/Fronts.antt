@@ -11,7 +11,7 @@ use Rattle.itanium_syntax.specs.declared.abbreviations.Abbreviation.{Abbreviatio
 use Rattle.abi_scalars.specs.declared.numerals.Radix.TheVariants.{Decimal}
 use Rattle.itanium_syntax.specs.Abbreviations.{abbreviation_of}
 use Rattle.abi_scalars.specs.Bytes.{begins, begins_one_of, past_letter}
-use Rattle.itanium_syntax.specs.Cases.{EncodingEnd, AfterName, AtE, SpecialEncoding, NameEncoding, FullEncoding}
+use Rattle.itanium_syntax.specs.Cases.{AfterName, SpecialEncoding, NameEncoding, FullEncoding}
 use Rattle.itanium_syntax.specs.Cases.{TypeSpecial, NameSpecial, TemporarySpecial, ConstructionSpecial, ThunkSpecial}
 use Rattle.itanium_syntax.specs.Cases.{PreExpression, AddressExpression, UnaryExpression, PostExpression}
 use Rattle.itanium_syntax.specs.Cases.{BinaryExpression, GreaterExpression, ConditionalExpression, PrimaryExpression}
@@ -109,7 +109,7 @@ pub destructor_some : (bytes : List ℕ) → unqualified_case true bytes ≡ Des
 destructor_some [] e = cc
 destructor_some (b ∷ bytes) _ = omega arith
 
-pub types_end_some : (in_function_type : Bool) (bytes : List ℕ) → type_list_case AtE in_function_type bytes ≡ EndOfTypes → 0 < length bytes
+pub types_end_some : (in_function_type : Bool) (bytes : List ℕ) → type_list_case in_function_type bytes ≡ EndOfTypes → 0 < length bytes
 types_end_some true [] e = cc
 types_end_some false [] e = cc
 types_end_some in_function_type (b ∷ bytes) _ = omega arith
@@ -135,9 +135,9 @@ pub cv_function_some : (bytes : List ℕ) → cv_case bytes ≡ CvFunction → 0
 cv_function_some [] e = cc
 cv_function_some (b ∷ bytes) _ = omega arith
 
-pub no_params_some : (end : EncodingEnd) (bytes : List ℕ) → params_case end bytes ≡ NoParams → 0 < length bytes
-no_params_some end [] e = cc
-no_params_some end (b ∷ bytes) _ = omega arith
+pub no_params_some : (bytes : List ℕ) → params_case bytes ≡ NoParams → 0 < length bytes
+no_params_some [] e = cc
+no_params_some (b ∷ bytes) _ = omega arith
 
 -- qualifiers have a letter
 pub cv_shorter : (bytes : List ℕ) → begins_one_of (codes "rVK") bytes ≡ true → length (past_cv bytes) < length bytes

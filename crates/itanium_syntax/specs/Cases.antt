@@ -16,7 +16,7 @@ pub use Rattle.itanium_syntax.specs.declared.names.OrdinaryCase.TheVariants.{Sou
 pub use Rattle.itanium_syntax.specs.declared.names.TagCase.{TagCase}
 pub use Rattle.itanium_syntax.specs.declared.names.TagCase.TheVariants.{NoTag, NextTag}
 pub use Rattle.itanium_syntax.specs.declared.encodings.EncodingEnd.{EncodingEnd}
-pub use Rattle.itanium_syntax.specs.declared.encodings.EncodingEnd.TheVariants.{AfterName, AtE, AtSymbolEnd}
+pub use Rattle.itanium_syntax.specs.declared.encodings.EncodingEnd.TheVariants.{AfterName, AtE}
 pub use Rattle.itanium_syntax.specs.declared.encodings.ReturnCase.{ReturnCase}
 pub use Rattle.itanium_syntax.specs.declared.encodings.ReturnCase.TheVariants.{NoReturnType, SomeReturnType}
 pub use Rattle.itanium_syntax.specs.declared.encodings.EncodingParamsCase.{EncodingParamsCase}

@@ -1,12 +1,10 @@
--- What a production hands down to those inside it: four flags, all off at the start of a symbol's name.
---   words_shown: words such as ` const` are printed after a name. On in a local or external name, and in a signature.
---   dots_hidden: a pack expansion prints no `...`. On in an argument pack, and in the parameters of a signature.
+-- What a production hands down to those inside it: four flags, all off at the start of a symbol.
+--   words_shown: words such as ` const` are printed after a name. On in a local or external name.
+--   dots_hidden: a pack expansion prints no `...`. On in an argument pack.
 --   lambda: a template parameter prints `auto`. On in the parameters of a lambda.
 --   in_type: the template arguments of a name open no scope. On in a type, but not in an encoding inside it.
 use Rattle.std.specs.Prelude.{Bool, true, false, not, ◌&&◌}
 use Rattle.itanium_syntax.specs.declared.context.Context.{Context}
-use Rattle.itanium_syntax.specs.declared.encodings.EncodingEnd.{EncodingEnd}
-use Rattle.itanium_syntax.specs.declared.encodings.EncodingEnd.TheVariants.{AtSymbolEnd}
 
 -- a list opens a scope if it belongs to a name and no type is around it
 abbrev pub opens_scope : Bool → Context → Bool
@@ -31,9 +29,3 @@ showing_words x = record x { words_shown = true }
 -- the context inside the encoding of a local or an external name: no type is around it
 abbrev pub inside_encoding : Context → Context
 inside_encoding x = record x { words_shown = true; in_type = false }
-
--- the context inside the parameters of an encoding that ends so: those of a signature have no dots where a pack is
--- expanded, as if they were in an argument pack
-abbrev pub inside_params : EncodingEnd → Context → Context
-inside_params AtSymbolEnd x = hiding_dots x
-inside_params end x = x

@@ -1,29 +1,12 @@
 -- The cases of encodings and of local names. Of several cases the first one that fits holds.
-use Rattle.std.specs.Prelude.{ℕ, List, Bool, true, not, ◌&&◌, ◌||◌, drop, codes, if◌then◌else◌}
+use Rattle.std.specs.Prelude.{ℕ, List, Bool, not, ◌&&◌, ◌||◌, drop, codes, if◌then◌else◌}
 use Rattle.itanium_syntax.specs.declared.encodings.EncodingEnd.{EncodingEnd}
-use Rattle.itanium_syntax.specs.declared.encodings.EncodingEnd.TheVariants.{AfterName, AtE, AtSymbolEnd}
-use Rattle.abi_scalars.specs.Bytes.{begins, begins_digit, begins_between}
+use Rattle.itanium_syntax.specs.declared.encodings.EncodingEnd.TheVariants.{AfterName, AtE}
+use Rattle.abi_scalars.specs.Bytes.{begins, begins_digit}
 use Rattle.itanium_syntax.specs.Cases.{EncodingCase, SpecialEncoding, NameEncoding, FullEncoding}
 use Rattle.itanium_syntax.specs.Cases.{ReturnCase, NoReturnType, SomeReturnType, EncodingParamsCase}
 use Rattle.itanium_syntax.specs.Cases.{NoEncodingParams, SomeEncodingParams, EntityCase, StringLiteralEntity}
 use Rattle.itanium_syntax.specs.Cases.{DefaultArgumentEntity, NameEntity, UnreadableEntity}
-
--- an ASCII letter, a digit or an underscore is next
-abbrev pub begins_identifier : List ℕ → Bool
-begins_identifier bytes =
-    begins_digit bytes || begins_between "A" "Z" bytes || begins (codes "_") bytes || begins_between "a" "z" bytes
-
--- whether an encoding with this end stops in front of these bytes: `AfterName` always does, `AtE` in front of an E, and
--- `AtSymbolEnd` where no ASCII letter, digit or underscore is next
-abbrev pub ends_here : EncodingEnd → List ℕ → Bool
-ends_here AfterName bytes = true
-ends_here AtE bytes = begins (codes "E") bytes
-ends_here AtSymbolEnd bytes = not (begins_identifier bytes)
-
--- how the encoding of a thunk ends: that of a signature's thunk where the symbol ends, else right after its name
-abbrev pub for_thunk : EncodingEnd → EncodingEnd
-for_thunk AtSymbolEnd = AtSymbolEnd
-for_thunk end = AfterName
 
 -- a <special-name> is next
 abbrev pub begins_special : List ℕ → Bool
@@ -32,7 +15,7 @@ begins_special bytes = begins (codes "T") bytes || begins (codes "G") bytes
 -- an <encoding> of a name: the name alone, where it ends right after it
 abbrev pub name_encoding_case : EncodingEnd → EncodingCase
 name_encoding_case AfterName = NameEncoding
-name_encoding_case end = FullEncoding
+name_encoding_case AtE = FullEncoding
 
 -- <encoding>: a special name, or one of a name
 abbrev pub encoding_case : EncodingEnd → List ℕ → EncodingCase
@@ -40,13 +23,13 @@ encoding_case end bytes = if begins_special bytes then SpecialEncoding else name
 
 -- the return type in an encoding, or none: a template has one, unless it is a constructor, destructor or conversion, or
 -- its name is all of the encoding
-abbrev pub return_case : EncodingEnd → Bool → Bool → List ℕ → ReturnCase
-return_case end templ ctor bytes =
-    if templ && not ctor && not (ends_here end bytes) then SomeReturnType else NoReturnType
+abbrev pub return_case : Bool → Bool → List ℕ → ReturnCase
+return_case templ ctor bytes =
+    if templ && not ctor && not (begins (codes "E") bytes) then SomeReturnType else NoReturnType
 
--- the parameters of an encoding, or its end
-abbrev pub encoding_params_case : EncodingEnd → List ℕ → EncodingParamsCase
-encoding_params_case end bytes = if ends_here end bytes then NoEncodingParams else SomeEncodingParams
+-- the parameters of an encoding, or its E
+abbrev pub encoding_params_case : List ℕ → EncodingParamsCase
+encoding_params_case bytes = if begins (codes "E") bytes then NoEncodingParams else SomeEncodingParams
 
 -- what follows the encoding of a <local-name>: its E, and s for a string literal, d for a default argument, or a name
 abbrev pub entity_case : List ℕ → EntityCase

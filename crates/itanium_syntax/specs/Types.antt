@@ -5,8 +5,6 @@ use Rattle.demangle_quals.specs.declared.quals.Quals.{Quals}
 use Rattle.demangle_quals.specs.declared.quals.Pointer.TheVariants as Pointer
 use Rattle.demangle_quals.specs.declared.quals.Reference.{Reference}
 use Rattle.demangle_quals.specs.declared.quals.Reference.TheVariants.{Left, Right}
-use Rattle.itanium_syntax.specs.declared.encodings.EncodingEnd.{EncodingEnd}
-use Rattle.itanium_syntax.specs.Encodings.{ends_here}
 use Rattle.abi_scalars.specs.Bytes.{letter, is, begins, begins_one_of, past_letter}
 use Rattle.itanium_syntax.specs.Cases.{TypeCase, BuiltinType, ExpansionType, VendorType, ArrayType, FunctionType}
 use Rattle.itanium_syntax.specs.Cases.{PointerToMemberType, PointerType, CvType, ElaboratedType, TemplateParamType, SubstitutionType}
@@ -105,14 +103,14 @@ cv_case bytes = if begins (codes "F") bytes then CvFunction else CvOther
 abbrev pub function_case : List ℕ → FunctionCase
 function_case bytes = if begins (codes "FY") bytes then ExternFunction else PlainFunction
 
--- `v` right before the end stands for no parameters
-abbrev pub params_case : EncodingEnd → List ℕ → ParamsCase
-params_case end bytes = if begins (codes "v") bytes && ends_here end (drop 1 bytes) then NoParams else SomeParams
+-- `v` right before the E stands for no parameters
+abbrev pub params_case : List ℕ → ParamsCase
+params_case bytes = if begins (codes "vE") bytes then NoParams else SomeParams
 
--- types go up to the end, those of a <function-type> also to a <ref-qualifier> in front of its E
-abbrev pub type_list_case : EncodingEnd → Bool → List ℕ → TypeListCase
-type_list_case end in_function_type bytes =
-    if ends_here end bytes then EndOfTypes else
+-- types go up to an E, those of a <function-type> also to a <ref-qualifier> in front of it
+abbrev pub type_list_case : Bool → List ℕ → TypeListCase
+type_list_case in_function_type bytes =
+    if begins (codes "E") bytes then EndOfTypes else
     if in_function_type && (begins (codes "RE") bytes || begins (codes "OE") bytes) then EndOfTypes else NextType
 
 -- the word in front of an elaborated type's name, and a space

@@ -2,15 +2,12 @@
 ghost use Rattle.std.specs.Prelude.{◌≡◌};
 ghost use Rattle.itanium_syntax.specs.Context as spec;
 
-use crate::encodings::EncodingEnd;
-
-/// Four flags that each reader passes to the readers inside it. All are off at the start of a symbol's name. At the
-/// start of a signature `words_shown` is on.
+/// Four flags that each reader passes to the readers inside it. All are off at the start of a symbol.
 #[derive(Clone, Copy)]
 pub struct Context {
-    /// Set inside a local or an external name, and in a signature: words such as ` const` after a name are printed.
+    /// Set inside a local or an external name: words such as ` const` after a name are printed.
     pub words_shown: bool,
-    /// Set inside an argument pack, and in the parameters of a signature: a pack expansion prints no `...`.
+    /// Set inside an argument pack: a pack expansion prints no `...`.
     pub dots_hidden: bool,
     /// Set inside a lambda's parameters: a template parameter is printed as `auto`.
     pub lambda: bool,
@@ -18,7 +15,7 @@ pub struct Context {
     pub in_type: bool,
 }
 
-/// The context at the start of a symbol's name. A signature starts with `INITIAL.showing_words()`.
+/// The context at the start of a symbol.
 pub const INITIAL: Context = Context {
     words_shown: false,
     dots_hidden: false,
@@ -58,7 +55,7 @@ impl Context {
     }
 
     /// Returns the context in which words such as ` const` are printed after a name: that of a local name and its
-    /// entity, and that at the start of a signature.
+    /// entity.
     pub fn showing_words(self) -> Context
         ensures context { result ≡ spec.showing_words self }
     {
@@ -76,17 +73,6 @@ impl Context {
             words_shown: true,
             in_type: false,
             ..self
-        }
-    }
-
-    /// Returns the context for the parameters of an encoding with this `end`. In a signature `dots_hidden` is set, so
-    /// an expansion prints its arguments without `...`.
-    pub fn inside_params(self, end: EncodingEnd) -> Context
-        ensures context { result ≡ spec.inside_params end self }
-    {
-        match end {
-            EncodingEnd::AtSymbolEnd => self.hiding_dots(),
-            _ => self,
         }
     }
 

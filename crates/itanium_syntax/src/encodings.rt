@@ -3,43 +3,14 @@
 ghost use Rattle.std.specs.Prelude.{◌≡◌};
 ghost use Rattle.itanium_syntax.specs.Encodings as spec;
 
-/// Where an `<encoding>` ends, or a list of parameters.
+/// Where an `<encoding>` ends.
 #[derive(Clone, Copy)]
 pub enum EncodingEnd {
-    /// Right after its name: neither return type nor parameters are read. This is the end for a symbol that is read as
-    /// a name, and for the encoding of a thunk in such a symbol or in a local or external name.
+    /// Right after its name: neither return type nor parameters are read. This is the end for a symbol, and for the
+    /// encoding of a thunk.
     AfterName,
-    /// At the `E` of the local or external name around it. Parameters of a lambda or a function type end at its `E`.
+    /// At the `E` of the local or external name around it.
     AtE,
-    /// Where the symbol ends. This is the end for a signature, and for the encoding of a thunk whose end is that of a
-    /// signature.
-    AtSymbolEnd,
-}
-
-impl EncodingEnd {
-    /// Returns where the encoding of a thunk ends. `self` is the end of the special name that is the thunk.
-    pub fn for_thunk(self) -> EncodingEnd
-        ensures end { result ≡ spec.for_thunk self }
-    {
-        match self {
-            EncodingEnd::AtSymbolEnd => EncodingEnd::AtSymbolEnd,
-            _ => EncodingEnd::AfterName,
-        }
-    }
-
-    /// Returns whether an encoding with this end stops in front of these bytes. A symbol ends if no ASCII letter,
-    /// digit or underscore is next.
-    pub fn ends_here(self, bytes: &[u8]) -> bool
-        ensures value { result ≡ spec.ends_here self bytes.now }
-    {
-        match self {
-            EncodingEnd::AfterName => true,
-            EncodingEnd::AtE => matches!(bytes, [b'E', ..]),
-            EncodingEnd::AtSymbolEnd => {
-                !matches!(bytes, [b'0'..=b'9' | b'A'..=b'Z' | b'_' | b'a'..=b'z', ..])
-            }
-        }
-    }
 }
 
 /// The cases of `<encoding>`: a special name; a name that is the whole encoding; a name that a return type and
@@ -91,30 +62,29 @@ pub fn encoding_case(end: EncodingEnd, bytes: &[u8]) -> EncodingCase
     }
     match end {
         EncodingEnd::AfterName => EncodingCase::NameEncoding,
-        _ => EncodingCase::FullEncoding,
+        EncodingEnd::AtE => EncodingCase::FullEncoding,
     }
 }
 
 /// Returns whether a return type is next, after a name with these flags. A template has one, unless it is a
-/// constructor, a destructor or a conversion, or the encoding ends here.
-pub fn return_case(end: EncodingEnd, templ: bool, ctor: bool, bytes: &[u8]) -> ReturnCase
-    ensures case { result ≡ spec.return_case end templ ctor bytes.now }
+/// constructor, a destructor or a conversion, or an `E` is next.
+pub fn return_case(templ: bool, ctor: bool, bytes: &[u8]) -> ReturnCase
+    ensures case { result ≡ spec.return_case templ ctor bytes.now }
 {
-    if templ && !ctor && !end.ends_here(bytes) {
+    if templ && !ctor && !matches!(bytes, [b'E', ..]) {
         ReturnCase::SomeReturnType
     } else {
         ReturnCase::NoReturnType
     }
 }
 
-/// Returns whether parameters are next. There are none if the encoding ends here.
-pub fn encoding_params_case(end: EncodingEnd, bytes: &[u8]) -> EncodingParamsCase
-    ensures case { result ≡ spec.encoding_params_case end bytes.now }
+/// Returns whether parameters are next. There are none if an `E` is next.
+pub fn encoding_params_case(bytes: &[u8]) -> EncodingParamsCase
+    ensures case { result ≡ spec.encoding_params_case bytes.now }
 {
-    if end.ends_here(bytes) {
-        EncodingParamsCase::NoEncodingParams
-    } else {
-        EncodingParamsCase::SomeEncodingParams
+    match bytes {
+        [b'E', ..] => EncodingParamsCase::NoEncodingParams,
+        _ => EncodingParamsCase::SomeEncodingParams,
     }
 }
 

@@ -4,7 +4,6 @@ ghost use Rattle.itanium_syntax.specs.Types as spec;
 ghost use Rattle.abi_scalars.specs.Bytes as bytes_spec;
 ghost use Rattle.itanium_syntax.specs.Calls as call_spec;
 
-use crate::encodings::EncodingEnd;
 use demangle_quals::{Pointer, Quals, Reference};
 
 /// The cases of `<type>`.
@@ -100,23 +99,23 @@ pub fn function_case(bytes: &[u8]) -> FunctionCase
     }
 }
 
-/// Returns whether there are parameters in front of `end`. A single `v` in front of `end` means that there are none.
-pub fn params_case(end: EncodingEnd, bytes: &[u8]) -> ParamsCase
-    ensures case { result ≡ spec.params_case end bytes.now }
+/// Returns whether there are parameters in front of the `E`. A single `v` in front of it means that there are none.
+pub fn params_case(bytes: &[u8]) -> ParamsCase
+    ensures case { result ≡ spec.params_case bytes.now }
 {
     match bytes {
-        [b'v', rest @ ..] if end.ends_here(rest) => ParamsCase::NoParams,
+        [b'v', b'E', ..] => ParamsCase::NoParams,
         _ => ParamsCase::SomeParams,
     }
 }
 
-/// Returns whether one more parameter type is next, or the end of the parameters. In a `<function-type>` an `R` or `O`
-/// in front of the `E` is the end too.
-pub fn type_list_case(end: EncodingEnd, in_function_type: bool, bytes: &[u8]) -> TypeListCase
-    ensures case { result ≡ spec.type_list_case end in_function_type bytes.now }
+/// Returns whether one more parameter type is next, or the end of the parameters, which is an `E`. In a
+/// `<function-type>` an `R` or `O` in front of the `E` is the end too.
+pub fn type_list_case(in_function_type: bool, bytes: &[u8]) -> TypeListCase
+    ensures case { result ≡ spec.type_list_case in_function_type bytes.now }
 {
     match bytes {
-        _ if end.ends_here(bytes) => TypeListCase::EndOfTypes,
+        [b'E', ..] => TypeListCase::EndOfTypes,
         [b'R' | b'O', b'E', ..] if in_function_type => TypeListCase::EndOfTypes,
         _ => TypeListCase::NextType,
     }

@@ -4,7 +4,7 @@ ghost use Rattle.itanium_grammar.specs.Answer.{IsAnswer};
 ghost use Rattle.text_filter.specs.Printed.{Lines};
 ghost use Rattle.text_filter.specs.Filtered.{FiltersAll, FiltersBeginning, FiltersAllButKept, FiltersWhole, WritesFiltered};
 
-use super::symbols::{NameReader, Printing};
+use super::symbols::NameReader;
 use std::alloc::Global;
 use text_filter::{FilterFault, Sink, Source, filter_with};
 
@@ -47,5 +47,5 @@ pub fn filter<R: Source, W: Sink>(
         (R.remaining source.old) (R.remaining source.new) (W.taken sink.old) (W.taken sink.new) }
 {
     let mut names = NameReader::new();
-    filter_with(alloc, &mut names, Printing::Names, source, sink)
+    filter_with(alloc, &mut names, (), source, sink)
 }

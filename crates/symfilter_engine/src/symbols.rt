@@ -1,21 +1,12 @@
-//! What is printed for a symbol, and who reads it.
-ghost use Rattle.symfilter_engine.specs.Printed.{prints, prints_each};
+//! The reader of names.
+ghost use Rattle.std.specs.Prelude.{false};
+ghost use Rattle.symfilter_engine.specs.Printed.{prints, prints_each, unprefixed_stays};
 
 use itanium_demangle::Demangler;
 use std::alloc::{AllocError, Global};
 use text_filter::SymbolReader;
 
-/// What is printed for a symbol.
-#[derive(Clone, Copy, PartialEq)]
-pub enum Printing {
-    /// Its demangled name.
-    Names,
-    /// Its signature, which is its demangled name with its parameters. If a symbol has no signature, its demangled
-    /// name.
-    Signatures,
-}
-
-/// Reads names and signatures. Keeps its memory for its next symbol.
+/// Reads names. Keeps its memory for its next symbol.
 #[derive(Drop)]
 pub struct NameReader {
     demangler: Demangler,
@@ -31,7 +22,9 @@ impl NameReader {
 }
 
 impl SymbolReader for NameReader {
-    type Printing = Printing;
+    type Printing = ();
+
+    ghost all = { λ _. false };
 
     ghost prints = { prints };
 
@@ -39,16 +32,16 @@ impl SymbolReader for NameReader {
 
     ghost answers = { prints_each };
 
+    ghost unprefixed = { λ printing _. unprefixed_stays printing };
+
     #[inline(always)]
-    fn read(&mut self, alloc: Global, printing: Printing, symbol: &str) -> Result<(), AllocError> {
-        match printing {
-            Printing::Names => {
-                self.demangler.prepare(alloc, symbol)?;
-            }
-            Printing::Signatures => {
-                self.demangler.prepare_signature(alloc, symbol)?;
-            }
-        }
+    fn reads_all(_: ()) -> bool {
+        false
+    }
+
+    #[inline(always)]
+    fn read(&mut self, alloc: Global, _: (), symbol: &str) -> Result<(), AllocError> {
+        self.demangler.prepare(alloc, symbol)?;
         Ok(())
     }
 

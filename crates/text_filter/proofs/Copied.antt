@@ -325,10 +325,10 @@ words_passed options mid_word after bytes rest n whole t t' t'' leads outside re
 
 -- the word after them is kept if it may hold a symbol
 pub word_held : (options : ReplaceOptions) (bytes rest : List ℕ) (n whole : ℕ) (may_hold : Bool) → rest ≡ drop n bytes → All IsWordByte (drop whole rest)
-    → may_hold ≡ may_hold_symbol options.strip (take (length rest - whole) (drop whole rest)) → may_hold ≡ true → IsKept options.strip (drop (n + whole) bytes)
+    → may_hold ≡ may_hold_symbol options.strip options.all (take (length rest - whole) (drop whole rest)) → may_hold ≡ true → IsKept options (drop (n + whole) bytes)
 word_held options bytes rest n whole may_hold rest_is all may_hold_is is =
-    subst (IsKept options.strip) (ap (drop whole) rest_is ∙ drop-drop whole n bytes)
-    (record { word = all; may_hold = subst (λ l. may_hold_symbol options.strip l ≡ true) (take_rest rest whole) (sym may_hold_is ∙ is) })
+    subst (IsKept options) (ap (drop whole) rest_is ∙ drop-drop whole n bytes)
+    (record { word = all; may_hold = subst (λ l. may_hold_symbol options.strip options.all l ≡ true) (take_rest rest whole) (sym may_hold_is ∙ is) })
 
 -- a fault came while they were written
 pub words_fault : (options : ReplaceOptions) (mid_word after : Bool) (bytes rest : List ℕ) (n whole : ℕ) (t t' t'' : Option (List ℕ)) → ContinuesTo options mid_word (take n bytes) (take n bytes) after

@@ -5,7 +5,7 @@ use Rattle.std.specs.Str.{is_utf8}
 use Rattle.std.proofs.lemmas.Str.{IsUtf8-from_is_utf8, is_utf8-from_IsUtf8}
 use Rattle.std.proofs.lemmas.Bool.{false≢true, ne_eqb}
 use Rattle.abi_scalars.specs.Symbol.{after_prefix}
-use Rattle.text_filter.specs.Printed.{Printing, AnswersEach}
+use Rattle.text_filter.specs.Printed.{Printing}
 use Rattle.text_filter.specs.Filtered.{IsLineAnswer, answered, unanswered, not_utf8}
 
 -- a line that isn't UTF-8
@@ -37,5 +37,5 @@ by_utf8 : (printing : Printing) (line : List ℕ) → printing line None → (b 
 by_utf8 printing line none false bad = not_utf8 (λ good. false≢true (sym bad ∙ is_utf8-from_IsUtf8 line good))
 by_utf8 printing line none true good = unanswered (IsUtf8-from_is_utf8 line good) none
 
-pub other_line : (printing : Printing) (laws : AnswersEach printing) (line : List ℕ) → get_or line 0 0 ≢ 95 → IsLineAnswer printing line line
-other_line printing laws line ordinary = by_utf8 printing line (laws.unprefixed line ordinary) (is_utf8 line) refl
+pub other_line : (printing : Printing) (stays : (line : List ℕ) → get_or line 0 0 ≢ 95 → printing line None) (line : List ℕ) → get_or line 0 0 ≢ 95 → IsLineAnswer printing line line
+other_line printing stays line ordinary = by_utf8 printing line (stays line ordinary) (is_utf8 line) refl

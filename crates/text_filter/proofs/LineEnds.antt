@@ -1,5 +1,5 @@
 -- Where lines end.
-use Rattle.std.proofs.Common.{false, ◌≡◌, ◌≢◌, inl, inr, ℕ, zero, suc, ◌+◌, ◌-◌, ◌<◌, ◌≤◌, List, [], ◌∷◌, ◌++◌, not, eqb, length, take, drop, get_or, sym, ap, subst, ◌∙◌, arith, append_assoc}
+use Rattle.std.proofs.Common.{false, ◌≡◌, ◌≢◌, inl, inr, ℕ, zero, suc, ◌+◌, ◌-◌, ◌<◌, ◌≤◌, List, [], ◌∷◌, ◌++◌, None, not, eqb, length, take, drop, get_or, sym, ap, subst, ◌∙◌, arith, append_assoc}
 use Rattle.std.proofs.lemmas.Bool.{eqb-true, eqb-false, cases_lt}
 use Rattle.std.proofs.lemmas.List.{get_or-take, get_or-drop, length-take-le, length-drop, length-append, take_more, length_push, get_or_push, get_or_append_left, drop_at, drop-drop, take-append-drop, take_rest}
 use Rattle.std.proofs.lemmas.List.Elements.{All-from_get_or, All-get_or}
@@ -12,9 +12,9 @@ use Rattle.std.specs.List.{prefix_len}
 use Rattle.text_filter.specs.Printed.{Placement, Lines, Words, ReplaceOptions, Printing, AnswersEach, printing_of}
 use Rattle.text_filter.specs.Filtered.{line_feed, EndsInLineFeed, AreWhole, AreLinesAnswered, no_line, one_more, AreWholeFiltered, IsLineAnswer}
 use Rattle.text_filter.specs.Replaced.{ends_word}
-use Rattle.text_filter.specs.Progress.{HasNone, IsFirst, EndsAt, HasPrefixNowhere, AppendsReplaced, AppendsFiltered}
+use Rattle.text_filter.specs.Progress.{HasNone, IsFirst, EndsAt, HasNothingToRead, AppendsReplaced, AppendsFiltered}
 use Rattle.text_filter.proofs.FilteredText.{AreLinesAnswered-append, AreWholeFiltered-append}
-use Rattle.text_filter.proofs.ReplacedText.{unprefixed, whole-drop}
+use Rattle.text_filter.proofs.ReplacedText.{unread, whole-drop}
 use Rattle.text_filter.proofs.LineAnswers.{other_line}
 
 -- a byte is no line feed
@@ -86,10 +86,10 @@ front_byte lines zero ordinary = λ e. absurd (omega (arith, e))
 front_byte lines (suc end) ordinary = subst (λ byte. byte ≢ 95) (sym (get_or-take (suc end) lines 0 0 (omega arith))) ordinary
 
 -- the first line, where it is ordinary
-pub ordinary_line : (printing : Printing) (laws : AnswersEach printing) (lines : List ℕ) (end : ℕ) → EndsAt lines end → get_or lines 0 0 ≢ 95 → AreLinesAnswered printing (take (end + 1) lines) (take (end + 1) lines)
-ordinary_line printing laws lines end ends ordinary =
+pub ordinary_line : (printing : Printing) (stays : (line : List ℕ) → get_or line 0 0 ≢ 95 → printing line None) (lines : List ℕ) (end : ℕ) → EndsAt lines end → get_or lines 0 0 ≢ 95 → AreLinesAnswered printing (take (end + 1) lines) (take (end + 1) lines)
+ordinary_line printing stays lines end ends ordinary =
     subst (AreLinesAnswered printing (take (end + 1) lines)) (sym (with_feed lines end ends))
-    (first_line printing lines (take end lines) end ends (other_line printing laws (take end lines) (front_byte lines end ordinary)))
+    (first_line printing lines (take end lines) end ends (other_line printing stays (take end lines) (front_byte lines end ordinary)))
 
 -- one more line is inside
 pub more_inside : (lines : List ℕ) (len end : ℕ) → EndsAt (take (length lines - len) (drop len lines)) end → len + (end + 1) ≤ length lines
@@ -98,21 +98,21 @@ more_inside lines len end ends =
     omega (arith, there.inside, length-drop len lines)
 
 -- ordinary lines, and one more
-pub more_ordinary : (printing : Printing) (laws : AnswersEach printing) (lines : List ℕ) (len end : ℕ) → AreLinesAnswered printing (take len lines) (take len lines)
+pub more_ordinary : (printing : Printing) (stays : (line : List ℕ) → get_or line 0 0 ≢ 95 → printing line None) (lines : List ℕ) (len end : ℕ) → AreLinesAnswered printing (take len lines) (take len lines)
     → EndsAt (take (length lines - len) (drop len lines)) end → get_or lines len 0 ≢ 95
     → AreLinesAnswered printing (take (len + (end + 1)) lines) (take (len + (end + 1)) lines)
-more_ordinary printing laws lines len end first ends ordinary =
+more_ordinary printing stays lines len end first ends ordinary =
     let rest : List ℕ = drop len lines in
     let there : EndsAt rest end = subst (λ l. EndsAt l end) (take_rest lines len) ends in
     let front : get_or rest 0 0 ≡ get_or lines len 0 = get_or-drop len lines 0 0 ∙ ap (λ n. get_or lines n 0) (omega arith) in
-    let next = ordinary_line printing laws rest end there (λ is. ordinary (sym front ∙ is)) in
+    let next = ordinary_line printing stays rest end there (λ is. ordinary (sym front ∙ is)) in
     subst (λ l. AreLinesAnswered printing l l) (sym (take-add len (end + 1) lines)) (AreLinesAnswered-append printing first next)
 
--- whole words without a prefix
-pub unprefixed_words : (placement : Placement) (laws : AnswersEach (printing_of placement)) (options : ReplaceOptions) (text : List ℕ) → placement ≡ Words options → ends_word text ≡ false → HasPrefixNowhere text
+-- whole words of which none is read
+pub unread_words : (placement : Placement) (laws : AnswersEach (printing_of placement)) (options : ReplaceOptions) (text : List ℕ) → placement ≡ Words options → ends_word text ≡ false → HasNothingToRead options.all text
     → AreWholeFiltered placement text text
-unprefixed_words placement laws options text is whole none =
-    subst (λ s. AreWholeFiltered s text text) (sym is) (whole, unprefixed options (subst (λ s. AnswersEach (printing_of s)) is laws) text none)
+unread_words placement laws options text is whole none =
+    subst (λ s. AreWholeFiltered s text text) (sym is) (whole, unread options (subst (λ s. AnswersEach (printing_of s)) is laws) text none)
 
 -- whole words were appended replaced
 pub block_appended : (options : ReplaceOptions) (text before after : List ℕ) → ends_word text ≡ false → AppendsReplaced options text before after → AppendsFiltered (Words options) text before after

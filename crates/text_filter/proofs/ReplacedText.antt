@@ -10,9 +10,10 @@ use Rattle.std.specs.Prelude.{All}
 use Rattle.abi_scalars.specs.Bytes.{is, begins}
 use Rattle.text_filter.specs.Printed.{ReplaceOptions, AnswersEach}
 use Rattle.text_filter.specs.Replaced.{is_word_byte, IsWordByte, begins_word, ends_word, IsDot, ends_in_dot, prefix_chars_len, prefix_chars}
-use Rattle.text_filter.specs.Replaced.{past_prefix_chars, symbol_at, symbol_in, IsWordAnswer, answered, unanswered}
+use Rattle.text_filter.specs.Replaced.{has_prefix, stripped, is_symbol, past_prefix_chars, symbol_in, IsWordAnswer, answered, unanswered}
 use Rattle.text_filter.specs.Replaced.{no_symbol, IsReplaced, no_byte, other, one_word}
-use Rattle.text_filter.specs.Progress.{underscore, capital_z, HasPrefixNowhere, AreWordBytes, IsBoundary}
+use Rattle.text_filter.specs.Progress.{underscore, capital_z, HasPrefixNowhere, HasNothingToRead, AreWordBytes, IsBoundary}
+use Rattle.text_filter.proofs.PrefixChars.{any_of, symbol_some}
 
 ends_word-cons : (byte : ℕ) (bytes : List ℕ) → ends_word bytes ≡ true → ends_word (byte ∷ bytes) ≡ true
 ends_word-cons byte [] ends = absurd (false≢true ends)
@@ -167,10 +168,10 @@ no_prefix-left bytes rest none k first second =
     ]
 
 -- bytes that begin with the prefix of a symbol
-has_prefix : (bytes : List ℕ) → begins (underscore ∷ capital_z ∷ []) bytes ≡ true → HasPrefixNowhere bytes → ⊥
-has_prefix [] front none = absurd (false≢true front)
-has_prefix (first ∷ []) front none = absurd (false≢true ((and_parts (first == underscore) false front).1))
-has_prefix (first ∷ second ∷ bytes) front none =
+begins_prefix : (bytes : List ℕ) → begins (underscore ∷ capital_z ∷ []) bytes ≡ true → HasPrefixNowhere bytes → ⊥
+begins_prefix [] front none = absurd (false≢true front)
+begins_prefix (first ∷ []) front none = absurd (false≢true ((and_parts (first == underscore) false front).1))
+begins_prefix (first ∷ second ∷ bytes) front none =
     let one = and_parts (first == underscore) ((second == capital_z) && true) front in
     let two = and_parts (second == capital_z) true one.1 in
     none 0 (eqb-true first underscore one.0) (eqb-true second capital_z two.0)
@@ -180,67 +181,107 @@ after_underscore word [] front none goes_on = absurd (false≢true front)
 after_underscore word (byte ∷ bytes) front none goes_on =
     goes_on bytes ((and_parts (byte == underscore) (begins word bytes) front).1) (λ k. none (suc k))
 
--- which test was passed
-passed : (a b c : Bool) (first second symbol : List ℕ) → (if a || b then Some first else (if c then Some second else None)) ≡ Some symbol
-    → (a ≡ true) ⊎ ((b ≡ true) ⊎ (c ≡ true))
-passed true b c first second symbol is = inl refl
-passed false true c first second symbol is = inr (inl refl)
-passed false false true first second symbol is = inr (inr refl)
-passed false false false first second symbol is = absurd (cc)
-
-symbol_has_prefix : (strip : Bool) (bytes symbol : List ℕ) → symbol_at strip bytes ≡ Some symbol → HasPrefixNowhere bytes → ⊥
-symbol_has_prefix strip bytes symbol is none =
-    elim (passed (begins (codes "_Z") bytes) (begins (codes "__Z") bytes) (strip && begins (codes "___Z") bytes) bytes (drop 1 bytes) symbol is) [
-      | inl one ↦ has_prefix bytes one none
-      | inr (inl two) ↦ after_underscore (codes "_Z") bytes two none has_prefix
-      | inr (inr three) ↦
-          after_underscore (codes "__Z") bytes ((and_parts strip (begins (codes "___Z") bytes) three).1) none
-          (λ rest front no. after_underscore (codes "_Z") rest front no has_prefix)
+-- a symbol has a prefix
+prefix_somewhere : (bytes : List ℕ) → has_prefix bytes ≡ true → HasPrefixNowhere bytes → ⊥
+prefix_somewhere bytes has none =
+    elim (any_of (begins (codes "_Z") bytes) (begins (codes "__Z") bytes) (begins (codes "___Z") bytes) (begins (codes "____Z") bytes) has) [
+      | inl one ↦ begins_prefix bytes one none
+      | inr (inl two) ↦ after_underscore (codes "_Z") bytes two none begins_prefix
+      | inr (inr (inl three)) ↦
+          after_underscore (codes "__Z") bytes three none (λ rest front no. after_underscore (codes "_Z") rest front no begins_prefix)
+      | inr (inr (inr four)) ↦
+          after_underscore (codes "___Z") bytes four none (λ rest front no.
+          after_underscore (codes "__Z") rest front no (λ rest2 front2 no2. after_underscore (codes "_Z") rest2 front2 no2 begins_prefix))
     ]
+
+stripped_by : (t : Bool) (byte : ℕ) (bytes : List ℕ) → has_prefix (if t then bytes else byte ∷ bytes) ≡ true → HasPrefixNowhere (byte ∷ bytes) → ⊥
+stripped_by true byte bytes has none = prefix_somewhere bytes has (λ k. none (suc k))
+stripped_by false byte bytes has none = prefix_somewhere (byte ∷ bytes) has none
+
+symbol_has_prefix : (strip : Bool) (bytes : List ℕ) → is_symbol strip bytes ≡ true → HasPrefixNowhere bytes → ⊥
+symbol_has_prefix strip [] is none = absurd (omega (arith, symbol_some strip [] is))
+symbol_has_prefix true (byte ∷ bytes) is none = stripped_by ((byte == 95) && true) byte bytes is none
+symbol_has_prefix false (byte ∷ bytes) is none = prefix_somewhere (byte ∷ bytes) is none
 
 -- past the prefix characters
 no_prefix-drop : (n : ℕ) (word : List ℕ) → HasPrefixNowhere word → HasPrefixNowhere (drop n word)
 no_prefix-drop n word none = no_prefix-right (take n word) (drop n word) (subst HasPrefixNowhere (sym (take-append-drop n word)) none)
 
-word_has_prefix : (strip : Bool) (word symbol : List ℕ) → symbol_in strip word ≡ Some symbol → HasPrefixNowhere word → ⊥
-word_has_prefix strip word symbol is none = symbol_has_prefix strip (past_prefix_chars word) symbol is (no_prefix-drop (prefix_chars_len word) word none)
+found_symbol : (all has : Bool) (bytes symbol : List ℕ) → (if all || has then Some bytes else None) ≡ Some symbol → all ≡ false → has ≡ true
+found_symbol true has bytes symbol is one = absurd (false≢true (sym one))
+found_symbol false true bytes symbol is one = refl
+found_symbol false false bytes symbol is one = absurd (cc)
 
--- what is written for a word: the word itself, where no prefix is in it
+word_has_prefix : (strip all : Bool) (word symbol : List ℕ) → symbol_in strip all word ≡ Some symbol → all ≡ false → HasPrefixNowhere word → ⊥
+word_has_prefix strip all word symbol is prefixed none =
+    let bytes = past_prefix_chars strip word in
+    symbol_has_prefix strip bytes (found_symbol all (is_symbol strip bytes) (stripped strip bytes) symbol is prefixed)
+    (no_prefix-drop (prefix_chars_len strip word) word none)
+
+-- what is written for a word: the word itself, where no prefix is in it and no other word is read
 record WordText (options : ReplaceOptions) (word : List ℕ) : Type 0 where
   answer : List ℕ
   is_answer : IsWordAnswer options word answer
-  same : HasPrefixNowhere word → answer ≡ word
+  same : options.all ≡ false → HasPrefixNowhere word → answer ≡ word
 
-symbol_text : (options : ReplaceOptions) (word symbol : List ℕ) → symbol_in options.strip word ≡ Some symbol → (found : Option (List ℕ)) → options.printing symbol found → WordText options word
-symbol_text options word symbol is None none = record { answer = word; is_answer = unanswered is none; same = λ _. refl }
+symbol_text : (options : ReplaceOptions) (word symbol : List ℕ) → symbol_in options.strip options.all word ≡ Some symbol → (found : Option (List ℕ)) → options.printing symbol found → WordText options word
+symbol_text options word symbol is None none = record { answer = word; is_answer = unanswered is none; same = λ _ _. refl }
 symbol_text options word symbol is (Some text) has =
-    record { answer = prefix_chars word ++ text; is_answer = answered is has; same = λ none. absurd (word_has_prefix options.strip word symbol is none) }
+    record {
+      answer = prefix_chars options.strip word ++ text;
+      is_answer = answered is has;
+      same = λ prefixed none. absurd (word_has_prefix options.strip options.all word symbol is prefixed none);
+    }
 
-word_text : (options : ReplaceOptions) (laws : AnswersEach options.printing) (word : List ℕ) (found : Option (List ℕ)) → symbol_in options.strip word ≡ found → WordText options word
-word_text options laws word None is = record { answer = word; is_answer = no_symbol is; same = λ _. refl }
+word_text : (options : ReplaceOptions) (laws : AnswersEach options.printing) (word : List ℕ) (found : Option (List ℕ)) → symbol_in options.strip options.all word ≡ found → WordText options word
+word_text options laws word None is = record { answer = word; is_answer = no_symbol is; same = λ _ _. refl }
 word_text options laws word (Some symbol) is = let found = laws.each symbol in symbol_text options word symbol is found.0 found.1
 
--- bytes have a replaced text: they themselves, where no prefix is in them
+-- parts of bytes in which nothing is read
+word_byte_at : (byte : ℕ) → byte ≡ 0 → is_word_byte byte ≡ true → ⊥
+word_byte_at byte is word = false≢true (sym (ap is_word_byte is) ∙ word)
+
+pub nothing-right : (all : Bool) (front bytes : List ℕ) → HasNothingToRead all (front ++ bytes) → HasNothingToRead all bytes
+nothing-right all [] bytes none = none
+nothing-right true (byte ∷ front) bytes none = nothing-right true front bytes (λ k. none (suc k))
+nothing-right false (byte ∷ front) bytes none = nothing-right false front bytes (λ k. none (suc k))
+
+pub nothing-left : (all : Bool) (bytes rest : List ℕ) → HasNothingToRead all (bytes ++ rest) → HasNothingToRead all bytes
+nothing-left true bytes rest none = λ k word.
+    elim (cases_lt k (length bytes)) [
+      | inl low ↦ none k (ap is_word_byte (get_or_append_left bytes rest 0 k low) ∙ word)
+      | inr high ↦ word_byte_at (get_or bytes k 0) (get_or_past bytes k 0 high) word
+    ]
+nothing-left false bytes rest none = no_prefix-left bytes rest none
+
+-- bytes have a replaced text: they themselves, where nothing in them is read
 record BytesText (options : ReplaceOptions) (bytes : List ℕ) : Type 0 where
   text : List ℕ
   replaced : IsReplaced options bytes text
-  same : HasPrefixNowhere bytes → text ≡ bytes
+  same : HasNothingToRead options.all bytes → text ≡ bytes
 
 -- a word, and what follows it
+same_after : (options : ReplaceOptions) (word bytes : List ℕ) (split : Split word) (found : WordText options split.stem) (rest : BytesText options bytes) → word ≢ [] → All IsWordByte word
+    → (all : Bool) → options.all ≡ all → HasNothingToRead all (word ++ bytes) → (found.answer ++ split.dots) ++ rest.text ≡ word ++ bytes
+same_after options [] bytes split found rest some words true is none = absurd (some refl)
+same_after options (byte ∷ word) bytes split found rest some words true is none = absurd (none 0 (All-head IsWordByte byte word words))
+same_after options word bytes split found rest some words false is none =
+    let in_word : HasPrefixNowhere (split.stem ++ split.dots) = subst HasPrefixNowhere split.word_is (no_prefix-left word bytes none) in
+    ap (λ l. (l ++ split.dots) ++ rest.text) (found.same is (no_prefix-left split.stem split.dots in_word))
+    ∙ ap (λ l. l ++ rest.text) (sym split.word_is)
+    ∙ ap (λ l. word ++ l) (rest.same (subst (λ a. HasNothingToRead a bytes) (sym is) (no_prefix-right word bytes none)))
+
 after_word : (options : ReplaceOptions) (laws : AnswersEach options.printing) (word bytes : List ℕ) → word ≢ [] → All IsWordByte word → begins_word bytes ≡ false → BytesText options bytes → BytesText options (word ++ bytes)
 after_word options laws word bytes some all next rest =
     let split = split_of word in
-    let found = word_text options laws split.stem (symbol_in options.strip split.stem) refl in
+    let found = word_text options laws split.stem (symbol_in options.strip options.all split.stem) refl in
     let text : List ℕ = (found.answer ++ split.dots) ++ rest.text in
     let back : split.stem ++ split.dots ≡ word = sym split.word_is in
     record {
       text = text;
       replaced = subst (λ l. IsReplaced options (l ++ bytes) text) back
           (one_word split.dots (λ e. some (split.word_is ∙ e)) (All-same IsWordByte (split.stem ++ split.dots) word back all) split.dotted split.undotted found.is_answer next rest.replaced);
-      same = λ none.
-          let in_word : HasPrefixNowhere (split.stem ++ split.dots) = subst HasPrefixNowhere split.word_is (no_prefix-left word bytes none) in
-          ap (λ l. (l ++ split.dots) ++ rest.text) (found.same (no_prefix-left split.stem split.dots in_word))
-          ∙ ap (λ l. l ++ rest.text) back ∙ ap (λ l. word ++ l) (rest.same (no_prefix-right word bytes none));
+      same = same_after options word bytes split found rest some all options.all refl;
     }
 
 -- there may be no byte of the word yet
@@ -259,7 +300,7 @@ at_byte options laws word bytes byte all true is longer rest =
     subst (BytesText options) (append_assoc word (byte ∷ []) bytes) (longer (All-push IsWordByte word byte all is))
 at_byte options laws word bytes byte all false is longer rest =
     after_front options laws word (byte ∷ bytes) all is
-    (record { text = byte ∷ rest.text; replaced = other is rest.replaced; same = λ none. ap (λ l. byte ∷ l) (rest.same (no_prefix-right (byte ∷ []) bytes none)) })
+    (record { text = byte ∷ rest.text; replaced = other is rest.replaced; same = λ none. ap (λ l. byte ∷ l) (rest.same (nothing-right options.all (byte ∷ []) bytes none)) })
 
 from_word : (options : ReplaceOptions) (laws : AnswersEach options.printing) (word bytes : List ℕ) → All IsWordByte word → BytesText options (word ++ bytes)
 from_word options laws word [] all = after_front options laws word [] all refl (none_text options)
@@ -271,8 +312,8 @@ from_word options laws word (byte ∷ bytes) all =
 pub replaced_of : (options : ReplaceOptions) (laws : AnswersEach options.printing) (bytes : List ℕ) → (text : List ℕ) × IsReplaced options bytes text
 replaced_of options laws bytes = let found = from_word options laws [] bytes (All-nil IsWordByte) in (found.text, found.replaced)
 
--- bytes without a prefix stay
-pub unprefixed : (options : ReplaceOptions) (laws : AnswersEach options.printing) (bytes : List ℕ) → HasPrefixNowhere bytes → IsReplaced options bytes bytes
-unprefixed options laws bytes none =
+-- bytes stay in which nothing is read
+pub unread : (options : ReplaceOptions) (laws : AnswersEach options.printing) (bytes : List ℕ) → HasNothingToRead options.all bytes → IsReplaced options bytes bytes
+unread options laws bytes none =
     let found = from_word options laws [] bytes (All-nil IsWordByte) in
     subst (IsReplaced options bytes) (found.same none) found.replaced

@@ -4,15 +4,15 @@ use Rattle.std.proofs.Common.{◌==◌, Some, None, Result, Ok, Err, OnOk, ◌�
 use Rattle.std.proofs.Common.{length, take, drop, get_or, refl, sym, ap, subst, ◌∙◌, arith, append_assoc, append-nil}
 use Rattle.std.proofs.lemmas.List.{length-drop, length-take-le, get_or-take, get_or-drop, get_or_past, take-append-drop, take-take, take_all, take_rest, drop-take, drop-drop}
 use Rattle.std.proofs.Math.Seq.{take-add, drop-cons}
-use Rattle.std.proofs.lemmas.List.Elements.{All-cons, All-get_or, All-from_get_or, All-drop, All-same}
+use Rattle.std.proofs.lemmas.List.Elements.{All-cons, All-tail, All-get_or, All-from_get_or, All-drop, All-same}
 use Rattle.std.proofs.lemmas.Bool.{false≢true, and_parts, or_cases, eqb-true, leb-true, cases_lt, cases_Bool}
 use Rattle.std.proofs.lemmas.Str.{IsUtf8-from_ascii}
 use Rattle.std.specs.Prelude.{All, IsUtf8}
 use Rattle.abi_scalars.specs.Bytes.{is, is_between, is_digit, one_of, begins}
 use Rattle.text_filter.specs.Printed.{ReplaceOptions, AnswersEach}
-use Rattle.text_filter.specs.Replaced.{is_word_byte, IsWordByte, IsDot, ends_in_dot, prefix_chars_len, past_prefix_chars, symbol_in, IsWordAnswer, IsReplaced, no_byte, one_word}
-use Rattle.text_filter.specs.Progress.{underscore, capital_z, HasNone, IsFirst, HasPrefixNowhere, IsFirstPrefix, AreWordBytes, IsBoundary, Extends, AppendsReplaced}
-use Rattle.text_filter.proofs.ReplacedText.{no_prefix-left, more_replaced, unprefixed}
+use Rattle.text_filter.specs.Replaced.{is_word_byte, IsWordByte, IsDot, ends_in_dot, has_prefix, stripped, prefix_chars_len, past_prefix_chars, symbol_in, IsWordAnswer, IsReplaced, no_byte, one_word}
+use Rattle.text_filter.specs.Progress.{underscore, capital_z, HasNone, IsFirst, HasPrefixNowhere, IsFirstPrefix, HasNoWord, HasNothingToRead, IsFirstToRead, AreWordBytes, IsBoundary, Extends, AppendsReplaced}
+use Rattle.text_filter.proofs.ReplacedText.{nothing-left, more_replaced, unread}
 
 -- no prefix ends before the place
 abbrev pub NoneUpTo : List ℕ → ℕ → Type 0
@@ -85,27 +85,61 @@ none_left bytes at none rest k one two =
           ]
     ]
 
--- a front of bytes without a prefix
-pub no_prefix-front : (bytes : List ℕ) (n : ℕ) → HasPrefixNowhere bytes → HasPrefixNowhere (take n bytes)
-no_prefix-front bytes n none = no_prefix-left (take n bytes) (drop n bytes) (subst HasPrefixNowhere (sym (take-append-drop n bytes)) none)
+-- a front of bytes in which nothing is read
+pub nothing-front : (all : Bool) (bytes : List ℕ) (n : ℕ) → HasNothingToRead all bytes → HasNothingToRead all (take n bytes)
+nothing-front all bytes n none = nothing-left all (take n bytes) (drop n bytes) (subst (HasNothingToRead all) (sym (take-append-drop n bytes)) none)
 
-pub no_prefix-shorter : (bytes : List ℕ) (n m : ℕ) → n ≤ m → HasPrefixNowhere (take m bytes) → HasPrefixNowhere (take n bytes)
-no_prefix-shorter bytes n m small none = subst HasPrefixNowhere (take-take n m bytes small) (no_prefix-front (take m bytes) n none)
+pub nothing-shorter : (all : Bool) (bytes : List ℕ) (n m : ℕ) → n ≤ m → HasNothingToRead all (take m bytes) → HasNothingToRead all (take n bytes)
+nothing-shorter all bytes n m small none = subst (HasNothingToRead all) (take-take n m bytes small) (nothing-front all (take m bytes) n none)
 
 -- in what is left, as a slice has it
-pub no_prefix-rest : (bytes : List ℕ) (done more : ℕ) → HasPrefixNowhere (take more (take (length bytes - done) (drop done bytes))) → HasPrefixNowhere (take more (drop done bytes))
-no_prefix-rest bytes done more none = subst (λ l. HasPrefixNowhere (take more l)) (take_rest bytes done) none
+pub nothing-rest : (all : Bool) (bytes : List ℕ) (done more : ℕ) → HasNothingToRead all (take more (take (length bytes - done) (drop done bytes))) → HasNothingToRead all (take more (drop done bytes))
+nothing-rest all bytes done more none = subst (λ l. HasNothingToRead all (take more l)) (take_rest bytes done) none
 
--- a word has its prefix's underscore at least
-pub some_word : (bytes : List ℕ) (from more end : ℕ) → IsFirstPrefix (take (length bytes - from) (drop from bytes)) more → from + more ≤ end
+-- in a byte that is in no word
+nothing_one : (all : Bool) (bytes : List ℕ) (n : ℕ) → n ≤ 1 → n ≤ length bytes → is_word_byte (get_or bytes 0 0) ≡ false → HasNothingToRead all (take n bytes)
+nothing_one false bytes n small inside ended = no_prefix-take bytes n inside (λ j low _ _. absurd (omega (arith, low, small)))
+nothing_one true bytes n small inside ended = λ k word.
+    let long : length (take n bytes) ≡ n = length-take-le n bytes inside in
+    elim (cases_lt k n) [
+      | inl low ↦
+          let first : k ≡ 0 = omega (arith, low, small) in
+          false≢true (sym ended ∙ ap is_word_byte (sym (get_or-take n bytes k 0 low ∙ ap (λ j. get_or bytes j 0) first)) ∙ word)
+      | inr high ↦ false≢true (sym (ap is_word_byte (get_or_past (take n bytes) k 0 (omega (arith, high, long)))) ∙ word)
+    ]
+
+-- the bytes that were searched are in no word
+pub no_word_before : (bytes : List ℕ) (at : ℕ) → at ≤ length bytes → ((k : ℕ) → k < at → is_word_byte (get_or bytes k 0) ≡ true → ⊥) → HasNoWord (take at bytes)
+no_word_before bytes at inside none k word =
+    let long : length (take at bytes) ≡ at = length-take-le at bytes inside in
+    elim (cases_lt k at) [
+      | inl low ↦ none k low (ap is_word_byte (sym (get_or-take at bytes k 0 low)) ∙ word)
+      | inr high ↦ false≢true (sym (ap is_word_byte (get_or_past (take at bytes) k 0 (omega (arith, high, long)))) ∙ word)
+    ]
+
+pub no_word_left : (bytes : List ℕ) (at : ℕ) → length bytes ≤ at → ((k : ℕ) → k < at → is_word_byte (get_or bytes k 0) ≡ true → ⊥) → HasNoWord bytes
+no_word_left bytes at past none k word =
+    elim (cases_lt k at) [
+      | inl low ↦ none k low word
+      | inr high ↦ false≢true (sym (ap is_word_byte (get_or_past bytes k 0 (omega (arith, high, past)))) ∙ word)
+    ]
+
+-- the first word that is read, by its prefix
+pub first_by_prefix : (bytes : List ℕ) (place : ℕ) → IsFirstPrefix bytes place → IsFirstToRead false bytes place
+first_by_prefix bytes place first =
+    record { inside = first.inside; word = ap is_word_byte first.underscore; before = first.before }
+
+-- a word that is read has a byte
+pub some_word : (all : Bool) (bytes : List ℕ) (from more end : ℕ) → IsFirstToRead all (take (length bytes - from) (drop from bytes)) more → from + more ≤ end
     → is_word_byte (get_or bytes end 0) ≡ false → from + more < end
-some_word bytes from more end prefix low ended =
+some_word all bytes from more end first low ended =
     elim (cases_lt (from + more) end) [
       | inl below ↦ below
       | inr above ↦
-          let there : get_or bytes (from + more) 0 ≡ underscore = sym (ap (λ l. get_or l more 0) (take_rest bytes from) ∙ get_or-drop from bytes more 0) ∙ prefix.underscore in
+          let there : is_word_byte (get_or bytes (from + more) 0) ≡ true =
+          ap is_word_byte (sym (ap (λ l. get_or l more 0) (take_rest bytes from) ∙ get_or-drop from bytes more 0)) ∙ first.word in
           let same : end ≡ from + more = omega (arith, above, low) in
-          absurd (false≢true (sym ended ∙ ap is_word_byte (ap (λ n. get_or bytes n 0) same ∙ there)))
+          absurd (false≢true (sym ended ∙ ap (λ n. is_word_byte (get_or bytes n 0)) same ∙ there))
     ]
 
 -- a byte of words is ASCII
@@ -177,21 +211,25 @@ word_slice bytes low high ordered inside word =
     (word (low + k) (omega arith) (omega (arith, small))))
 
 -- the symbol is among the bytes
-which : (a b c : Bool) (first second symbol : List ℕ) → (if a || b then Some first else (if c then Some second else None)) ≡ Some symbol
-    → (symbol ≡ first) ⊎ (symbol ≡ second)
-which true b c first second symbol is = inl (cc)
-which false true c first second symbol is = inl (cc)
-which false false true first second symbol is = inr (cc)
-which false false false first second symbol is = absurd (cc)
+stripped_words : (t : Bool) (byte : ℕ) (bytes : List ℕ) → All IsWordByte (byte ∷ bytes) → All IsWordByte (if t then bytes else byte ∷ bytes)
+stripped_words true byte bytes all = All-tail IsWordByte byte bytes all
+stripped_words false byte bytes all = all
 
-pub symbol_words : (strip : Bool) (word symbol : List ℕ) → symbol_in strip word ≡ Some symbol → All IsWordByte word → All IsWordByte symbol
-symbol_words strip word symbol is all =
-    let bytes = past_prefix_chars word in
-    let rest : All IsWordByte bytes = All-drop IsWordByte (prefix_chars_len word) word all in
-    elim (which (begins (codes "_Z") bytes) (begins (codes "__Z") bytes) (strip && begins (codes "___Z") bytes) bytes (drop 1 bytes) symbol is) [
-      | inl whole ↦ All-same IsWordByte symbol bytes whole rest
-      | inr less ↦ All-same IsWordByte symbol (drop 1 bytes) less (All-drop IsWordByte 1 bytes rest)
-    ]
+words_stripped : (strip : Bool) (bytes : List ℕ) → All IsWordByte bytes → All IsWordByte (stripped strip bytes)
+words_stripped true [] all = all
+words_stripped true (byte ∷ bytes) all = stripped_words ((byte == 95) && true) byte bytes all
+words_stripped false bytes all = all
+
+found_is : (b : Bool) (bytes symbol : List ℕ) → (if b then Some bytes else None) ≡ Some symbol → symbol ≡ bytes
+found_is true bytes symbol is = cc
+found_is false bytes symbol is = absurd (cc)
+
+pub symbol_words : (strip all : Bool) (word symbol : List ℕ) → symbol_in strip all word ≡ Some symbol → All IsWordByte word → All IsWordByte symbol
+symbol_words strip all word symbol is words =
+    let bytes = past_prefix_chars strip word in
+    let rest : All IsWordByte bytes = All-drop IsWordByte (prefix_chars_len strip word) word words in
+    All-same IsWordByte symbol (stripped strip bytes) (found_is (all || has_prefix (stripped strip bytes)) (stripped strip bytes) symbol is)
+    (words_stripped strip bytes rest)
 
 -- a word, and what is written for it
 pub word_replaced : (options : ReplaceOptions) (word answer : List ℕ) (stem : ℕ) → 0 < length word → All IsWordByte word → All IsDot (drop stem word)
@@ -209,14 +247,14 @@ pub word_stays : (options : ReplaceOptions) (word : List ℕ) (stem : ℕ) → 0
 word_stays options word stem some all dotted undotted is_answer =
     subst (IsReplaced options word) (take-append-drop stem word) (word_replaced options word (take stem word) stem some all dotted undotted is_answer)
 
--- after bytes without a prefix a word was replaced too
+-- after bytes in which nothing is read a word was replaced too
 pub turn_replaced : (options : ReplaceOptions) (laws : AnswersEach options.printing) (text old before mid after : List ℕ) (done more start end : ℕ) → end ≤ length text → done ≤ start → start ≤ done + more → start ≤ end
-    → IsBoundary text done → IsBoundary text start → AppendsReplaced options (take done text) old before → HasPrefixNowhere (take more (drop done text))
+    → IsBoundary text done → IsBoundary text start → AppendsReplaced options (take done text) old before → HasNothingToRead options.all (take more (drop done text))
     → mid ≡ before ++ take (start - done) (drop done text) → AppendsReplaced options (take (end - start) (drop start text)) mid after
     → AppendsReplaced options (take end text) old after
 turn_replaced options laws text old before mid after done more start end inside low high ordered first second (written, replaced, before_is) none mid_is (answer, is_answer, after_is) =
     let front : List ℕ = take (start - done) (drop done text) in
-    let stays : IsReplaced options front front = unprefixed options laws front (no_prefix-shorter (drop done text) (start - done) more (omega (arith, high)) none) in
+    let stays : IsReplaced options front front = unread options laws front (nothing-shorter options.all (drop done text) (start - done) more (omega (arith, high)) none) in
     let up_to : IsReplaced options (take (done + (start - done)) text) (written ++ front) =
     more_replaced options text written front done (start - done) (omega (arith, inside, low, ordered)) first replaced stays in
     let to_start : IsReplaced options (take start text) (written ++ front) = subst (λ n. IsReplaced options (take n text) (written ++ front)) (omega (arith, low)) up_to in
@@ -247,7 +285,7 @@ more_parts output text low mid high first second =
 -- one more word stays, and is yet to be appended
 pub stays_replaced : (options : ReplaceOptions) (laws : AnswersEach options.printing) (text old output : List ℕ) (done from more start end : ℕ) → done ≤ from → from ≤ start → start ≤ from + more → start ≤ end
     → end ≤ length text → IsBoundary text from → IsBoundary text start → AppendsReplaced options (take from text) old (output ++ part text done from)
-    → HasPrefixNowhere (take more (drop from text)) → IsReplaced options (part text start end) (part text start end)
+    → HasNothingToRead options.all (take more (drop from text)) → IsReplaced options (part text start end) (part text start end)
     → AppendsReplaced options (take end text) old (output ++ part text done end)
 stays_replaced options laws text old output done from more start end kept low high ordered inside first second so_far none replaced =
     turn_replaced options laws text old (output ++ part text done from) (output ++ part text done start) (output ++ part text done end) from more start end
@@ -277,7 +315,7 @@ answer_placed output text answer done start chars stem end first second third =
 -- one more word is answered
 pub answer_replaced : (options : ReplaceOptions) (laws : AnswersEach options.printing) (text old output answer after : List ℕ) (done from more start chars stem end : ℕ) → done ≤ from → from ≤ start → start ≤ from + more
     → start < end → end ≤ length text → IsBoundary text from → IsBoundary text start → AppendsReplaced options (take from text) old (output ++ part text done from)
-    → HasPrefixNowhere (take more (drop from text)) → All IsWordByte (part text start end) → All IsDot (drop stem (part text start end))
+    → HasNothingToRead options.all (take more (drop from text)) → All IsWordByte (part text start end) → All IsDot (drop stem (part text start end))
     → ends_in_dot (take stem (part text start end)) ≡ false → chars ≤ stem → start + stem ≤ end
     → IsWordAnswer options (take stem (part text start end)) (take chars (take stem (part text start end)) ++ answer)
     → after ≡ output ++ (part text done (start + chars) ++ answer)
@@ -300,10 +338,11 @@ pub end_past : (options : ReplaceOptions) (laws : AnswersEach options.printing) 
     → AppendsReplaced options (take past text) old (output ++ part text done past)
 end_past options laws text old output done end past kept inside past_is ended (written, replaced, output_is) =
     let rest : List ℕ = part text end past in
-    let none : HasPrefixNowhere rest =
-    no_prefix-take (drop end text) (past - end) (omega (arith, past_is, inside, length-drop end text)) (λ k low _ _. absurd (omega (arith, low, past_is))) in
+    let byte : is_word_byte (get_or (drop end text) 0 0) ≡ false = ap is_word_byte (get_or-drop end text 0 0) ∙ subst (λ k. is_word_byte (get_or text k 0) ≡ false) (omega arith) ended in
+    let none : HasNothingToRead options.all rest =
+    nothing_one options.all (drop end text) (past - end) (omega (arith, past_is)) (omega (arith, past_is, inside, length-drop end text)) byte in
     let up_to : IsReplaced options (take (end + (past - end)) text) (written ++ rest) =
-    more_replaced options text written rest end (past - end) inside (λ _ _. ended) replaced (unprefixed options laws rest none) in (
+    more_replaced options text written rest end (past - end) inside (λ _ _. ended) replaced (unread options laws rest none) in (
       written ++ rest,
       subst (λ n. IsReplaced options (take n text) (written ++ rest)) (omega (arith, past_is, inside)) up_to,
       more_parts output text done end past kept (omega (arith, past_is, inside)) ∙ ap (λ l. l ++ rest) output_is ∙ append_assoc old written rest,
@@ -318,15 +357,15 @@ boundary_past text end past inside past_is ended some word =
       | inr high ↦ subst (λ k. is_word_byte (get_or text k 0) ≡ false) (omega (arith, high, inside, past_is)) ended
     ]
 
--- no prefix is left
+-- nothing more is read
 rest_replaced : (options : ReplaceOptions) (laws : AnswersEach options.printing) (text old before after : List ℕ) (done : ℕ) → done ≤ length text → IsBoundary text done
-    → AppendsReplaced options (take done text) old before → HasPrefixNowhere (take (length text - done) (drop done text))
+    → AppendsReplaced options (take done text) old before → HasNothingToRead options.all (take (length text - done) (drop done text))
     → after ≡ before ++ take (length text - done) (drop done text) → AppendsReplaced options text old after
 rest_replaced options laws text old before after done inside boundary (written, replaced, before_is) none after_is =
     let rest : List ℕ = take (length text - done) (drop done text) in
     let all : take (done + (length text - done)) text ≡ text = take_all (done + (length text - done)) text (omega (arith, inside)) in (
       written ++ rest,
-      subst (λ l. IsReplaced options l (written ++ rest)) all (more_replaced options text written rest done (length text - done) inside boundary replaced (unprefixed options laws rest none)),
+      subst (λ l. IsReplaced options l (written ++ rest)) all (more_replaced options text written rest done (length text - done) inside boundary replaced (unread options laws rest none)),
       after_is ∙ ap (λ l. l ++ rest) before_is ∙ append_assoc old written rest,
     )
 
@@ -334,7 +373,7 @@ pub extended : (old output more after : List ℕ) → Extends old output → aft
 extended old output more after (front, output_is) after_is = (front ++ more, after_is ∙ ap (λ l. l ++ more) output_is ∙ append_assoc old front more)
 
 pub rest_appended : {T E : Type 0} (r : Result T E) (options : ReplaceOptions) (laws : AnswersEach options.printing) (text old output after : List ℕ) (done from : ℕ) → done ≤ from → from ≤ length text → IsBoundary text from
-    → AppendsReplaced options (take from text) old (output ++ part text done from) → HasPrefixNowhere (part text from (length text))
+    → AppendsReplaced options (take from text) old (output ++ part text done from) → HasNothingToRead options.all (part text from (length text))
     → OnOk r (after ≡ output ++ part text done (length text)) → OnOk r (AppendsReplaced options text old after)
 rest_appended (Ok _) options laws text old output after done from kept inside boundary so_far none after_is =
     rest_replaced options laws text old (output ++ part text done from) after from inside boundary so_far none (after_is ∙ more_parts output text done from (length text) kept inside)

@@ -108,18 +108,18 @@ whole_leads options words text whole replaced =
     }
 
 -- a word whose front shows no symbol stays
-word_kept : (options : ReplaceOptions) (front rest bytes text : List ℕ) → All IsWordByte front → may_hold_symbol options.strip front ≡ false → All IsWordByte rest
+word_kept : (options : ReplaceOptions) (front rest bytes text : List ℕ) → All IsWordByte front → may_hold_symbol options.strip options.all front ≡ false → All IsWordByte rest
     → begins_word bytes ≡ false → IsReplaced options bytes text → IsReplaced options ((front ++ rest) ++ bytes) ((front ++ rest) ++ text)
 word_kept options front rest bytes text all plain more next replaced =
     let word : List ℕ = front ++ rest in
     let split = split_of word in
     let back : split.stem ++ split.dots ≡ word = sym split.word_is in
-    let some : split.stem ++ split.dots ≢ [] = λ e. absurd (omega (arith, plain_some options.strip front plain, ap length ((none_before front rest (split.word_is ∙ e)).0))) in
+    let some : split.stem ++ split.dots ≢ [] = λ e. absurd (omega (arith, plain_some options.strip options.all front plain, ap length ((none_before front rest (split.word_is ∙ e)).0))) in
     subst (λ l. IsReplaced options (l ++ bytes) (l ++ text)) back
     (one_word split.dots some (All-same IsWordByte (split.stem ++ split.dots) word back (All-append IsWordByte front rest all more)) split.dotted split.undotted
-    (no_symbol (stem_plain options.strip front rest split.stem split.dots plain split.word_is)) next replaced)
+    (no_symbol (stem_plain options.strip options.all front rest split.stem split.dots plain split.word_is)) next replaced)
 
-plain_leads : (options : ReplaceOptions) (word : List ℕ) → All IsWordByte word → may_hold_symbol options.strip word ≡ false → ContinuesTo options false word word true
+plain_leads : (options : ReplaceOptions) (word : List ℕ) → All IsWordByte word → may_hold_symbol options.strip options.all word ≡ false → ContinuesTo options false word word true
 plain_leads options word all plain =
     record {
       goes = λ rest more goes.
@@ -224,7 +224,7 @@ front_replaced options mid_word after bytes front left n t t' so_far front_is =
     (given_more options mid_word after front left (drop n bytes) t t' so_far)
 
 -- a word was passed on
-pub word_passed : (options : ReplaceOptions) (word : List ℕ) (t t' : Option (List ℕ)) → All IsWordByte word → may_hold_symbol options.strip word ≡ false → Appends t t' word
+pub word_passed : (options : ReplaceOptions) (word : List ℕ) (t t' : Option (List ℕ)) → All IsWordByte word → may_hold_symbol options.strip options.all word ≡ false → Appends t t' word
     → ReplacesUpTo options false word [] true t t'
 word_passed options word t t' all plain writes =
     record { done = word; text = word; given_is = sym (append-nil word); leads = plain_leads options word all plain; written = writes }
@@ -257,7 +257,7 @@ stay_front options laws mid_word after bytes front n t t' leads front_is (left, 
       writes.written,
     )
 
-pub word_front : (options : ReplaceOptions) (laws : AnswersEach options.printing) (word : List ℕ) (t t' : Option (List ℕ)) → All IsWordByte word → may_hold_symbol options.strip word ≡ false → WritesFrontOfBytes word t t'
+pub word_front : (options : ReplaceOptions) (laws : AnswersEach options.printing) (word : List ℕ) (t t' : Option (List ℕ)) → All IsWordByte word → may_hold_symbol options.strip options.all word ≡ false → WritesFrontOfBytes word t t'
     → ReplacesBeginningOfAny options false word t t'
 word_front options laws word t t' all plain writes rest =
     let front = writes.1 in
@@ -291,8 +291,8 @@ words_front options bytes words n t t' begins words_are rest =
     subst (λ l. ReplacesBeginning options false l t t') whole (begins (drop n bytes ++ rest))
 
 -- nothing is held back
-pub no_word_kept : (options : ReplaceOptions) (word : List ℕ) → word ≡ [] → IsKept options.strip word
-no_word_kept options word word_is = subst (IsKept options.strip) (sym word_is) (record { word = All-nil IsWordByte; may_hold = refl })
+pub no_word_kept : (options : ReplaceOptions) (word : List ℕ) → word ≡ [] → IsKept options word
+no_word_kept options word word_is = subst (IsKept options) (sym word_is) (record { word = All-nil IsWordByte; may_hold = refl })
 
 -- whole words were written of what was read
 pub whole_words : (options : ReplaceOptions) (read left : List ℕ) (s s' t t' : Option (List ℕ)) → Consumes s s' read → ReplacesUpTo options false read left false t t'
@@ -325,7 +325,7 @@ held_begins false done word ended none ends = absurd (false≢true (sym (ended r
 
 -- the source gave these bytes, and all were written but those held back
 pub all_but_kept : (options : ReplaceOptions) (mid_word : Bool) (read word : List ℕ) (s s' t t' : Option (List ℕ)) → Consumes s s' read → ReplacesUpTo options false read word mid_word t t'
-    → (mid_word ≡ true → word ≡ []) → IsKept options.strip word → ReplacesAllButKept options s s' t t'
+    → (mid_word ≡ true → word ≡ []) → IsKept options word → ReplacesAllButKept options s s' t t'
 all_but_kept options mid_word read word s s' t t' consumed replaced none kept =
     record {
       given = replaced.done;

@@ -121,7 +121,7 @@ pub record ReplacesAllButKept (options : ReplaceOptions)
   pub given : List ℕ
   pub kept : List ℕ
   pub consumed : Consumes before after (given ++ kept)
-  pub is_kept : IsKept options.strip kept
+  pub is_kept : IsKept options kept
   -- what is held back begins a word
   pub begins : ends_word given ≡ true → kept ≡ []
   pub text : List ℕ

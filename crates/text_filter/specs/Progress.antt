@@ -37,6 +37,21 @@ pub record IsFirstPrefix (bytes : List ℕ) (place : ℕ) : Type 0 where
   pub capital_z : slice_index bytes (suc place) ≡ capital_z
   pub before : HasPrefixNowhere (take place bytes)
 
+-- no byte is one of words
+abbrev pub HasNoWord : List ℕ → Type 0
+HasNoWord bytes = (k : ℕ) → is_word_byte (slice_index bytes k) ≡ true → ⊥
+
+-- The bytes have no word that is read: where all are, no word at all, and else no `_Z`.
+abbrev pub HasNothingToRead : Bool → List ℕ → Type 0
+HasNothingToRead true bytes = HasNoWord bytes
+HasNothingToRead false bytes = HasPrefixNowhere bytes
+
+-- The first word that is read has a byte there, and no word before it is read.
+pub record IsFirstToRead (all : Bool) (bytes : List ℕ) (place : ℕ) : Type 0 where
+  pub inside : place < length bytes
+  pub word : is_word_byte (slice_index bytes place) ≡ true
+  pub before : HasNothingToRead all (take place bytes)
+
 -- from one place up to another all are bytes of words
 abbrev pub AreWordBytes : List ℕ → ℕ → ℕ → Type 0
 AreWordBytes bytes low high = (k : ℕ) → low ≤ k → k < high → is_word_byte (slice_index bytes k) ≡ true
@@ -154,7 +169,7 @@ ReplacesBeginningOfAny options mid_word given before after =
 -- symbol, or there are none.
 abbrev pub AreKept : Placement → List ℕ → Type 0
 AreKept (Lines printing) bytes = HasNoLineFeed bytes
-AreKept (Words options) bytes = IsKept options.strip bytes
+AreKept (Words options) bytes = IsKept options bytes
 
 -- The given bytes end in `left`, and the filtered text of those in front of `left` was written. In lines these are
 -- whole lines, and `mid_word` and `goes_on` say nothing. In words `mid_word` and `goes_on` are those of `ReplacesUpTo`.

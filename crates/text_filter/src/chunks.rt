@@ -36,14 +36,14 @@ pub(crate) fn filter_chunks<S: SymbolReader, R: Source, W: Sink>(
     ensures sink_in_time { W.called_late sink.new ≡ W.called_late sink.old }
     ensures used_up { OnOk result (IfSome (R.remaining source.old) (λ _. R.remaining source.new ≡ Some [])) }
     ensures ok { OnOk result (IfSome (R.remaining source.old) (λ given.
-        WritesFiltered (placed S.prints placement) given (W.taken sink.old) (W.taken sink.new))) }
-    ensures all { OnOk result (FiltersAll (placed S.prints placement)
+        WritesFiltered (placed S.all S.prints placement) given (W.taken sink.old) (W.taken sink.new))) }
+    ensures all { OnOk result (FiltersAll (placed S.all S.prints placement)
         (R.remaining source.old) (R.remaining source.new) (W.taken sink.old) (W.taken sink.new)) }
-    ensures err { OnErr result (FiltersBeginning (placed S.prints placement)
+    ensures err { OnErr result (FiltersBeginning (placed S.all S.prints placement)
         (R.remaining source.old) (R.remaining source.new) (W.taken sink.old) (W.taken sink.new)) }
-    ensures put { IsErrOf result FilterFault.Read → WritesAllButKept (placed S.prints placement)
+    ensures put { IsErrOf result FilterFault.Read → WritesAllButKept (placed S.all S.prints placement)
         (R.remaining source.old) (R.remaining source.new) (W.taken sink.old) (W.taken sink.new) }
-    ensures memory { IsErrOf result FilterFault.Memory → FiltersWhole (placed S.prints placement)
+    ensures memory { IsErrOf result FilterFault.Memory → FiltersWhole (placed S.all S.prints placement)
         (R.remaining source.old) (R.remaining source.new) (W.taken sink.old) (W.taken sink.new) }
 {
     let mut chunk = vec![in alloc; 0u8; CHUNK_LEN]?;
@@ -115,19 +115,19 @@ fn write_chunk<S: SymbolReader, W: Sink>(
 ) -> Result<(usize, bool), FilterFault>
     requires not_failed { W.failed sink.old ≡ false }
     requires within { kept ≤ length bytes.now }
-    requires kept { AreKept (placed S.prints placement) (take kept bytes.now) }
+    requires kept { AreKept (placed S.all S.prints placement) (take kept bytes.now) }
     requires mid_word_keeps_none { mid_word ≡ true → kept ≡ 0 }
     ensures outcome { IsWriteOutcome result (W.failed sink.new) }
     ensures in_time { W.called_late sink.new ≡ W.called_late sink.old }
     ensures bound { IfOk result (λ written. written.0 ≤ length bytes.now) }
-    ensures kept { IfOk result (λ written. AreKept (placed S.prints placement) (drop written.0 bytes.now)) }
+    ensures kept { IfOk result (λ written. AreKept (placed S.all S.prints placement) (drop written.0 bytes.now)) }
     ensures mid_word_keeps_none { IfOk result (λ written. written.1 ≡ true → drop written.0 bytes.now ≡ []) }
-    ensures ok { IfOk result (λ written. WritesChunkUpTo (placed S.prints placement) mid_word bytes.now
+    ensures ok { IfOk result (λ written. WritesChunkUpTo (placed S.all S.prints placement) mid_word bytes.now
         (drop written.0 bytes.now) written.1 (W.taken sink.old) (W.taken sink.new)) }
-    ensures err { OnErr result (WritesChunkBeginning (placed S.prints placement) mid_word bytes.now
+    ensures err { OnErr result (WritesChunkBeginning (placed S.all S.prints placement) mid_word bytes.now
         (W.taken sink.old) (W.taken sink.new)) }
     ensures memory { IsErrOf result FilterFault.Memory →
-        WritesSomeOfChunk (placed S.prints placement) mid_word bytes.now (W.taken sink.old) (W.taken sink.new) }
+        WritesSomeOfChunk (placed S.all S.prints placement) mid_word bytes.now (W.taken sink.old) (W.taken sink.new) }
 {
     match placement {
         Placement::Lines(_) => {
@@ -152,7 +152,8 @@ fn write_chunk<S: SymbolReader, W: Sink>(
                 sink,
             )?;
             let word = &rest[whole..];
-            if may_hold_symbol(options.strip, word) {
+            let all = S::reads_all(options.printing);
+            if may_hold_symbol(options.strip, all, word) {
                 return Ok((first + whole, false));
             }
             write_all(sink, word)?;
@@ -168,7 +169,7 @@ fn rest_of_word<S: SymbolReader>(mid_word: bool, bytes: &[u8]) -> (usize, bool)
     ensures outside { mid_word ≡ false → result.0 ≡ 0 }
     ensures goes_on { result.1 ≡ true → result.0 ≡ length bytes.now }
     ensures leads { (options : ReplaceOptions S.Printing) →
-        ContinuesTo (worded S.prints options) mid_word (take result.0 bytes.now) (take result.0 bytes.now) result.1 }
+        ContinuesTo (worded S.all S.prints options) mid_word (take result.0 bytes.now) (take result.0 bytes.now) result.1 }
 {
     if !mid_word {
         return (0, false);

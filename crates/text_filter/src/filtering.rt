@@ -9,11 +9,9 @@ use super::streams::{Sink, Source};
 use super::symbols::{Placement, SymbolReader};
 use std::alloc::Global;
 
-/// Reads to the end, and writes for each line what is printed for it as a symbol: its demangled name, its signature or
-/// its declaration. A line is written as it is if it has none, or if it isn't UTF-8. A line that begins with a symbol
-/// is one, unless declarations are printed: with `Printing::Names`, `_Z3foo at main.c` becomes `foo`. A line goes up to
-/// the next line feed or the end of the input. If it has a line feed, that is written too. Before each read, all whole
-/// lines that were read are written.
+/// Reads to the end, and writes for each line what is printed for it as a symbol. A line is written as it is if nothing
+/// is printed for it, or if it isn't UTF-8. A line goes up to the next line feed or the end of the input. If it has a
+/// line feed, that is written too. Before each read, all whole lines that were read are written.
 ///
 /// Returns at the first fault, and calls neither source nor sink after it. The fault is `Read` if the source has
 /// failed, `Write` if the sink has failed, and `Memory` if an allocation has failed. What was written is then a

@@ -32,3 +32,4 @@ pub use replacing::replace;
 pub use streams::{Failed, Sink, Source};
 pub use symbols::{ReplaceOptions, SymbolReader};
 pub use tally::Tally;
+pub use words::{has_prefix, prefix_chars_len, stripped};

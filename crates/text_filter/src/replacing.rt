@@ -9,14 +9,15 @@ use super::streams::{Sink, Source};
 use super::symbols::{Placement, ReplaceOptions, SymbolReader};
 use std::alloc::Global;
 
-/// Reads to the end, and writes the replaced text: each symbol in a word is replaced by its demangled name, its
-/// signature or its declaration. A word is a maximal run of ASCII letters, digits, `_`, `$` and `.`. Its symbol is at
-/// its front, after at most one of `.`, `$` and `__imp_`. These prefix characters and the dots at the word's end stay.
-/// With `strip`, one more underscore may be in front of the symbol, and is dropped.
+/// Reads to the end, and writes the replaced text: each symbol in a word is replaced by what is printed for it. A word
+/// is a maximal run of ASCII letters, digits, `_`, `$` and `.`. Its symbol is at its front, or after `.`, `$`, `__imp_`
+/// or the name of a section, as in `.text._Z1fv`. These prefix characters and the dots at the word's end stay. With
+/// `strip`, one more underscore is in front of the symbol, and is dropped. If the reader reads all texts, each word is
+/// one.
 ///
 /// Before each read, all that was read is written, except a last word that may hold a symbol. In such a word a symbol
-/// follows the prefix characters, or it has fewer than ten bytes. A line may have any length, since only such a word is
-/// kept.
+/// follows the prefix characters, or it begins with a dot, or it has fewer than twelve bytes. A line may have any
+/// length, since only such a word is kept.
 ///
 /// The faults are those of `filter`, and what was written is a beginning of the replaced text. After `Read` that is
 /// the text of all but the word that is kept, and after `Memory` that of some whole words.
@@ -37,18 +38,18 @@ pub fn replace<S: SymbolReader, R: Source, W: Sink>(
     // These clauses hold if the bytes of the source and of the sink are known.
     ensures used_up { OnOk result (IfSome (R.remaining source.old) (λ _. R.remaining source.new ≡ Some [])) }
     ensures ok { OnOk result (IfSome (R.remaining source.old) (λ given.
-        WritesFiltered (Words (worded S.prints options)) given (W.taken sink.old) (W.taken sink.new))) }
+        WritesFiltered (Words (worded S.all S.prints options)) given (W.taken sink.old) (W.taken sink.new))) }
     // Whether or not its bytes are known, the source gave some, and their replaced text was written.
-    ensures all { OnOk result (FiltersAll (Words (worded S.prints options))
+    ensures all { OnOk result (FiltersAll (Words (worded S.all S.prints options))
         (R.remaining source.old) (R.remaining source.new) (W.taken sink.old) (W.taken sink.new)) }
-    ensures err { OnErr result (FiltersBeginning (Words (worded S.prints options))
+    ensures err { OnErr result (FiltersBeginning (Words (worded S.all S.prints options))
         (R.remaining source.old) (R.remaining source.new) (W.taken sink.old) (W.taken sink.new)) }
     // Any call of the source may fail. All that the source gave is written before each call, except a word that may
     // hold a symbol.
-    ensures put { IsErrOf result FilterFault.Read → ReplacesAllButKept (worded S.prints options)
+    ensures put { IsErrOf result FilterFault.Read → ReplacesAllButKept (worded S.all S.prints options)
         (R.remaining source.old) (R.remaining source.new) (W.taken sink.old) (W.taken sink.new) }
     // After a failed allocation whole words have been written, and nothing of the next word.
-    ensures memory { IsErrOf result FilterFault.Memory → FiltersWhole (Words (worded S.prints options))
+    ensures memory { IsErrOf result FilterFault.Memory → FiltersWhole (Words (worded S.all S.prints options))
         (R.remaining source.old) (R.remaining source.new) (W.taken sink.old) (W.taken sink.new) }
 {
     filter_chunks(alloc, symbols, Placement::Words(options), source, sink)

@@ -20,7 +20,7 @@ const BY_LOW_NIBBLE: [u8; 16] = [26, 30, 30, 30, 31, 30, 30, 30, 30, 30, 28, 4, 
 
 /// Returns whether the byte is a word byte: an ASCII letter, a digit, `_`, `$` or `.`.
 #[inline(always)]
-fn is_word_byte(byte: u8) -> bool
+pub(crate) fn is_word_byte(byte: u8) -> bool
     ensures value { result ≡ spec.is_word_byte byte }
 {
     matches!(byte, b'A'..=b'Z' | b'a'..=b'z' | b'0'..=b'9' | b'_' | b'$' | b'.')

@@ -5,7 +5,7 @@ ghost use Rattle.text_filter.specs.Replaced.{IsWordByte, IsDot, ends_in_dot, IsW
 ghost use Rattle.text_filter.specs.Progress.{AppendsReplaced, Extends};
 ghost use Rattle.text_filter.specs.Printed.{worded};
 
-use super::prefixes::first_prefix;
+use super::prefixes::first_to_read;
 use super::symbols::{ReplaceOptions, SymbolReader};
 use super::word_bounds::{word_end, word_start};
 use growing_text::Text;
@@ -30,52 +30,102 @@ fn stem_len(word: &[u8]) -> usize
     len
 }
 
-/// Returns the length in bytes of the prefix characters of a word, which are in front of its symbol: `.`, `$`,
-/// `__imp_` or nothing.
+/// Returns whether the bytes begin with the prefix of a symbol: `_Z` or `__Z`, or that of a block's function, `___Z` or
+/// `____Z`.
 #[inline(always)]
-fn prefix_chars_len(word: &[u8]) -> usize
+pub fn has_prefix(bytes: &[u8]) -> bool
+    ensures value { result ≡ spec.has_prefix bytes.now }
+{
+    matches!(
+        bytes,
+        [b'_', b'Z', ..]
+            | [b'_', b'_', b'Z', ..]
+            | [b'_', b'_', b'_', b'Z', ..]
+            | [b'_', b'_', b'_', b'_', b'Z', ..]
+    )
+}
+
+/// Returns the bytes without their first underscore, if they begin with one and `strip` is true. Otherwise returns the
+/// bytes.
+#[inline(always)]
+pub fn stripped(strip: bool, bytes: &[u8]) -> &[u8]
+    ensures value { result.now ≡ spec.stripped strip bytes.now }
+{
+    match bytes {
+        [b'_', ..] if strip => &bytes[1..],
+        _ => bytes,
+    }
+}
+
+/// Returns whether the bytes begin with a dot that a symbol follows.
+#[inline(always)]
+fn ends_section(strip: bool, bytes: &[u8]) -> bool
+    ensures value { result ≡ spec.ends_section strip bytes.now }
+{
+    match bytes {
+        [b'.', ..] => has_prefix(stripped(strip, &bytes[1..])),
+        _ => false,
+    }
+}
+
+/// Returns how many bytes end in the first dot that a symbol follows, or `None` if there is none.
+fn section_len(strip: bool, word: &[u8]) -> Option<usize>
+    ensures bound { IfSome result (λ len. len ≤ length word.now) }
+    ensures value { result ≡ spec.section_len strip word.now }
+{
+    for at in 0..word.len() {
+        if ends_section(strip, &word[at..]) {
+            return Some(at + 1);
+        }
+    }
+    None
+}
+
+/// Returns the length in bytes of the prefix characters of a word, which are in front of its symbol: the name of a
+/// section with its dots, as in `.text._Z1fv`, or `.`, `$`, `__imp_` or nothing.
+#[inline(always)]
+pub fn prefix_chars_len(strip: bool, word: &[u8]) -> usize
     ensures bound { result ≤ length word.now }
-    ensures value { result ≡ spec.prefix_chars_len word.now }
+    ensures value { result ≡ spec.prefix_chars_len strip word.now }
 {
     match word {
-        [b'.' | b'$', ..] => 1,
+        [b'.', ..] => match section_len(strip, word) {
+            Some(len) => len,
+            None => 1,
+        },
+        [b'$', ..] => 1,
         [b'_', b'_', b'i', b'm', b'p', b'_', ..] => 6,
         _ => 0,
     }
 }
 
-/// Returns the symbol in a word, and the length in bytes of the prefix characters in front of it. The symbol begins
-/// with `_Z` or `__Z`. If `strip` is true, it may begin with `___Z`, and is returned without the first underscore.
-/// Returns `None` if the word has no symbol. The word has no dots at its end.
+/// Returns the symbol in a word, and the length in bytes of the prefix characters in front of it. If `strip` is true,
+/// the symbol is returned without one underscore in front. Returns `None` if the word has no symbol, unless `all` is
+/// true; then anything is returned that follows the prefix characters. The word has no dots at its end.
 #[inline(always)]
-fn symbol_in(strip: bool, word: &[u8]) -> Option<(usize, &[u8])>
+fn symbol_in(strip: bool, all: bool, word: &[u8]) -> Option<(usize, &[u8])>
     ensures bound { IfSome result (λ found. found.0 ≤ length word.now) }
-    ensures chars_len { IfSome result (λ found. found.0 ≡ spec.prefix_chars_len word.now) }
-    ensures value { option_map (λ found. found.1.now) result ≡ spec.symbol_in strip word.now }
+    ensures chars_len { IfSome result (λ found. found.0 ≡ spec.prefix_chars_len strip word.now) }
+    ensures value { option_map (λ found. found.1.now) result ≡ spec.symbol_in strip all word.now }
 {
-    // Most words begin with their symbol.
-    if let [b'_', b'Z', ..] = word {
-        return Some((0, word));
+    let chars_len = prefix_chars_len(strip, word);
+    let symbol = stripped(strip, &word[chars_len..]);
+    if !all && !has_prefix(symbol) {
+        return None;
     }
-    let chars_len = prefix_chars_len(word);
-    let bytes = &word[chars_len..];
-    match bytes {
-        [b'_', b'Z', ..] | [b'_', b'_', b'Z', ..] => Some((chars_len, bytes)),
-        [b'_', b'_', b'_', b'Z', ..] if strip => Some((chars_len, &bytes[1..])),
-        _ => None,
-    }
+    Some((chars_len, symbol))
 }
 
-/// The number of bytes at the start of a word that show whether it may hold a symbol: six prefix characters, and
-/// `___Z`.
-const START_LEN: usize = 10;
+/// The number of bytes at the start of a word that show whether it may hold a symbol: six prefix characters, an
+/// underscore, and `____Z`.
+const START_LEN: usize = 12;
 
-/// Returns whether a last word with these bytes is kept until more is read: it has fewer than `START_LEN` bytes, or a
-/// symbol follows its prefix characters.
-pub(crate) fn may_hold_symbol(strip: bool, bytes: &[u8]) -> bool
-    ensures value { result ≡ spec.may_hold_symbol strip bytes.now }
+/// Returns whether a last word with these bytes is kept until more is read: it has fewer than `START_LEN` bytes, or it
+/// begins with a dot, or a symbol follows its prefix characters.
+pub(crate) fn may_hold_symbol(strip: bool, all: bool, bytes: &[u8]) -> bool
+    ensures value { result ≡ spec.may_hold_symbol strip all bytes.now }
 {
-    bytes.len() < START_LEN || symbol_in(strip, bytes).is_some()
+    bytes.len() < START_LEN || bytes[0] == b'.' || symbol_in(strip, all, bytes).is_some()
 }
 
 /// Returns what is printed for the symbol in a word, and the length in bytes of the prefix characters, which stay. The
@@ -90,10 +140,11 @@ fn word_answer<'a, S: SymbolReader>(
     requires { All IsWordByte word.now }
     ensures bound { IfOk result (λ found. IfSome found (λ answer. answer.0 ≤ length word.now)) }
     ensures some { IfOk result (λ found. IfSome found (λ answer.
-        IsWordAnswer (worded S.prints options) word.now (take answer.0 word.now ++ answer.1.now))) }
-    ensures none { IfOk result (λ found. IfNone found (IsWordAnswer (worded S.prints options) word.now word.now)) }
+        IsWordAnswer (worded S.all S.prints options) word.now (take answer.0 word.now ++ answer.1.now))) }
+    ensures none { IfOk result (λ found. IfNone found (IsWordAnswer (worded S.all S.prints options) word.now word.now)) }
 {
-    let Some((chars_len, symbol)) = symbol_in(options.strip, word) else {
+    let all = S::reads_all(options.printing);
+    let Some((chars_len, symbol)) = symbol_in(options.strip, all, word) else {
         return Ok(None);
     };
     let symbol = unsafe { str::from_utf8_unchecked(symbol) };
@@ -112,13 +163,14 @@ fn append_words_or_part<S: SymbolReader>(
     text: &[u8],
     output: &mut Text,
 ) -> Result<(), AllocError>
-    ensures ok { OnOk result (AppendsReplaced (worded S.prints options) text.now output.old output.new) }
+    ensures ok { OnOk result (AppendsReplaced (worded S.all S.prints options) text.now output.old output.new) }
     ensures err { OnErr result (Extends output.old output.new) }
 {
     // The text up to `from` has been searched, and the replaced text up to `done` has been appended.
+    let all = S::reads_all(options.printing);
     let mut done = 0;
     let mut from = 0;
-    while let Some(more) = first_prefix(&text[from..]) {
+    while let Some(more) = first_to_read(all, &text[from..]) {
         let place = from + more;
         let start = word_start(text, from, place);
         let end = word_end(text, place);
@@ -142,7 +194,7 @@ pub(crate) fn append_words<S: SymbolReader>(
     text: &[u8],
     output: &mut Text,
 ) -> Result<(), AllocError>
-    ensures ok { OnOk result (AppendsReplaced (worded S.prints options) text.now output.old output.new) }
+    ensures ok { OnOk result (AppendsReplaced (worded S.all S.prints options) text.now output.old output.new) }
     ensures err { OnErr result (output.new ≡ output.old) }
 {
     let len = output.len();

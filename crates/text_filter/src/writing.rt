@@ -2,7 +2,7 @@
 //!
 //! A parameter `complete_text` ends at a boundary: after a line feed for `Placement::Lines`, and after a byte that is
 //! in no word for `Placement::Words`. Ordinary text is written as it is: a line that doesn't begin with an underscore,
-//! or text that has no `_Z`.
+//! or text that has no `_Z`. Where all is read, no line and no word is ordinary.
 ghost use Rattle.std.specs.Prelude.{◌≡◌, ◌<◌, ◌≤◌, [], false, length, take, drop, IsTrue, IsErrOf, IsUtf8, IfOk, OnOk, OnErr};
 ghost use Rattle.std.specs.Io.KnownBytes.{Keeps};
 ghost use Rattle.text_filter.specs.Fault.{IsWriteOutcome};
@@ -63,20 +63,25 @@ pub(crate) fn whole_lines_len(bytes: &[u8], kept: usize) -> usize
 #[inline(always)]
 fn ordinary_len<S: SymbolReader>(placement: Placement<S::Printing>, complete_text: &[u8]) -> usize
     ensures bound { result ≤ length complete_text.now }
-    ensures ordinary { AreWholeFiltered (placed S.prints placement) (take result complete_text.now) (take result complete_text.now) }
+    ensures ordinary { AreWholeFiltered (placed S.all S.prints placement) (take result complete_text.now) (take result complete_text.now) }
 {
     match placement {
-        Placement::Lines(_) => ordinary_lines_len::<S>(complete_text),
-        Placement::Words(_) => ordinary_words_len(complete_text),
+        Placement::Lines(printing) => ordinary_lines_len::<S>(printing, complete_text),
+        Placement::Words(options) => {
+            ordinary_words_len(S::reads_all(options.printing), complete_text)
+        }
     }
 }
 
-/// Returns the length in bytes of the first whole lines, up to one that begins with an underscore.
-fn ordinary_lines_len<S: SymbolReader>(lines: &[u8]) -> usize
+/// Returns the length in bytes of the first whole lines, up to one that begins with an underscore, or none if all are
+/// read.
+fn ordinary_lines_len<S: SymbolReader>(printing: S::Printing, lines: &[u8]) -> usize
     ensures bound { result ≤ length lines.now }
-    ensures ordinary { (printing : S.Printing) →
-        AreLinesAnswered (S.prints printing) (take result lines.now) (take result lines.now) }
+    ensures ordinary { AreLinesAnswered (S.prints printing) (take result lines.now) (take result lines.now) }
 {
+    if S::reads_all(printing) {
+        return 0;
+    }
     let mut len = 0;
     while len < lines.len() && lines[len] != UNDERSCORE {
         let Some(end) = first_place(&lines[len..], LINE_FEED) else {
@@ -170,7 +175,7 @@ fn append_block<S: SymbolReader>(
     requires whole { ends_word text.now ≡ false }
     ensures some { IfOk result (λ len. 0 < len) }
     ensures bound { IfOk result (λ len. len ≤ length text.now) }
-    ensures ok { IfOk result (λ len. AppendsFiltered (Words (worded S.prints options)) (take len text.now) output.old output.new) }
+    ensures ok { IfOk result (λ len. AppendsFiltered (Words (worded S.all S.prints options)) (take len text.now) output.old output.new) }
     ensures err { OnErr result (output.new ≡ output.old) }
 {
     let len = block_len(text, BLOCK_LEN);
@@ -194,11 +199,11 @@ fn append_next<S: SymbolReader>(
     output: &mut Text,
 ) -> Result<usize, AllocError>
     requires some { 0 < length complete_text.now }
-    requires whole { AreWhole (placed S.prints placement) complete_text.now }
+    requires whole { AreWhole (placed S.all S.prints placement) complete_text.now }
     requires known { (printing : S.Printing) → placement ≡ code.Lines printing → IsTrue known_utf8 → IsUtf8 complete_text.now }
     ensures some { IfOk result (λ len. 0 < len) }
     ensures bound { IfOk result (λ len. len ≤ length complete_text.now) }
-    ensures ok { IfOk result (λ len. AppendsFiltered (placed S.prints placement) (take len complete_text.now) output.old output.new) }
+    ensures ok { IfOk result (λ len. AppendsFiltered (placed S.all S.prints placement) (take len complete_text.now) output.old output.new) }
     ensures err { OnErr result (output.new ≡ output.old) }
 {
     let ordinary = ordinary_len::<S>(placement, complete_text);
@@ -231,12 +236,12 @@ fn gather_whole<S: SymbolReader>(
     output: &mut Text,
 ) -> Result<usize, AllocError>
     requires some { 0 < length complete_text.now }
-    requires whole { AreWhole (placed S.prints placement) complete_text.now }
+    requires whole { AreWhole (placed S.all S.prints placement) complete_text.now }
     requires known { (printing : S.Printing) → placement ≡ code.Lines printing → IsTrue known_utf8 → IsUtf8 complete_text.now }
     requires empty { output.old ≡ [] }
     ensures some { IfOk result (λ len. 0 < len) }
     ensures bound { IfOk result (λ len. len ≤ length complete_text.now) }
-    ensures filtered { IfOk result (λ len. AreWholeFiltered (placed S.prints placement) (take len complete_text.now) output.new) }
+    ensures filtered { IfOk result (λ len. AreWholeFiltered (placed S.all S.prints placement) (take len complete_text.now) output.new) }
 {
     let mut rest = complete_text;
     while !rest.is_empty() && output.len() < OUTPUT_LEN {
@@ -262,15 +267,15 @@ fn write_next<S: SymbolReader, W: Sink>(
 ) -> Result<usize, FilterFault>
     requires not_failed { W.failed sink.old ≡ false }
     requires some { 0 < length complete_text.now }
-    requires whole { AreWhole (placed S.prints placement) complete_text.now }
+    requires whole { AreWhole (placed S.all S.prints placement) complete_text.now }
     requires known { (printing : S.Printing) → placement ≡ code.Lines printing → IsTrue known_utf8 → IsUtf8 complete_text.now }
     ensures outcome { IsWriteOutcome result (W.failed sink.new) }
     ensures in_time { W.called_late sink.new ≡ W.called_late sink.old }
     ensures some { IfOk result (λ len. 0 < len) }
     ensures bound { IfOk result (λ len. len ≤ length complete_text.now) }
-    ensures ok { IfOk result (λ len. WritesWholeFiltered (placed S.prints placement) (take len complete_text.now)
+    ensures ok { IfOk result (λ len. WritesWholeFiltered (placed S.all S.prints placement) (take len complete_text.now)
         (W.taken sink.old) (W.taken sink.new)) }
-    ensures err { OnErr result (WritesBeginningOfAny (placed S.prints placement) complete_text.now
+    ensures err { OnErr result (WritesBeginningOfAny (placed S.all S.prints placement) complete_text.now
         (W.taken sink.old) (W.taken sink.new)) }
     ensures memory { IsErrOf result FilterFault.Memory → Keeps (W.taken sink.old) (W.taken sink.new) }
 {
@@ -297,14 +302,14 @@ pub(crate) fn write_whole<S: SymbolReader, W: Sink>(
     sink: &mut W,
 ) -> Result<(), FilterFault>
     requires not_failed { W.failed sink.old ≡ false }
-    requires whole { AreWhole (placed S.prints placement) complete_text.now }
+    requires whole { AreWhole (placed S.all S.prints placement) complete_text.now }
     ensures outcome { IsWriteOutcome result (W.failed sink.new) }
     ensures in_time { W.called_late sink.new ≡ W.called_late sink.old }
-    ensures ok { OnOk result (FiltersUpTo (placed S.prints placement) complete_text.now [] (W.taken sink.old) (W.taken sink.new)) }
-    ensures err { OnErr result (WritesBeginningOfAny (placed S.prints placement) complete_text.now
+    ensures ok { OnOk result (FiltersUpTo (placed S.all S.prints placement) complete_text.now [] (W.taken sink.old) (W.taken sink.new)) }
+    ensures err { OnErr result (WritesBeginningOfAny (placed S.all S.prints placement) complete_text.now
         (W.taken sink.old) (W.taken sink.new)) }
     ensures memory { IsErrOf result FilterFault.Memory →
-        FiltersSome (placed S.prints placement) complete_text.now (W.taken sink.old) (W.taken sink.new) }
+        FiltersSome (placed S.all S.prints placement) complete_text.now (W.taken sink.old) (W.taken sink.new) }
 {
     let known_utf8 = matches!(placement, Placement::Lines(_)) && is_utf8(complete_text);
     let mut rest = complete_text;
@@ -327,8 +332,8 @@ pub(crate) fn write_last<S: SymbolReader, W: Sink>(
     requires unended { (printing : S.Printing) → placement ≡ code.Lines printing → HasNoLineFeed last.now }
     ensures outcome { IsWriteOutcome result (W.failed sink.new) }
     ensures in_time { W.called_late sink.new ≡ W.called_late sink.old }
-    ensures ok { OnOk result (WritesFiltered (placed S.prints placement) last.now (W.taken sink.old) (W.taken sink.new)) }
-    ensures err { OnErr result (WritesBeginning (placed S.prints placement) last.now (W.taken sink.old) (W.taken sink.new)) }
+    ensures ok { OnOk result (WritesFiltered (placed S.all S.prints placement) last.now (W.taken sink.old) (W.taken sink.new)) }
+    ensures err { OnErr result (WritesBeginning (placed S.all S.prints placement) last.now (W.taken sink.old) (W.taken sink.new)) }
     ensures memory { IsErrOf result FilterFault.Memory → Keeps (W.taken sink.old) (W.taken sink.new) }
     ensures some { IsErrOf result FilterFault.Memory → 0 < length last.now }
 {

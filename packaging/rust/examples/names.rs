@@ -1,4 +1,4 @@
-//! Reads symbols, one per line, and prints the demangled name of each, or the symbol itself if it has none.
+//! Reads symbols, one per line, and prints the declaration of each, or the symbol itself if it has none.
 
 use std::io::{self, BufRead, Write};
 
@@ -8,7 +8,7 @@ fn main() -> io::Result<()> {
     for line in io::stdin().lock().split(b'\n') {
         let line = line?;
         match demangler.try_demangle(&line).map_err(io::Error::other)? {
-            Some(name) => output.write_all(name.as_bytes())?,
+            Some(text) => output.write_all(text.as_bytes())?,
             None => output.write_all(&line)?,
         }
         output.write_all(b"\n")?;

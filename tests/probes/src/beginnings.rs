@@ -3,12 +3,10 @@
 //! A line of standard input is either a symbol or a record. Of a symbol each beginning is demangled that ends between
 //! two characters. A record has tabs between its fields. The fields are a symbol and the line that the filter writes
 //! for it; then `entered`, if it is tested; then `most_saved` and each component that is left, if they are tested. The
-//! symbol is demangled, and its record must be the same. After a first field `signature` the record is that of the
-//! symbol's signature. `\t` in a line stands for a tab.
+//! symbol is demangled, and its record must be the same. `\t` in a line stands for a tab.
 //!
-//! Each symbol is tested twice: for its name, and then for its signature. Both tests use a new value, and one that has
-//! demangled all symbols before. A symbol without a signature must give its name instead. The program writes one line
-//! for each failure, and then `N passed, M failed`, which counts the tests. If any failed, the status is 1.
+//! Each symbol is tested with a new value, and with one that has demangled all symbols before. The program writes one
+//! line for each failure, and then `N passed, M failed`, which counts the symbols. If any failed, the status is 1.
 
 mod asked;
 mod record;

@@ -20,7 +20,7 @@ use crate::rattle::alloc::Global;
 use crate::refusals::filtering::LINES;
 use crate::refusals::outcome::{Memory, Wrong};
 use crate::refusals::scripts::SCRIPTS;
-use crate::refusals::symbols::{Call, NAMES, SIGNATURES};
+use crate::refusals::symbols::{Call, NAMES};
 use std::ffi::{c_char, c_void};
 use std::io::{read_to_string, stdin, stdout};
 use std::mem::transmute;
@@ -87,7 +87,6 @@ impl Rows<'_> {
         let mut demangler = Demangler::new();
         self.ask_symbols(&mut demangler, Call::Demangle, &NAMES);
         self.ask_symbols(&mut demangler, Call::DemangleOwned, &NAMES);
-        self.ask_symbols(&mut demangler, Call::DemangleSignature, &SIGNATURES);
         drop(demangler);
         for script in SCRIPTS {
             if self.has("buffer", script.name()) {

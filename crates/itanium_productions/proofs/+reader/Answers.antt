@@ -210,22 +210,22 @@ args::read_argument_pack-loop-reader-preserved t c = record {
 
 pub types::read_params-returns-in-EndOfTypes-clause-reads : goal.types::read_params-returns-in-EndOfTypes-clause-reads
 types::read_params-returns-in-EndOfTypes-clause-reads t c =
-    (c.loop-list.invariant.living, typed_end _ _ _ c.loop-list.invariant.reads (sym c.in-EndOfTypes.ensures.case))
+    (c.loop-list.invariant.living, typed_end _ _ c.loop-list.invariant.reads (sym c.in-EndOfTypes.ensures.case))
 
 pub types::read_params-returns-in-Err-read_framed-clause-reads : goal.types::read_params-returns-in-Err-read_framed-clause-reads
 types::read_params-returns-in-Err-read_framed-clause-reads t c =
     stops _ _ (c.in-Err-read_framed.ensures {u = tt}).reads
-    (λ none. typed_fail _ _ _ c.loop-list.invariant.reads (sym c.in-NextType.ensures.case) (search rules))
+    (λ none. typed_fail _ _ c.loop-list.invariant.reads (sym c.in-NextType.ensures.case) (search rules))
 
 pub types::read_params-returns-then-is_too_wide-clause-reads : goal.types::read_params-returns-then-is_too_wide-clause-reads
 types::read_params-returns-then-is_too_wide-clause-reads t c =
-    typed_wide _ _ _ c.loop-list.invariant.reads {next = shape c.read_framed.new.reader.buffer.value c.read_framed.new.reader.found}
+    typed_wide _ _ c.loop-list.invariant.reads {next = shape c.read_framed.new.reader.buffer.value c.read_framed.new.reader.found}
     {found = shape c.append_piece.new.buf c.in-Ok-append_piece.value} {after = state c.read_framed.new.reader}
     (sym c.in-NextType.ensures.case) (search rules) (search rules) (search rules)
 
 pub types::read_params-loop-list-preserved : goal.types::read_params-loop-list-preserved
 types::read_params-loop-list-preserved t c = record {
-  reads = typed_more _ _ _ c.loop-list.invariant.reads
+  reads = typed_more _ _ c.loop-list.invariant.reads
       {next = shape c.read_framed.new.reader.buffer.value c.read_framed.new.reader.found}
       (sym c.in-NextType.ensures.case) (search rules) (search rules) (search rules) (search rules);
   living = grind arith;
@@ -504,10 +504,10 @@ specials::read_thunk-returns-clause-reads t c =
     let built = c.in-Ok-join_words.ensures.shape.shape_is
     ∙ ap (λ (s : Shape). worded_shape (text s) (shape symbol.buffer.value symbol.found) (codes ")}")) words.shape_is in
     checked c.check_width.result _ c.check_width.ensures.fits (search rules)
-    (λ narrow. thunk_read c.args.depth c.args.end c.args.context (state c.args.reader.now) {front = shape opened.buffer.value opened.found} {t = shape symbol.buffer.value symbol.found}
+    (λ narrow. thunk_read c.args.depth c.args.context (state c.args.reader.now) {front = shape opened.buffer.value opened.found} {t = shape symbol.buffer.value symbol.found}
     {mid = state opened} {after = state c.join_words.new.self}
     (search rules) (search rules) (search (rules, buffers)) built narrow)
-    (λ wide. thunk_wide c.args.depth c.args.end c.args.context (state c.args.reader.now) {front = shape opened.buffer.value opened.found} {t = shape symbol.buffer.value symbol.found}
+    (λ wide. thunk_wide c.args.depth c.args.context (state c.args.reader.now) {front = shape opened.buffer.value opened.found} {t = shape symbol.buffer.value symbol.found}
     {mid = state opened} {after = state symbol}
     (search rules) (search rules) (search (rules, buffers)) built wide)
 

@@ -204,9 +204,9 @@ decreases-args::read_argument_pack-loop-reader l = length l.reader.rest.now
 
 abbrev pub invariant-types::read_params-loop-list : goal.invariant-types::read_params-loop-list
 invariant-types::read_params-loop-list l = record {
-  reads : LoopSoFar (spec.params_as (params_case l.end l.fn.reader.rest.now) l.end l.in_function_type (spec.parse_type l.depth l.context)
+  reads : LoopSoFar (spec.params_as (params_case l.fn.reader.rest.now) l.in_function_type (spec.parse_type l.depth l.context)
       (shape l.fn.reader.buffer.value l.fn.list) (state l.fn.reader))
-      (spec.typed_turn l.end l.in_function_type (spec.parse_type l.depth l.context)) (l.first, shape l.reader.buffer.value l.list) (state l.reader);
+      (spec.typed_turn l.in_function_type (spec.parse_type l.depth l.context)) (l.first, shape l.reader.buffer.value l.list) (state l.reader);
   living : IsLiving l.reader.buffer.value l.list;
   run : IsRun l.fn.reader.buffer.value l.reader.buffer.value;
   cost : CostBounds 0 0 (state l.fn.reader) (state l.reader);

@@ -1,9 +1,13 @@
-//! The calls of `cosvigle.h` over the crate `cosvigle`. Written by hand. The header says what each call does, and what
-//! its caller must keep to: here that is what each `unsafe` rests on.
+//! The calls of `cosvigle.h` over the crate `cosvigle`. Written by hand, after `crates/cosvigle_c`. The header says
+//! what each call does, and what its caller must keep to: here that is what each `unsafe` rests on.
 #![allow(clippy::missing_safety_doc)]
 #![warn(clippy::undocumented_unsafe_blocks)]
 
-use demangler::{AllocError, Demangler, Printing, ReplaceOptions, try_filter, try_replace, version};
+use demangler::engine::{
+    AllocError, DeclarationReader, DemangleError, Demangler, Failed, FilterFault, Global, Kind, Mode, Part, Printing,
+    ReplaceOptions, Sink, Style, Tally, Text, Vec, filter_with, replace as replace_words,
+};
+use demangler::version;
 use std::alloc::{Layout, alloc};
 use std::ffi::c_int;
 use std::mem::replace;
@@ -15,10 +19,16 @@ const NO_ANSWER: c_int = 1;
 const NO_MEMORY: c_int = 2;
 const NO_ROOM: c_int = 3;
 const NOT_UTF8: c_int = 4;
+const BAD_CALL: c_int = 5;
+const OVER_LIMIT: c_int = 6;
 
-/// What a handle has: a demangler, and the text that didn't fit.
+/// The bytes of memory that are counted for each node that may be kept to read a symbol.
+const NODE_MEMORY: usize = 256;
+
+/// What a handle has: a demangler, the limit for its symbols, and the text that didn't fit.
 struct Kept {
-    demangler: Demangler,
+    reader: DeclarationReader,
+    limit: Option<usize>,
     text: Vec<u8>,
 }
 
@@ -37,12 +47,19 @@ impl Handle {
             if at.is_null() {
                 return None;
             }
+            let kept = Kept { reader: DeclarationReader::new(Global), limit: None, text: Vec::new(Global) };
             // SAFETY: the memory is new, and has the layout of the type.
-            unsafe { at.write(Kept { demangler: Demangler::new(), text: Vec::new() }) };
+            unsafe { at.write(kept) };
             self.at = at;
         }
         // SAFETY: only this function and `free` change the pointer, so it is that of a value.
         Some(unsafe { &mut *self.at })
+    }
+
+    /// Returns the demangler, if there is one.
+    fn demangler(&self) -> Option<&Demangler> {
+        // SAFETY: the pointer is null or that of a value.
+        unsafe { self.at.as_ref() }.map(|kept| &kept.reader.demangler)
     }
 
     /// Drops what is kept.
@@ -97,37 +114,78 @@ unsafe fn bytes<'a>(at: *const u8, len: usize) -> &'a [u8] {
     if len == 0 { &[] } else { unsafe { from_raw_parts(at, len) } }
 }
 
-/// Writes the demangled name or the signature of a symbol.
-fn ask(handle: &mut Handle, printing: Printing, symbol: &[u8], mut room: Room<'_>) -> c_int {
-    if str::from_utf8(symbol).is_err() {
-        return NOT_UTF8;
+/// What a sum of flags asks for, without a limit.
+fn printing_of(flags: u32) -> Option<Printing> {
+    let mode = match flags % 4 {
+        0 => Mode::Declaration,
+        1 => Mode::Signature,
+        2 => Mode::Name,
+        _ => return None,
+    };
+    let style = match flags / 4 % 4 {
+        0 => Style::Gnu,
+        1 => Style::GnuShort,
+        2 => Style::Llvm,
+        _ => return None,
+    };
+    let types = match flags / 16 {
+        0 => false,
+        1 => true,
+        _ => return None,
+    };
+    Some(Printing { types, part: Part { mode, style, limit: None } })
+}
+
+/// The same printing with this limit.
+fn within(printing: Printing, limit: Option<usize>) -> Printing {
+    Printing { part: Part { limit, ..printing.part }, ..printing }
+}
+
+/// Bytes that grow, and whether there was no memory for some.
+struct Gathered {
+    text: Vec<u8>,
+    failed: bool,
+}
+
+impl Sink for Gathered {
+    fn failed(&self) -> bool {
+        self.failed
     }
-    let Some(kept) = handle.kept() else {
-        return NO_MEMORY;
-    };
-    let found = match printing {
-        Printing::Names => kept.demangler.try_demangle(symbol),
-        Printing::Signatures => kept.demangler.try_demangle_signature(symbol),
-    };
-    match found {
-        Ok(Some(text)) => room.write_if_fits(text.as_bytes()),
-        Ok(None) => NO_ANSWER,
-        Err(AllocError) => NO_MEMORY,
+
+    fn put(&mut self, bytes: &[u8]) -> Result<usize, Failed> {
+        match self.text.extend_from_slice(bytes) {
+            Ok(()) => Ok(bytes.len()),
+            Err(AllocError) => {
+                self.failed = true;
+                Err(Failed)
+            }
+        }
     }
 }
 
-/// Makes a text by the call and writes it. If it doesn't fit, the handle keeps it.
-fn make(handle: &mut Handle, call: impl FnOnce() -> Result<Vec<u8>, AllocError>, mut room: Room<'_>) -> c_int {
+/// Makes a text by the call, which gets what is printed and where it goes, and writes it. If it doesn't fit, the handle
+/// keeps it.
+fn make(
+    handle: &mut Handle,
+    printing: u32,
+    call: impl FnOnce(Printing, &mut Gathered) -> Result<(), FilterFault>,
+    mut room: Room<'_>,
+) -> c_int {
+    let Some(asked) = printing_of(printing) else {
+        return BAD_CALL;
+    };
     let Some(kept) = handle.kept() else {
         return NO_MEMORY;
     };
-    kept.text = Vec::new();
-    let Ok(made) = call() else {
+    kept.text = Vec::new(Global);
+    let mut made = Gathered { text: Vec::new(Global), failed: false };
+    // A fault means that an allocation failed, since source and sink are in memory.
+    if call(within(asked, kept.limit), &mut made).is_err() {
         return NO_MEMORY;
-    };
-    let status = room.write_if_fits(&made);
+    }
+    let status = room.write_if_fits(&made.text);
     if status == NO_ROOM {
-        kept.text = made;
+        kept.text = made.text;
     }
     status
 }
@@ -140,6 +198,7 @@ pub extern "C" fn cosvigle_version() -> u32 {
 #[unsafe(no_mangle)]
 pub unsafe extern "C" fn cosvigle_ask(
     handle: &mut Handle,
+    printing: u32,
     symbol: *const u8,
     len: usize,
     out: *mut u8,
@@ -147,40 +206,85 @@ pub unsafe extern "C" fn cosvigle_ask(
     needed: &mut usize,
 ) -> c_int {
     // SAFETY: the caller keeps to the header.
-    unsafe { ask(handle, Printing::Names, bytes(symbol, len), room(out, capacity, needed)) }
+    let (symbol, mut room) = unsafe { (bytes(symbol, len), room(out, capacity, needed)) };
+    let Some(asked) = printing_of(printing) else {
+        return BAD_CALL;
+    };
+    let Ok(symbol) = str::from_utf8(symbol) else {
+        return NOT_UTF8;
+    };
+    let Some(kept) = handle.kept() else {
+        return NO_MEMORY;
+    };
+    match kept.reader.prepare(Global, within(asked, kept.limit), symbol) {
+        Ok(_) => match kept.reader.demangler.text() {
+            Some(text) => room.write_if_fits(text.as_bytes()),
+            None => NO_ANSWER,
+        },
+        Err(DemangleError::Memory) => NO_MEMORY,
+        Err(DemangleError::Limit) => OVER_LIMIT,
+    }
 }
 
 #[unsafe(no_mangle)]
-pub unsafe extern "C" fn cosvigle_ask_signature(
+pub extern "C" fn cosvigle_limit(handle: &mut Handle, bytes: usize) -> c_int {
+    let Some(kept) = handle.kept() else {
+        return NO_MEMORY;
+    };
+    kept.limit = if bytes == 0 { None } else { Some(bytes / NODE_MEMORY) };
+    WRITTEN
+}
+
+#[unsafe(no_mangle)]
+pub unsafe extern "C" fn cosvigle_part(
     handle: &mut Handle,
-    symbol: *const u8,
-    len: usize,
+    part: u32,
+    printing: u32,
     out: *mut u8,
     capacity: usize,
     needed: &mut usize,
 ) -> c_int {
     // SAFETY: the caller keeps to the header.
-    unsafe { ask(handle, Printing::Signatures, bytes(symbol, len), room(out, capacity, needed)) }
+    let mut room = unsafe { room(out, capacity, needed) };
+    let print = match part {
+        0 => Demangler::print_base_name,
+        1 => Demangler::print_context,
+        2 => Demangler::print_parameters,
+        3 => Demangler::print_return_type,
+        _ => return BAD_CALL,
+    };
+    let Some(asked) = printing_of(printing) else {
+        return BAD_CALL;
+    };
+    let Some(demangler) = handle.demangler() else {
+        return NO_ANSWER;
+    };
+    let mut text = Text::new(Global);
+    if print(demangler, asked.part.style, &mut text).is_err() {
+        return NO_MEMORY;
+    }
+    if text.len() == 0 { NO_ANSWER } else { room.write_if_fits(text.as_slice()) }
 }
 
 #[unsafe(no_mangle)]
-pub unsafe extern "C" fn cosvigle_demangle(
-    symbol: *const u8,
-    len: usize,
-    out: *mut u8,
-    capacity: usize,
-    needed: &mut usize,
-) -> c_int {
-    let mut handle = Handle { at: null_mut() };
-    // SAFETY: the caller keeps to the header.
-    let status = unsafe { cosvigle_ask(&mut handle, symbol, len, out, capacity, needed) };
-    handle.free();
-    status
+pub extern "C" fn cosvigle_kind(handle: &mut Handle) -> c_int {
+    match handle.demangler().and_then(Demangler::kind) {
+        None => 0,
+        Some(Kind::Function) => 1,
+        Some(Kind::Data) => 2,
+        Some(Kind::Special) => 3,
+    }
+}
+
+#[unsafe(no_mangle)]
+pub extern "C" fn cosvigle_has_qualifiers(handle: &mut Handle) -> bool {
+    handle.demangler().is_some_and(Demangler::has_qualifiers)
 }
 
 #[unsafe(no_mangle)]
 pub unsafe extern "C" fn cosvigle_replace(
     handle: &mut Handle,
+    printing: u32,
     strip: bool,
     text: *const u8,
     len: usize,
@@ -188,26 +292,19 @@ pub unsafe extern "C" fn cosvigle_replace(
     capacity: usize,
     needed: &mut usize,
 ) -> c_int {
-    let options = ReplaceOptions { strip, printing: Printing::Names };
     // SAFETY: the caller keeps to the header.
-    unsafe { make(handle, || try_replace(bytes(text, len), options), room(out, capacity, needed)) }
-}
-
-#[unsafe(no_mangle)]
-pub unsafe extern "C" fn cosvigle_filter_with(
-    handle: &mut Handle,
-    lines: *const u8,
-    len: usize,
-    out: *mut u8,
-    capacity: usize,
-    needed: &mut usize,
-) -> c_int {
-    // SAFETY: the caller keeps to the header.
-    unsafe { make(handle, || try_filter(bytes(lines, len), Printing::Names), room(out, capacity, needed)) }
+    let (text, room) = unsafe { (bytes(text, len), room(out, capacity, needed)) };
+    let call = |printing, made: &mut Gathered| {
+        let options = ReplaceOptions { strip, printing };
+        replace_words(Global, &mut DeclarationReader::new(Global), options, &mut Tally::new(text), made)
+    };
+    make(handle, printing, call, room)
 }
 
 #[unsafe(no_mangle)]
 pub unsafe extern "C" fn cosvigle_filter(
+    handle: &mut Handle,
+    printing: u32,
     lines: *const u8,
     len: usize,
     out: *mut u8,
@@ -215,11 +312,11 @@ pub unsafe extern "C" fn cosvigle_filter(
     needed: &mut usize,
 ) -> c_int {
     // SAFETY: the caller keeps to the header.
-    let (lines, mut room) = unsafe { (bytes(lines, len), room(out, capacity, needed)) };
-    match try_filter(lines, Printing::Names) {
-        Ok(made) => room.write_if_fits(&made),
-        Err(AllocError) => NO_MEMORY,
-    }
+    let (lines, room) = unsafe { (bytes(lines, len), room(out, capacity, needed)) };
+    let call = |printing, made: &mut Gathered| {
+        filter_with(Global, &mut DeclarationReader::new(Global), printing, &mut Tally::new(lines), made)
+    };
+    make(handle, printing, call, room)
 }
 
 #[unsafe(no_mangle)]
@@ -240,7 +337,7 @@ pub unsafe extern "C" fn cosvigle_take(
     }
     let status = room.write_if_fits(&kept.text);
     if status == WRITTEN {
-        kept.text = Vec::new();
+        kept.text = Vec::new(Global);
     }
     status
 }

@@ -44,28 +44,6 @@ fn fault(new: &Demangler, kept: &Demangler, symbol: &str) -> Option<&'static str
         Some("its answer is the symbol itself")
     } else if kept.text().is_none() && kept.component(0).is_some() {
         Some("it has no answer and leaves a component")
-    } else if new.is_signature() != kept.is_signature() {
-        Some("a new value has a name where the other has a signature, or the other way round")
-    } else {
-        None
-    }
-}
-
-/// Returns whether both values have the same text and the same counts.
-fn agree(one: &Demangler, other: &Demangler) -> bool {
-    one.text() == other.text() && one.entered() == other.entered() && one.most_saved() == other.most_saved()
-}
-
-/// Returns what is wrong with a symbol's signature, compared with its name.
-fn signature_fault(name: &Demangler, signed: &Demangler) -> Option<&'static str> {
-    if name.is_signature() {
-        Some("its name is called a signature")
-    } else if signed.text().is_none() && signed.is_signature() {
-        Some("no answer is called a signature")
-    } else if signed.text().is_none() && name.text().is_some() {
-        Some("its name is lost")
-    } else if !signed.is_signature() && !agree(name, signed) {
-        Some("it has no signature and another answer than its name")
     } else {
         None
     }
@@ -92,15 +70,11 @@ impl Asked {
 
     /// Demangles the symbol of a record, or each beginning of a symbol that is alone in its line.
     pub fn ask_line(&mut self, line: &str) -> io::Result<()> {
-        let signed = line.strip_prefix("signature\t");
-        let line = signed.unwrap_or(line);
         let all = with_tabs(line);
         let Some((symbol, _)) = line.split_once('\t') else {
             return self.ask_beginnings(&all);
         };
-        let symbol = with_tabs(symbol);
-        let recorded = Some(Recorded { text: all.as_str(), fields: line.split('\t').count() });
-        if signed.is_some() { self.ask(&symbol, None, recorded) } else { self.ask(&symbol, recorded, None) }
+        self.ask(&with_tabs(symbol), Some(Recorded { text: all.as_str(), fields: line.split('\t').count() }))
     }
 
     /// Demangles each beginning of the symbol that ends between two characters: the empty one, and so on up to the
@@ -108,54 +82,29 @@ impl Asked {
     fn ask_beginnings(&mut self, symbol: &str) -> io::Result<()> {
         for end in 0..=symbol.len() {
             if let Some(beginning) = symbol.get(..end) {
-                self.ask(beginning, None, None)?;
+                self.ask(beginning, None)?;
             }
         }
         Ok(())
     }
 
-    /// Demangles the symbol's name, and then its signature. Either may have a record.
-    fn ask(
-        &mut self,
-        symbol: &str,
-        name_record: Option<Recorded>,
-        signature_record: Option<Recorded>,
-    ) -> io::Result<()> {
-        let mut name = Demangler::new();
-        given(name.prepare(Global, symbol));
-        given(self.kept.prepare(Global, symbol));
-        let found = fault(&name, &self.kept, symbol);
-        let found = compared(&self.kept, symbol, name_record, found);
-        self.note(symbol, "", found)?;
-        self.ask_signature(symbol, &name, signature_record)
-    }
-
-    /// Demangles the signature of a symbol, and compares it with the value that has its name.
-    fn ask_signature(&mut self, symbol: &str, name: &Demangler, recorded: Option<Recorded>) -> io::Result<()> {
+    /// Demangles the symbol, which may have a record. Counts the test, and writes what is wrong, if anything is.
+    fn ask(&mut self, symbol: &str, recorded: Option<Recorded>) -> io::Result<()> {
         let mut new = Demangler::new();
-        given(new.prepare_signature(Global, symbol));
-        let lent = given(self.kept.demangle_signature(Global, symbol));
+        given(new.prepare(Global, symbol));
+        let lent = given(self.kept.demangle(Global, symbol));
         let mut found = None;
         if lent != new.text() {
-            found = Some("another signature is lent");
+            found = Some("another name is lent");
         }
         if found.is_none() {
             found = fault(&new, &self.kept, symbol);
         }
-        if found.is_none() {
-            found = signature_fault(name, &self.kept);
-        }
-        let found = compared(&self.kept, symbol, recorded, found);
-        self.note(symbol, " as a signature", found)
-    }
-
-    /// Counts a test, and writes what is wrong, if anything is. `asked` says what was asked for.
-    fn note(&mut self, symbol: &str, asked: &str, found: Option<&'static str>) -> io::Result<()> {
-        match found {
+        match compared(&self.kept, symbol, recorded, found) {
             None => self.passed = self.passed.saturating_add(1),
             Some(fault) => {
                 self.failed = self.failed.saturating_add(1);
-                println!("{symbol}{asked}: {fault}");
+                println!("{symbol}: {fault}");
             }
         }
         Ok(())

@@ -1,10 +1,10 @@
 //! The two functions of the engine.
 
-use crate::extracted::symfilter_engine::{FilterFault, NameReader, Printing, ReplaceOptions, Sink, Source, filter, replace};
+use crate::extracted::symfilter_engine::{FilterFault, NameReader, ReplaceOptions, Sink, Source, filter, replace};
 use crate::rattle::alloc::Global;
 
 /// Symbols in words are replaced by their names.
-const IN_WORDS: ReplaceOptions<Printing> = ReplaceOptions { strip: false, printing: Printing::Names };
+const IN_WORDS: ReplaceOptions<()> = ReplaceOptions { strip: false, printing: () };
 
 /// The functions of the engine.
 #[derive(Clone, Copy)]

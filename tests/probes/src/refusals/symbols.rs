@@ -15,28 +15,14 @@ pub const NAMES: [(&str, &str); 7] = [
     ("_Z1fI1A1BIS0_S0_ES1_IS2_S2_EEvv", "f<A, B<A, A>, B<B<A, A>, B<A, A> > >"),
 ];
 
-/// Each symbol with its signature. The last has none, and stands with its name.
-pub const SIGNATURES: [(&str, &str); 6] = [
-    ("_ZNSt6vectorIS_IiEE4sizeEv", "std::vector<std::vector<int> >::size()"),
-    ("_ZNK1A1fIJicEEEvDpRKT_", "A::f<int, char>(int, char const&) const"),
-    ("_Z1fIJiEEvPFvDpT_E", "f<int>(void (*)(int))"),
-    ("_ZZ1fvENK1A1gEi", "f()::A::g(int) const"),
-    ("_ZThn8_N3Foo3barEv", "{virtual override thunk({offset(-8)}, Foo::bar())}"),
-    ("_Z1fI1A1BIS0_S0_ES1_IS2_S2_EEvS2_E", "f<A, B<A, A>, B<B<A, A>, B<A, A> > >"),
-];
-
 /// The names that must be returned after an error.
 const AFTER: [(&str, Option<&str>); 2] = [("_Z1fIDpiEvv", Some("f<int...>")), ("malloc", None)];
-
-/// The signatures that must be returned after an error.
-const SIGNATURES_AFTER: [(&str, Option<&str>); 2] = [("_Z1fIDpiEvv", Some("f<int...>()")), ("malloc", None)];
 
 /// The call by which a symbol is demangled.
 #[derive(Clone, Copy)]
 pub enum Call {
     Demangle,
     DemangleOwned,
-    DemangleSignature,
 }
 
 impl Call {
@@ -44,15 +30,6 @@ impl Call {
         match self {
             Call::Demangle => "demangle",
             Call::DemangleOwned => "demangle_owned",
-            Call::DemangleSignature => "demangle_signature",
-        }
-    }
-
-    /// Returns the results that this call must give after an error.
-    fn after(self) -> [(&'static str, Option<&'static str>); 2] {
-        match self {
-            Call::Demangle | Call::DemangleOwned => AFTER,
-            Call::DemangleSignature => SIGNATURES_AFTER,
         }
     }
 }
@@ -70,7 +47,6 @@ fn given(found: Option<&str>, answer: Option<&str>) -> Result<Memory, Wrong> {
 /// Returns whether the value keeps nothing of its last symbol.
 fn keeps_nothing(demangler: &Demangler) -> bool {
     demangler.text().is_none()
-        && !demangler.is_signature()
         && demangler.entered() == 0
         && demangler.most_saved() == 0
         && demangler.component(0).is_none()
@@ -86,19 +62,6 @@ fn refused(demangler: &Demangler) -> Result<Memory, Wrong> {
 /// Demangles the symbol with the value, and tests the result.
 fn ask_value(alloc: Global, demangler: &mut Demangler, symbol: &str, answer: Option<&str>) -> Result<Memory, Wrong> {
     if let Ok(found) = demangler.demangle(alloc, symbol) {
-        return given(found, answer);
-    }
-    refused(demangler)
-}
-
-/// Demangles the symbol's signature with the value, and tests the result.
-fn ask_signature(
-    alloc: Global,
-    demangler: &mut Demangler,
-    symbol: &str,
-    answer: Option<&str>,
-) -> Result<Memory, Wrong> {
-    if let Ok(found) = demangler.demangle_signature(alloc, symbol) {
         return given(found, answer);
     }
     refused(demangler)
@@ -124,7 +87,6 @@ fn ask(
     match call {
         Call::Demangle => ask_value(alloc, demangler, symbol, answer),
         Call::DemangleOwned => ask_owned(alloc, symbol, answer),
-        Call::DemangleSignature => ask_signature(alloc, demangler, symbol, answer),
     }
 }
 
@@ -144,7 +106,7 @@ fn ask_again(
 pub fn run(call: Call, alloc: Global, demangler: &mut Demangler, symbol: &str, answer: &str) -> Result<Memory, Wrong> {
     let memory = ask(call, alloc, demangler, symbol, Some(answer))?;
     if memory == Memory::Refused {
-        for (next, expected) in call.after() {
+        for (next, expected) in AFTER {
             ask_again(call, alloc, demangler, next, expected)?;
         }
         ask_again(call, alloc, demangler, symbol, Some(answer))?;

@@ -13,10 +13,10 @@ use Rattle.text_filter.proofs.chunks.filter_chunks.Goals as goal
 use Rattle.text_filter.proofs.chunks.filter_chunks.Goals.{then-done-gt0, else-done-gt0}
 
 pub returns-in_err-chunk-clause-err : goal.returns-in_err-chunk-clause-err
-returns-in_err-chunk-clause-err g c = at_fault _ (none_read (placed g.S.SymbolReader.prints c.args.placement) (placed_answers g.S.SymbolReader.prints g.met.S.SymbolReader.answers c.args.placement) _ _)
+returns-in_err-chunk-clause-err g c = at_fault _ (none_read (placed g.S.SymbolReader.all g.S.SymbolReader.prints c.args.placement) (placed_answers g.S.SymbolReader.all g.S.SymbolReader.prints g.met.S.SymbolReader.answers c.args.placement) _ _)
 
 pub returns-in_err-chunk-clause-memory : goal.returns-in_err-chunk-clause-memory
-returns-in_err-chunk-clause-memory g c = λ _. none_whole (placed g.S.SymbolReader.prints c.args.placement) _ _
+returns-in_err-chunk-clause-memory g c = λ _. none_whole (placed g.S.SymbolReader.all g.S.SymbolReader.prints c.args.placement) _ _
 
 pub chunks-init : goal.chunks-init
 chunks-init g c = record {
@@ -26,41 +26,41 @@ chunks-init g c = record {
   sink_in_time = refl;
   some = search rules;
   within = search rules;
-  kept = none_kept (placed g.S.SymbolReader.prints c.args.placement) _ refl;
-  so_far = none_copied (placed g.S.SymbolReader.prints c.args.placement) _ _ _ refl;
+  kept = none_kept (placed g.S.SymbolReader.all g.S.SymbolReader.prints c.args.placement) _ refl;
+  so_far = none_copied (placed g.S.SymbolReader.all g.S.SymbolReader.prints c.args.placement) _ _ _ refl;
 }
 
 pub returns-in_err-end-clause-err : goal.returns-in_err-end-clause-err
-returns-in_err-end-clause-err g c = at_fault _ (read_fault (placed g.S.SymbolReader.prints c.args.placement) (placed_answers g.S.SymbolReader.prints g.met.S.SymbolReader.answers c.args.placement) _ _ _ _ _ _ _ c.chunks.invariant.so_far c.in_err-end.ensures.err)
+returns-in_err-end-clause-err g c = at_fault _ (read_fault (placed g.S.SymbolReader.all g.S.SymbolReader.prints c.args.placement) (placed_answers g.S.SymbolReader.all g.S.SymbolReader.prints g.met.S.SymbolReader.answers c.args.placement) _ _ _ _ _ _ _ c.chunks.invariant.so_far c.in_err-end.ensures.err)
 
 pub returns-in_err-end-clause-put : goal.returns-in_err-end-clause-put
-returns-in_err-end-clause-put g c = λ _. read_put (placed g.S.SymbolReader.prints c.args.placement) _ _ _ _ _ _ _ c.chunks.invariant.so_far c.chunks.invariant.kept c.in_err-end.ensures.err
+returns-in_err-end-clause-put g c = λ _. read_put (placed g.S.SymbolReader.all g.S.SymbolReader.prints c.args.placement) _ _ _ _ _ _ _ c.chunks.invariant.so_far c.chunks.invariant.kept c.in_err-end.ensures.err
 
 pub returns-in_err-end-clause-memory : goal.returns-in_err-end-clause-memory
 returns-in_err-end-clause-memory g c = λ refused.
-    read_refused (placed g.S.SymbolReader.prints c.args.placement) _ _ _ _ _ _ _ _ c.chunks.invariant.so_far c.in_err-end.ensures.err (c.in_err-end.ensures.full (search rules)) c.chunks.invariant.some
+    read_refused (placed g.S.SymbolReader.all g.S.SymbolReader.prints c.args.placement) _ _ _ _ _ _ _ _ c.chunks.invariant.so_far c.in_err-end.ensures.err (c.in_err-end.ensures.full (search rules)) c.chunks.invariant.some
 
 pub write_chunk-requires-clause-kept : goal.write_chunk-requires-clause-kept
 write_chunk-requires-clause-kept g c =
     let end = c.in_ok-end.end in
     let kept = c.chunks.kept in
-    subst (λ l. AreKept (placed g.S.SymbolReader.prints c.args.placement) (take kept (take end l))) (sym c.deref-in-chunks.ensures.value)
-    (still_kept (placed g.S.SymbolReader.prints c.args.placement) kept end _ _ _ _ c.chunks.invariant.kept c.in_ok-end.ensures.ok c.chunks.invariant.within)
+    subst (λ l. AreKept (placed g.S.SymbolReader.all g.S.SymbolReader.prints c.args.placement) (take kept (take end l))) (sym c.deref-in-chunks.ensures.value)
+    (still_kept (placed g.S.SymbolReader.all g.S.SymbolReader.prints c.args.placement) kept end _ _ _ _ c.chunks.invariant.kept c.in_ok-end.ensures.ok c.chunks.invariant.within)
 
 pub write_chunk-requires-clause-mid_word_keeps_none : goal.write_chunk-requires-clause-mid_word_keeps_none
-write_chunk-requires-clause-mid_word_keeps_none g c = kept_none (placed g.S.SymbolReader.prints c.args.placement) _ _ _ _ _ _ _ c.chunks.invariant.so_far c.chunks.invariant.within
+write_chunk-requires-clause-mid_word_keeps_none g c = kept_none (placed g.S.SymbolReader.all g.S.SymbolReader.prints c.args.placement) _ _ _ _ _ _ _ c.chunks.invariant.so_far c.chunks.invariant.within
 
 pub returns-in_err-done-clause-err : goal.returns-in_err-done-clause-err
 returns-in_err-done-clause-err g c =
     let end = c.in_ok-end.end in
-    at_fault _ (turn_fault (placed g.S.SymbolReader.prints c.args.placement) c.chunks.mid_word _ end _ _ _ _ _ _ _ _ c.chunks.invariant.so_far c.in_ok-end.ensures.ok
-    (subst (λ l. WritesChunkBeginning (placed g.S.SymbolReader.prints c.args.placement) c.chunks.mid_word (take end l) (g.W.Sink.taken c.chunks.sink) (g.W.Sink.taken c.write_chunk.new.sink)) c.deref-in-chunks.ensures.value c.in_err-done.ensures.err))
+    at_fault _ (turn_fault (placed g.S.SymbolReader.all g.S.SymbolReader.prints c.args.placement) c.chunks.mid_word _ end _ _ _ _ _ _ _ _ c.chunks.invariant.so_far c.in_ok-end.ensures.ok
+    (subst (λ l. WritesChunkBeginning (placed g.S.SymbolReader.all g.S.SymbolReader.prints c.args.placement) c.chunks.mid_word (take end l) (g.W.Sink.taken c.chunks.sink) (g.W.Sink.taken c.write_chunk.new.sink)) c.deref-in-chunks.ensures.value c.in_err-done.ensures.err))
 
 pub returns-in_err-done-clause-memory : goal.returns-in_err-done-clause-memory
 returns-in_err-done-clause-memory g c = λ refused.
     let end = c.in_ok-end.end in
-    turn_refused (placed g.S.SymbolReader.prints c.args.placement) c.chunks.mid_word _ end _ _ _ _ _ _ _ _ c.chunks.invariant.so_far c.in_ok-end.ensures.ok
-    (subst (λ l. WritesSomeOfChunk (placed g.S.SymbolReader.prints c.args.placement) c.chunks.mid_word (take end l) (g.W.Sink.taken c.chunks.sink) (g.W.Sink.taken c.write_chunk.new.sink)) c.deref-in-chunks.ensures.value
+    turn_refused (placed g.S.SymbolReader.all g.S.SymbolReader.prints c.args.placement) c.chunks.mid_word _ end _ _ _ _ _ _ _ _ c.chunks.invariant.so_far c.in_ok-end.ensures.ok
+    (subst (λ l. WritesSomeOfChunk (placed g.S.SymbolReader.all g.S.SymbolReader.prints c.args.placement) c.chunks.mid_word (take end l) (g.W.Sink.taken c.chunks.sink) (g.W.Sink.taken c.write_chunk.new.sink)) c.deref-in-chunks.ensures.value
     (c.in_err-done.ensures.memory (search rules)))
 
 pub chunks-preserved : goal.chunks-preserved
@@ -89,9 +89,9 @@ chunks-preserved g c =
       sink_in_time = c.in_ok-done.ensures.in_time ∙ c.chunks.invariant.sink_in_time;
       some = omega (arith, inside, long, c.in_ok-end.ensures.ok.low, c.if-end-kept.false);
       within = omega (arith, inside, long);
-      kept = subst (AreKept (placed g.S.SymbolReader.prints c.args.placement)) (ap (λ l. drop done (take end l)) same ∙ sym moved) c.in_ok-done.ensures.kept;
-      so_far = turn_copied (placed g.S.SymbolReader.prints c.args.placement) c.chunks.mid_word after c.chunks.kept end _ all _ (drop done (take end all)) _ _ _ _ _ _ c.chunks.invariant.so_far c.in_ok-end.ensures.ok
-          (subst (λ l. WritesChunkUpTo (placed g.S.SymbolReader.prints c.args.placement) c.chunks.mid_word (take end l) (drop done (take end l)) after (g.W.Sink.taken c.chunks.sink) (g.W.Sink.taken c.write_chunk.new.sink)) same c.in_ok-done.ensures.ok)
+      kept = subst (AreKept (placed g.S.SymbolReader.all g.S.SymbolReader.prints c.args.placement)) (ap (λ l. drop done (take end l)) same ∙ sym moved) c.in_ok-done.ensures.kept;
+      so_far = turn_copied (placed g.S.SymbolReader.all g.S.SymbolReader.prints c.args.placement) c.chunks.mid_word after c.chunks.kept end _ all _ (drop done (take end all)) _ _ _ _ _ _ c.chunks.invariant.so_far c.in_ok-end.ensures.ok
+          (subst (λ l. WritesChunkUpTo (placed g.S.SymbolReader.all g.S.SymbolReader.prints c.args.placement) c.chunks.mid_word (take end l) (drop done (take end l)) after (g.W.Sink.taken c.chunks.sink) (g.W.Sink.taken c.write_chunk.new.sink)) same c.in_ok-done.ensures.ok)
           moved (λ is. ap (λ l. drop done (take end l)) (sym same) ∙ c.in_ok-done.ensures.mid_word_keeps_none is);
     }
 
@@ -106,7 +106,7 @@ returns-then-end-kept-clause-outcome g c = run_last _ _ _ c.in_ok-end.ensures.ou
 
 pub returns-then-end-kept-clause-used_up : goal.returns-then-end-kept-clause-used_up
 returns-then-end-kept-clause-used_up g c =
-    let ended = end_copied (placed g.S.SymbolReader.prints c.args.placement) c.chunks.mid_word c.chunks.kept _ _ _ _ _ _ _ _ c.chunks.invariant.so_far c.in_ok-end.ensures.ok c.chunks.invariant.within c.if-end-kept.true in
+    let ended = end_copied (placed g.S.SymbolReader.all g.S.SymbolReader.prints c.args.placement) c.chunks.mid_word c.chunks.kept _ _ _ _ _ _ _ _ c.chunks.invariant.so_far c.in_ok-end.ensures.ok c.chunks.invariant.within c.if-end-kept.true in
     on_ok_weaker _ (λ _. at_end _ _ ended.read ended.consumed (c.in_ok-end.ensures.ok.ended c.if-end-kept.true)) c.write_last.ensures.ok
 
 pub returns-then-end-kept-clause-ok : goal.returns-then-end-kept-clause-ok
@@ -114,33 +114,33 @@ returns-then-end-kept-clause-ok g c =
     let kept = c.chunks.kept in
     let t' = g.W.Sink.taken c.chunks.sink in
     let t'' = g.W.Sink.taken c.write_last.new.sink in
-    let ended = end_copied (placed g.S.SymbolReader.prints c.args.placement) c.chunks.mid_word kept _ _ _ _ _ _ _ _ c.chunks.invariant.so_far c.in_ok-end.ensures.ok c.chunks.invariant.within c.if-end-kept.true in
-    on_ok_weaker _ (λ writes. last_copied (placed g.S.SymbolReader.prints c.args.placement) c.chunks.mid_word (take kept c.read_more.new.chunk.items) _ _ _ t' t'' ended (c.in_ok-end.ensures.ok.ended c.if-end-kept.true)
-    (subst (λ l. WritesFiltered (placed g.S.SymbolReader.prints c.args.placement) (take kept l) t' t'') c.deref.ensures.value writes)) c.write_last.ensures.ok
+    let ended = end_copied (placed g.S.SymbolReader.all g.S.SymbolReader.prints c.args.placement) c.chunks.mid_word kept _ _ _ _ _ _ _ _ c.chunks.invariant.so_far c.in_ok-end.ensures.ok c.chunks.invariant.within c.if-end-kept.true in
+    on_ok_weaker _ (λ writes. last_copied (placed g.S.SymbolReader.all g.S.SymbolReader.prints c.args.placement) c.chunks.mid_word (take kept c.read_more.new.chunk.items) _ _ _ t' t'' ended (c.in_ok-end.ensures.ok.ended c.if-end-kept.true)
+    (subst (λ l. WritesFiltered (placed g.S.SymbolReader.all g.S.SymbolReader.prints c.args.placement) (take kept l) t' t'') c.deref.ensures.value writes)) c.write_last.ensures.ok
 
 pub returns-then-end-kept-clause-all : goal.returns-then-end-kept-clause-all
 returns-then-end-kept-clause-all g c =
     let kept = c.chunks.kept in
     let t' = g.W.Sink.taken c.chunks.sink in
     let t'' = g.W.Sink.taken c.write_last.new.sink in
-    let ended = end_copied (placed g.S.SymbolReader.prints c.args.placement) c.chunks.mid_word kept _ _ _ _ _ _ _ _ c.chunks.invariant.so_far c.in_ok-end.ensures.ok c.chunks.invariant.within c.if-end-kept.true in
-    on_ok_weaker _ (λ writes. last_filtered (placed g.S.SymbolReader.prints c.args.placement) c.chunks.mid_word (take kept c.read_more.new.chunk.items) _ _ _ t' t'' ended
-    (subst (λ l. WritesFiltered (placed g.S.SymbolReader.prints c.args.placement) (take kept l) t' t'') c.deref.ensures.value writes)) c.write_last.ensures.ok
+    let ended = end_copied (placed g.S.SymbolReader.all g.S.SymbolReader.prints c.args.placement) c.chunks.mid_word kept _ _ _ _ _ _ _ _ c.chunks.invariant.so_far c.in_ok-end.ensures.ok c.chunks.invariant.within c.if-end-kept.true in
+    on_ok_weaker _ (λ writes. last_filtered (placed g.S.SymbolReader.all g.S.SymbolReader.prints c.args.placement) c.chunks.mid_word (take kept c.read_more.new.chunk.items) _ _ _ t' t'' ended
+    (subst (λ l. WritesFiltered (placed g.S.SymbolReader.all g.S.SymbolReader.prints c.args.placement) (take kept l) t' t'') c.deref.ensures.value writes)) c.write_last.ensures.ok
 
 pub returns-then-end-kept-clause-err : goal.returns-then-end-kept-clause-err
 returns-then-end-kept-clause-err g c =
     let kept = c.chunks.kept in
     let t' = g.W.Sink.taken c.chunks.sink in
     let t'' = g.W.Sink.taken c.write_last.new.sink in
-    let ended = end_copied (placed g.S.SymbolReader.prints c.args.placement) c.chunks.mid_word kept _ _ _ _ _ _ _ _ c.chunks.invariant.so_far c.in_ok-end.ensures.ok c.chunks.invariant.within c.if-end-kept.true in
-    on_err_weaker _ (λ begins. last_fault (placed g.S.SymbolReader.prints c.args.placement) c.chunks.mid_word (take kept c.read_more.new.chunk.items) _ _ _ t' t'' ended
-    (subst (λ l. WritesBeginning (placed g.S.SymbolReader.prints c.args.placement) (take kept l) t' t'') c.deref.ensures.value begins)) c.write_last.ensures.err
+    let ended = end_copied (placed g.S.SymbolReader.all g.S.SymbolReader.prints c.args.placement) c.chunks.mid_word kept _ _ _ _ _ _ _ _ c.chunks.invariant.so_far c.in_ok-end.ensures.ok c.chunks.invariant.within c.if-end-kept.true in
+    on_err_weaker _ (λ begins. last_fault (placed g.S.SymbolReader.all g.S.SymbolReader.prints c.args.placement) c.chunks.mid_word (take kept c.read_more.new.chunk.items) _ _ _ t' t'' ended
+    (subst (λ l. WritesBeginning (placed g.S.SymbolReader.all g.S.SymbolReader.prints c.args.placement) (take kept l) t' t'') c.deref.ensures.value begins)) c.write_last.ensures.err
 
 pub returns-then-end-kept-clause-memory : goal.returns-then-end-kept-clause-memory
 returns-then-end-kept-clause-memory g c = λ refused.
     let kept = c.chunks.kept in
-    let ended = end_copied (placed g.S.SymbolReader.prints c.args.placement) c.chunks.mid_word kept _ _ _ _ _ _ _ _ c.chunks.invariant.so_far c.in_ok-end.ensures.ok c.chunks.invariant.within c.if-end-kept.true in
-    last_refused (placed g.S.SymbolReader.prints c.args.placement) c.chunks.mid_word (take kept c.read_more.new.chunk.items) _ _ _ _ _ ended
+    let ended = end_copied (placed g.S.SymbolReader.all g.S.SymbolReader.prints c.args.placement) c.chunks.mid_word kept _ _ _ _ _ _ _ _ c.chunks.invariant.so_far c.in_ok-end.ensures.ok c.chunks.invariant.within c.if-end-kept.true in
+    last_refused (placed g.S.SymbolReader.all g.S.SymbolReader.prints c.args.placement) c.chunks.mid_word (take kept c.read_more.new.chunk.items) _ _ _ _ _ ended
     (subst (λ l. 0 < length (take kept l)) c.deref.ensures.value (c.write_last.ensures.some refused)) (c.write_last.ensures.memory refused)
 
 pub returns-in_err-chunk-clause-outcome : goal.returns-in_err-chunk-clause-outcome

@@ -12,8 +12,8 @@ invariant-chunks g l =
       sink_in_time : g.W.Sink.called_late l.sink ≡ g.W.Sink.called_late l.fn.sink;
       some : 0 < length l.chunk.items;
       within : l.kept ≤ length l.chunk.items;
-      kept : AreKept (placed g.S.SymbolReader.prints l.placement) (take l.kept l.chunk.items);
-      so_far : CopiesUpTo (placed g.S.SymbolReader.prints l.placement) l.mid_word (take l.kept l.chunk.items) (g.R.Source.remaining l.fn.source) (g.R.Source.remaining l.source) (g.W.Sink.taken l.fn.sink) (g.W.Sink.taken l.sink);
+      kept : AreKept (placed g.S.SymbolReader.all g.S.SymbolReader.prints l.placement) (take l.kept l.chunk.items);
+      so_far : CopiesUpTo (placed g.S.SymbolReader.all g.S.SymbolReader.prints l.placement) l.mid_word (take l.kept l.chunk.items) (g.R.Source.remaining l.fn.source) (g.R.Source.remaining l.source) (g.W.Sink.taken l.fn.sink) (g.W.Sink.taken l.sink);
     }
 
 abbrev pub decreases-chunks : goal.decreases-chunks

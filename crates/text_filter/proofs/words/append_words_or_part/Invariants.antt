@@ -11,7 +11,7 @@ invariant-loop-more g l =
       boundary : IsBoundary l.text l.from;
       extends : Extends l.fn.output l.output;
       -- what stands from `done` on is yet to be appended
-      so_far : AppendsReplaced (worded g.S.SymbolReader.prints l.options) (take l.from l.text) l.fn.output (l.output ++ take (l.from - l.done) (drop l.done l.text));
+      so_far : AppendsReplaced (worded g.S.SymbolReader.all g.S.SymbolReader.prints l.options) (take l.from l.text) l.fn.output (l.output ++ take (l.from - l.done) (drop l.done l.text));
     }
 
 abbrev pub decreases-loop-more : goal.decreases-loop-more

@@ -8,7 +8,7 @@ invariant-loop-output g l =
     record {
       inside : length l.rest ≤ length l.complete_text;
       left : l.rest ≡ drop (length l.complete_text - length l.rest) l.complete_text;
-      so_far : AreWholeFiltered (placed g.S.SymbolReader.prints l.placement) (take (length l.complete_text - length l.rest) l.complete_text) l.output;
+      so_far : AreWholeFiltered (placed g.S.SymbolReader.all g.S.SymbolReader.prints l.placement) (take (length l.complete_text - length l.rest) l.complete_text) l.output;
       -- nothing is appended before the first line
       empty : length l.rest ≡ length l.complete_text → l.output ≡ [];
     }

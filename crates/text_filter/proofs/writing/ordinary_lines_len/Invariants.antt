@@ -6,7 +6,7 @@ abbrev pub invariant-loop-len : goal.invariant-loop-len
 invariant-loop-len g l =
     record {
       inside : l.len ≤ length l.lines;
-      ordinary : (printing : g.row.S-Printing.Denot) → AreLinesAnswered (g.S.SymbolReader.prints printing) (take l.len l.lines) (take l.len l.lines);
+      ordinary : AreLinesAnswered (g.S.SymbolReader.prints l.fn.printing) (take l.len l.lines) (take l.len l.lines);
     }
 
 abbrev pub decreases-loop-len : goal.decreases-loop-len

@@ -11,9 +11,9 @@ invariant-loop-rest g l =
     record {
       not_failed : g.W.Sink.failed l.sink ≡ false;
       in_time : g.W.Sink.called_late l.sink ≡ g.W.Sink.called_late l.fn.sink;
-      whole : AreWhole (placed g.S.SymbolReader.prints l.placement) l.rest;
+      whole : AreWhole (placed g.S.SymbolReader.all g.S.SymbolReader.prints l.placement) l.rest;
       known : (printing : g.row.S-Printing.Denot) → l.placement ≡ code.Lines printing → IsTrue l.known_utf8 → IsUtf8 l.rest;
-      so_far : FiltersUpTo (placed g.S.SymbolReader.prints l.placement) l.complete_text l.rest (g.W.Sink.taken l.fn.sink) (g.W.Sink.taken l.sink);
+      so_far : FiltersUpTo (placed g.S.SymbolReader.all g.S.SymbolReader.prints l.placement) l.complete_text l.rest (g.W.Sink.taken l.fn.sink) (g.W.Sink.taken l.sink);
     }
 
 abbrev pub decreases-loop-rest : goal.decreases-loop-rest

@@ -21,7 +21,9 @@ nodes-push es ds e p = ap nodes_of p ∙ map-append (λ (d : entry.Entry). d.nod
 
 pub returns-then-index-self-clause-makes : goal.returns-then-index-self-clause-makes
 returns-then-index-self-clause-makes c =
-    let a = c.args.self.now in Makes-refused a a (tree_of a.held (forest a) c.args.node) (Grows-same a a refl)
+    let a = c.args.self.now in
+    let s = store_of c.self.inside in
+    Makes-refused a s (tree_of a.held (forest a) c.args.node) (Grows-same a s c.self.view_is)
 
 pub returns-in-Err-clause-makes : goal.returns-in-Err-clause-makes
 returns-in-Err-clause-makes c =
