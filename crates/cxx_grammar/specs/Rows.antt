@@ -257,7 +257,7 @@ make_one maker.Postfix words a = make (postfix_op a words.llvm)
 make_one maker.Expansion words t = make (expansion t)
 make_one maker.CountPattern words t = make_pattern_count t
 make_one maker.CountPack words t = make (count true t)
-make_one (maker.Fold is_left) words pack = make (fold is_left words.llvm pack None)
+make_one (maker.Fold is_left) words e = make (fold is_left words.llvm e None)
 make_one other words t = refused
 
 unfoldable pub make_two : Maker → Styled → Tree → Tree → Parses Tree
@@ -267,8 +267,8 @@ make_two (maker.Member prec) words a b = make (member a words.llvm b prec)
 make_two maker.Subscript words a index = make (subscript a index)
 make_two maker.NamedCast words t e = make (named_cast words.llvm t e)
 make_two (maker.Designated is_index) words d e = make (designated d e is_index)
-make_two (maker.FoldWith true) words init pack = make (fold true words.llvm pack (Some init))
-make_two (maker.FoldWith false) words pack init = make (fold false words.llvm pack (Some init))
+make_two (maker.FoldWith true) words init e = make (fold true words.llvm e (Some init))
+make_two (maker.FoldWith false) words e init = make (fold false words.llvm e (Some init))
 make_two other words a b = refused
 
 unfoldable pub make_three : Maker → Styled → Tree → Tree → Tree → Parses Tree
