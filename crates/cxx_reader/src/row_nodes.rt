@@ -15,6 +15,7 @@ use cxx_tree::{List, Node, NodeText, Plain, Prec, Stop};
 
 impl<'a> Reader<'a> {
     /// Makes the node of a row, whose nodes are collected from `from` on. They are collected no more.
+    #[inline(never)]
     pub fn make_row(&mut self, row: Row, from: usize) -> Result<u32, Stop>
         requires within { from ≤ length self.old.arena.pending }
         ensures reads { Gives result self.new (spec.make_as row.maker (row_at row).words

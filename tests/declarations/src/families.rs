@@ -181,6 +181,83 @@ fn names_and_types() -> Vec<Case> {
     cases
 }
 
+/// An expression as the argument of a function.
+fn expression(what: &str) -> String {
+    format!("_Z1fIX{what}EEvv")
+}
+
+/// The same of an operator around a literal, so many times, with what follows it.
+fn around_literal(front: &str, n: usize, behind: &str) -> String {
+    expression(&format!("{}Li1E{}", front.repeat(n), behind.repeat(n)))
+}
+
+/// The text of a function with this argument.
+fn argument_text(argument: &str) -> String {
+    format!("void f<{argument}>()")
+}
+
+/// The text of an operator around the literal, so many times, with what follows it.
+fn around(front: &str, n: usize, behind: &str) -> String {
+    argument_text(&format!("{}1{}", front.repeat(n), behind.repeat(n)))
+}
+
+/// Symbols of expressions at and past the limits of depth and height.
+fn expressions() -> Vec<Case> {
+    // An encoding, its name, its argument and the innermost operand.
+    let most = MAX_DEPTH - 4;
+    let mut cases = Vec::new();
+    cases.extend(numbered(
+        "prefix operators",
+        |n| around_literal("nt", n, ""),
+        most,
+        |n| argument_text(&format!("!{}1{}", "(!".repeat(n - 1), ")".repeat(n - 1))),
+    ));
+    cases.extend(numbered("sums of sums", |n| around_literal("pl", n, "Li1E"), most, |n| around("", n, " + 1")));
+    cases.extend(numbered(
+        "sums in sums",
+        |n| around_literal("plLi1E", n, ""),
+        most,
+        |n| argument_text(&format!("1 + {}1{}", "(1 + ".repeat(n - 1), ")".repeat(n - 1))),
+    ));
+    cases.extend(numbered("called calls", |n| around_literal("cl", n, "E"), most, |n| around("", n, "()")));
+    cases.extend(numbered("calls in calls", |n| around_literal("clLi1E", n, "E"), most, |n| around("1(", n, ")")));
+    cases.extend(numbered("conversions", |n| around_literal("cvi_", n, "E"), most, |n| around("(int)(", n, ")")));
+    cases.extend(numbered(
+        "named casts",
+        |n| around_literal("sci", n, ""),
+        most,
+        |n| around("static_cast<int>(", n, ")"),
+    ));
+    cases.extend(numbered("members", |n| around_literal("dt", n, "1a"), most, |n| around("", n, ".a")));
+    // The encoding, its parameter and the innermost operand; a `decltype` and what it is of.
+    cases.extend(numbered(
+        "types of expressions",
+        |n| format!("_Z1f{}Li1E{}", "DTst".repeat(n), "E".repeat(n)).replace("stLi1E", "Li1E"),
+        (MAX_DEPTH - 1) / 2,
+        |n| format!("f({}decltype(1){})", "decltype(sizeof (".repeat(n - 1), "))".repeat(n - 1)),
+    ));
+    // The encoding, its name and the innermost operand; an expression and the braces in it.
+    cases.extend(numbered("braces", |n| around_literal("il", n, "E"), (MAX_DEPTH - 4) / 2, |n| around("{", n, "}")));
+    // The name, its scope and the function with its argument.
+    cases.extend(numbered(
+        "qualified names",
+        |n| expression(&format!("sr{}E1x", "1a".repeat(n))),
+        MAX_HEIGHT - 3,
+        |n| argument_text(&format!("{}x", "a::".repeat(n))),
+    ));
+    let given = [
+        ("a function as an argument", "_Z1fILZ1gvE1x3EabEvv", "void f<g(), x, Eab>()"),
+        ("`sizeof...` of no arguments", "_Z1fIXsPEEEvv", "void f<sizeof... ()>()"),
+        ("`sizeof...` of an empty pack", "_Z1fIJEEv1AIXsZT_EE", "void f<>(A<sizeof...()>)"),
+        ("a call without arguments", "_Z1fIXcl1gEEEvv", "void f<g()>()"),
+        ("empty braces", "_Z1fIXilEEEvv", "void f<{}>()"),
+        ("an empty conversion", "_Z1fIXcvi_EEEvv", "void f<(int)()>()"),
+        ("a fold of an empty pack", "_Z1fIJEEvDTflplT_E", "void f<>(decltype((... + ())))"),
+    ];
+    cases.extend(given.map(|(what, symbol, text)| (what, symbol.to_string(), Some(text.to_string()))));
+    cases
+}
+
 /// A symbol, and its declaration in LLVM's style and in GNU's.
 pub type Styled = (String, String, String);
 
@@ -255,6 +332,7 @@ pub fn limited() -> Vec<Case> {
     cases.extend(numbered("doubled template parameters", replaced, most_replaced(), replaced_text));
     cases.extend(numbered("replaced lists", replaced_lists, most_replaced_lists(), replaced_lists_text));
     cases.extend(names_and_types());
+    cases.extend(expressions());
     cases.push(("an operator of a vendor", "_Zv23mixii".to_string(), Some("operator mix(int, int)".to_string())));
     cases.push(("an empty pack", "_Z1fIJEDpT_Evv".to_string(), Some("void f<>()".to_string())));
     cases.push(("two empty packs", "_Z1fIJJEJEEEvDpT_".to_string(), Some("void f<>(, )".to_string())));
@@ -349,6 +427,108 @@ fn long_names_and_types(replacing: &str) -> Vec<(&'static str, String)> {
     ]
 }
 
+/// Long symbols of expressions.
+fn long_expressions() -> Vec<(&'static str, String)> {
+    let (half, quarter) = (LONG / 2, LONG / 4);
+    let nines = "9".repeat(LONG);
+    let front = |what: &str| expression(&what.repeat(LONG / what.len()));
+    let list = |front: &str, item: &str| expression(&format!("{front}{}E", item.repeat(LONG / item.len())));
+    let nested = |front: &str, behind: &str| around_literal(front, LONG / (front.len() + behind.len()), behind);
+    let deep = |front: &str, behind: &str| around_literal(front, MAX_DEPTH - 4, behind);
+    let types = |what: &str| format!("_Z1f{}", what.repeat(LONG / what.len()));
+    let args = |what: &str| format!("_Z1fI{}Evv", what.repeat(LONG / what.len()));
+    let pack = |what: &str| format!("_Z1fIJ{}EEv{what}", "i".repeat(LONG));
+    let mut families = Vec::new();
+    // Operators: those that are open, those that nest as deep as the bytes go, and as the limit goes.
+    for (open, operator, behind) in [
+        ("prefix operators that are open", "nt", ""),
+        ("sums that are open", "pl", "Li1E"),
+        ("sums in sums that are open", "plLi1E", ""),
+        ("conditions that are open", "qu", "Li1ELi1E"),
+        ("calls that are open", "cl", "E"),
+        ("calls in calls that are open", "clLi1E", "E"),
+        ("conversions that are open", "cvi", ""),
+        ("conversions of lists that are open", "cvi_", "E"),
+        ("named casts that are open", "sci", ""),
+        ("members that are open", "dt", "1a"),
+        ("subscripts that are open", "ix", "Li1E"),
+        ("`new` that is open", "nw", "_iE"),
+        ("initialised `new` that is open", "nw_ipi", "E"),
+        ("`delete` that is open", "gsdl", ""),
+        ("folds that are open", "fLpl", "Li1E"),
+        ("folds in folds that are open", "fLplLi1E", ""),
+        ("expansions of expressions that are open", "sp", ""),
+        ("braces that are open", "il", "E"),
+        ("braces of a type that are open", "tli", "E"),
+        ("designators that are open", "tl1Adi1a", "E"),
+        ("subobjects that are open", "soi", "E"),
+        ("conversions of members that are open", "mci", "E"),
+        ("sizes of types that are open", "stDT", "E"),
+        ("arguments of `sizeof...` that are open", "sPX", "EE"),
+        ("expressions of vendors that are open", "u1fX", "EE"),
+        ("qualified names with arguments that are open", "sr1fIX", "EEE1x"),
+        ("names with arguments that are open", "1fIX", "EE"),
+        ("destructors that are open", "dnDT", "E"),
+        ("functions as operands that are open", "L_Z1fIX", "EEvvE"),
+    ] {
+        families.extend([(open, front(operator)), (open, nested(operator, behind)), (open, deep(operator, behind))]);
+    }
+    families.extend([
+        ("arguments of a call", list("cl1g", "Li1E")),
+        ("names as arguments of a call", list("cl1g", "1a")),
+        ("operands of a conversion", list("cvi_", "Li1E")),
+        ("braces", list("il", "Li1E")),
+        ("braces in braces", list("il", "ilE")),
+        ("members in braces", list("tl1A", "di1aLi1E")),
+        ("ranges in braces", list("tl1A", "dXLi1ELi2ELi3E")),
+        ("designators", expression(&format!("tl1A{}Li1EE", "di1a".repeat(quarter)))),
+        ("places of `new`", expression(&format!("nw{}_iE", "Li1E".repeat(quarter)))),
+        ("initial values of `new`", list("nw_ipi", "Li1E")),
+        ("arguments of `sizeof...`", list("sP", "i")),
+        ("packs in `sizeof...`", list("sP", "JE")),
+        ("arguments of a vendor's expression", list("u1f", "Li1E")),
+        ("`sizeof...` of a long pack", pack("1AIXsZT_EE")),
+        ("a fold of a long pack", pack("DTflplT_E")),
+        ("a fold with an initial value of a long pack", pack("DTfRplT_Li1EE")),
+        ("an expanded call of a long pack", pack("DTcl1gspT_EE")),
+        ("casts to a long pack", pack("DTcl1gspcvT_Li1EEE")),
+        ("sizes of a long pack", pack(&"1AIXsZT_EE".repeat(10))),
+        ("a long number", expression(&format!("Li{nines}E"))),
+        ("a long single", expression(&format!("Lf{nines}E"))),
+        ("a long double", expression(&format!("Ld{}E", "f".repeat(LONG)))),
+        ("a long extended number", expression(&format!("Le{}E", "0".repeat(LONG)))),
+        ("singles", args("Lf3fc00000E")),
+        ("doubles", args("Ld3ff8000000000000E")),
+        ("extended numbers", args("Le3fffc000000000000000E")),
+        ("expressions as arguments", args("XLi1EE")),
+        ("expressions that are open", args("X")),
+        ("types of expressions", types("DTLi1EE")),
+        ("types of expressions that are open", types("DT")),
+        ("arrays of sizes", types("ALi1E_")),
+        ("vectors of sizes", types("DvLi1E_")),
+        ("integers of a size", types("DBLi1E_")),
+        ("functions with a condition", types("PDOLi1EEFvvE")),
+        ("conditions of functions that are open", types("PDO")),
+        ("qualified names", expression(&format!("sr{}E1x", "1a".repeat(half)))),
+        ("qualified names of a type", expression(&format!("srN3std{}E1x", "1a".repeat(half)))),
+        ("qualified names behind a parameter", format!("_Z1fIiEvDTsrNT_{}E1xE", "1a".repeat(half))),
+        ("arguments of a qualified name", expression(&format!("sr1aI{}EE1x", "i".repeat(LONG)))),
+        ("arguments of an operator", expression(&format!("onplI{}E", "i".repeat(LONG)))),
+        ("global scopes", expression(&"gs".repeat(half))),
+        ("names of operators", expression(&"on".repeat(half))),
+        ("a long parameter", format!("_Z1fiDTfp{nines}_E")),
+        ("a long level of a parameter", format!("_Z1fiDTfL{nines}p_E")),
+        ("parameters of a function in a call", format!("_Z1fiDTcl1g{}EE", "fp_".repeat(LONG / 3))),
+        ("a long offset", expression(&format!("mciLi1E{nines}E"))),
+        ("members of a subobject", expression(&format!("soiLi1E{}E", "_0".repeat(half)))),
+        ("closures as literals", args("LUlvE_E")),
+        ("strings as literals", args("LA1_KcE")),
+        ("throws", front("tw")),
+        ("sizes of parameters that aren't there", front("sZ")),
+    ]);
+    families
+}
+
 /// Long symbols of each family.
 pub fn costly() -> Vec<(&'static str, String)> {
     let mut chained = chain(2);
@@ -364,6 +544,7 @@ pub fn costly() -> Vec<(&'static str, String)> {
     let letters = |letter: &str| format!("_Z1f{}", letter.repeat(LONG));
     let nested = |front: &str, n: usize, end: &str| format!("{}{}", front.repeat(n), end.repeat(n));
     let mut families = long_names_and_types(&replacing["_Z1fIiEv1AIT_E".len()..]);
+    families.extend(long_expressions());
     families.extend([
         ("pointers", pointers(LONG)),
         ("scopes", scopes(LONG / 2)),
@@ -415,7 +596,6 @@ pub fn refused() -> Vec<String> {
         "_Z2f",
         "_Z1f v",
         "_Z1fv ",
-        "_Z1fILZ1gvE1x3EabEvv",
         "_Z1gILZ1fvE1x3EEvv",
         "_ZTALZ1gvE1x0E",
         "_Z1fvv",
@@ -531,6 +711,104 @@ pub fn refused() -> Vec<String> {
         "_Z1fDB_",
         "_Z1fDB1",
         "_Z1fDU_",
+        // Expressions.
+        "_Z1fIX",
+        "_Z1fIXE",
+        "_Z1fIXEEvv",
+        "_Z1fIXLi1E",
+        "_Z1fIXLi1EEvv",
+        "_Z1fIXntEEvv",
+        "_Z1fIXplEEvv",
+        "_Z1fIXplLi1EEEvv",
+        "_Z1fIXquLi1ELi2EEEvv",
+        "_Z1fIXclEEEvv",
+        "_Z1fIXcl1gEEvv",
+        "_Z1fIXcvEEvv",
+        "_Z1fIXcviEEvv",
+        "_Z1fIXcvi_EEvv",
+        "_Z1fIXscEEvv",
+        "_Z1fIXsciEEvv",
+        "_Z1fIXstEEvv",
+        "_Z1fIXszEEvv",
+        "_Z1fIXdtLi1EEEvv",
+        "_Z1fIXixLi1EEEvv",
+        "_Z1fIXppEEvv",
+        "_Z1fIXpp_EEvv",
+        "_Z1fIXawLi1EEEvv",
+        "_Z1fIXnwEEvv",
+        "_Z1fIXnw_EEEvv",
+        "_Z1fIXnw_iEEvv",
+        "_Z1fIXnw_ipiEEvv",
+        "_Z1fIXdlEEvv",
+        "_Z1fIXilEEvv",
+        "_Z1fIXtlEEEvv",
+        "_Z1fIXtl1Adi1aEEEvv",
+        "_Z1fIXtl1AdxLi1EEEEvv",
+        "_Z1fIXtl1AdXLi1ELi2EEEEvv",
+        "_Z1fIXdi1aLi1EEEvv",
+        "_Z1fIXspEEvv",
+        "_Z1fIXsZEEvv",
+        "_Z1fIXsZ1aEEvv",
+        "_Z1fIXsZLi1EEEvv",
+        "_Z1fIXsZfEEvv",
+        "_Z1fIXsPEEvv",
+        "_Z1fIXsPXEEEvv",
+        "_Z1fIXtwEEvv",
+        "_Z1fIXnxEEvv",
+        "_Z1fIXmciEEEvv",
+        "_Z1fIXmciLi1EnEEEvv",
+        "_Z1fIXsoiEEEvv",
+        "_Z1fIXuEEEvv",
+        "_Z1fIXu1aEEvv",
+        "_Z1fIXfEEvv",
+        "_Z1fIXflEEvv",
+        "_Z1fIXflplEEvv",
+        "_Z1fIXflntLi1EEEvv",
+        "_Z1fIXflclLi1EEEvv",
+        "_Z1fIXfLplLi1EEEvv",
+        "_Z1fIXfp0EEvv",
+        "_Z1fIXfLp_EEvv",
+        "_Z1fIXfL0_EEvv",
+        "_Z1fIXT_EEvv",
+        "_Z1fIiEvDTT0_E",
+        "_Z1fIXsrEEvv",
+        "_Z1fIXsr1aEEvv",
+        "_Z1fIXsr1aEEEvv",
+        "_Z1fIXsrSt1aEEvv",
+        "_Z1fIXsrS0_1aEEvv",
+        "_Z1fIXsri1aEEvv",
+        "_Z1fIXgsEEvv",
+        "_Z1fIXgsplLi1ELi2EEEvv",
+        "_Z1fIXgssrSt1a1bEEvv",
+        "_Z1fIXdnEEvv",
+        "_Z1fIXdniEEvv",
+        "_Z1fIXonEEvv",
+        "_Z1fIXonqqEEvv",
+        // Floats.
+        "_Z1fILf3fc0000EEvv",
+        "_Z1fILf3fc000000EEvv",
+        "_Z1fILf3FC00000EEvv",
+        "_Z1fILfn3fc0000EEvv",
+        "_Z1fILfEEvv",
+        "_Z1fILd3ff800000000000EEvv",
+        "_Z1fILd3ff80000000000000EEvv",
+        "_Z1fILd3fc00000EEvv",
+        "_Z1fILe3fffc00000000000000EEvv",
+        "_Z1fILe3fffc0000000000000000EEvv",
+        "_Z1fILf3fc00000",
+        "_Z1fILf3fc0000gEEvv",
+        // Types of expressions, sizes and exceptions that are expressions.
+        "_Z1fDT",
+        "_Z1fDTE",
+        "_Z1fDTLi1E",
+        "_Z1fDt1a",
+        "_Z1fALi1Ei",
+        "_Z1fAnt_i",
+        "_Z1fDvLi1Ef",
+        "_Z1fDBLi1E",
+        "_Z1fPDOEFvvE",
+        "_Z1fPDOLi1EFvvE",
+        "_Z1fPDOLi1EE",
         // Suffixes and blocks.
         "_Z.x",
         "_Z1f_.x",

@@ -23,8 +23,8 @@ mod extracted;
 use crate::extracted::cxx_demangle::{Demangler, Mode, Printing, Style};
 use crate::families::{BOUND, NUMBERED, costly, limited, refused, styled};
 use crate::parts::parts;
-use crate::types::types;
 use crate::rattle::alloc::Global;
+use crate::types::types;
 use std::io::{self, BufRead};
 use std::process::ExitCode;
 use std::sync::Arc;
@@ -141,8 +141,8 @@ fn costs(counts: &mut Counts) {
     println!("{count} families of 100,000 bytes: at most {:?} and {} bytes of memory", most.time, most.bytes);
 }
 
-/// The families of names and types: what each is called, and a part of the declarations or else of the symbols in it.
-const FAMILIES: [(&str, &str, &str); 20] = [
+/// The families of names, types and expressions: what each is called, and a part of the declarations or else of the symbols in it.
+const FAMILIES: [(&str, &str, &str); 34] = [
     ("tags", "[abi:", ""),
     ("unnamed types", "'unnamed", ""),
     ("closures", "'lambda", ""),
@@ -162,6 +162,20 @@ const FAMILIES: [(&str, &str, &str); 20] = [
     ("vendor types", "", "U"),
     ("floating-point types", "_Float", "DF"),
     ("integer types", "_BitInt", ""),
+    ("expressions as arguments", "", "X"),
+    ("types of expressions", "decltype(", ""),
+    ("calls", "(", "cl"),
+    ("conditions", " ? ", "qu"),
+    ("named casts", "_cast<", ""),
+    ("`sizeof`", "sizeof", ""),
+    ("`new`", "new ", ""),
+    ("folds", "...", "f"),
+    ("braces", "{", ""),
+    ("parameters of a function", "fp", ""),
+    ("unresolved names", "::", "sr"),
+    ("destructors in expressions", "~", "dn"),
+    ("floats", "0x", "L"),
+    ("functions with a condition", "noexcept(", "DO"),
     ("suffixes and blocks", "", "."),
 ];
 
