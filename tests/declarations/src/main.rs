@@ -1,7 +1,7 @@
 //! Tests the demangler of declarations at its limits: symbols at and past each limit, families of long symbols with
 //! what they cost, the limit of memory, malformed symbols, allocations that fail, and the stack. Tests the parts of
 //! symbols too, and types alone. Standard input has symbols, one per line. They are read with little stack, and of each
-//! family of names and types all beginnings of some of them. The last line is `N passed, M failed`.
+//! family of names, types and expressions all beginnings of some of them. The last line is `N passed, M failed`.
 //!
 //! usage: declarations
 
@@ -141,7 +141,8 @@ fn costs(counts: &mut Counts) {
     println!("{count} families of 100,000 bytes: at most {:?} and {} bytes of memory", most.time, most.bytes);
 }
 
-/// The families of names, types and expressions: what each is called, and a part of the declarations or else of the symbols in it.
+/// The families of names, types and expressions: what each is called, and a part of the declarations or else of the
+/// symbols in it.
 const FAMILIES: [(&str, &str, &str); 34] = [
     ("tags", "[abi:", ""),
     ("unnamed types", "'unnamed", ""),
