@@ -9,21 +9,22 @@ use Rattle.cxx_tree.specs.Measure.{measure, count}
 use Rattle.cxx_tree.specs.Bind.{bind, as_pack}
 use Rattle.cxx_grammar.specs.Words.{builtin_of, d_builtin_of, integer_of, std_of, operator_of}
 use Rattle.cxx_grammar.specs.Parses.{past_word_if, repeat_at_most}
-use Rattle.cxx_grammar.specs.Bases.{base_name, args_of, is_with_args, is_param, is_param_class, expand}
-use Rattle.cxx_grammar.specs.Binds.{bind_args, bind_closure, parse_closed, bind_encoding}
+use Rattle.cxx_grammar.specs.Bases.{base_name, args_of, is_with_args, is_module, is_param, is_param_class, expand}
+use Rattle.cxx_grammar.specs.Binds.{bind_args, bind_declared, parse_closed, bind_encoding}
 use Rattle.cxx_grammar.specs.Locals.{past_digits, past_discriminator, local_as}
 use Rattle.cxx_grammar.specs.Ordinals.{more_of, without_zeros, ordinal_digits}
 use Rattle.cxx_grammar.specs.Unnamed.{parse_closure, parse_lambda}
 use Rattle.cxx_grammar.specs.Leaves.{parse_call_offset, parse_temporary_id, parse_substitution, parse_template_param, parse_cv, parse_ref, parse_builtin, parse_bool, parse_null, parse_integer, parse_abi_tags, parse_float_type, parse_function_param, parse_float}
+use Rattle.cxx_grammar.specs.Modules.{parse_subnames, parse_module, parse_module_substitution}
 use Rattle.cxx_grammar.specs.Floats.{are_hex, hex_three, significant_len, doubled_text, single_size, single_fraction, float_text, float_digits}
 use Rattle.cxx_grammar.specs.Args.{literal_as, arg_as}
-use Rattle.cxx_grammar.specs.Names.{base_as, parse_class_of, part_as, parse_unqualified_name, parse_named_args, parse_in_place, parse_info, parse_component, first_as, parse_next, parse_components, name_as}
+use Rattle.cxx_grammar.specs.Names.{base_as, parse_class_of, part_as, parse_front, parse_unqualified_name, parse_named_args, parse_in_place, parse_info, parse_component, first_as, parse_next, parse_components, name_as}
 use Rattle.cxx_grammar.specs.Types.{exception_as, parse_function_mark, parse_dimension, type_as}
 use Rattle.cxx_grammar.specs.Rows.{parse_list, parse_params, t_special_of, g_special_of, type_row_of, parse_size, tree_as, item_as, parse_items, make_none, make_one, make_two, make_three, make_few, make_as, parse_row, ends}
 use Rattle.cxx_grammar.specs.Operators.{fold_row_of, expression_row_of, braced_row_of}
 use Rattle.cxx_grammar.specs.Unresolved.{unresolved_type_as, parse_args_if_any, operator_as, skip_on, base_name_as, parse_scope_list, unresolved_as, global_as}
-use Rattle.cxx_grammar.specs.Expressions.{parse_placement, parse_offset_end, parse_vendor_operands, expression_as}
-use Rattle.cxx_grammar.specs.Encodings.{parse_signature, encoding_as}
+use Rattle.cxx_grammar.specs.Expressions.{parse_to_underscore, parse_offset_end, parse_vendor_operands, expression_as}
+use Rattle.cxx_grammar.specs.Encodings.{parse_enable_if, parse_signature, encoding_as}
 use Rattle.cxx_grammar.specs.Symbol.{Reading, productions, parse_symbol, symbol_as, parse_block_mark}
 use Rattle.cxx_printer.specs.Words.{ending, short_std_text, long_std_text, std_text, cv_text, ref_text, mark, opened, member_opened, closed}
 use Rattle.cxx_printer.specs.Heads.{prec_of, rank, is_simple, has_args, is_designator, is_scoped, is_objc_object, protocol_of, count_item, count_items, count_of}
@@ -43,18 +44,18 @@ some_by printing symbol answer is short utf8 = go (parse_symbol symbol) refl is
     go (Some t) e f = has_answer printing (parse_symbol symbol) t answer e (let g = sym f in cc) (record { short = short; utf8 = IsUtf8-from_is_utf8 answer utf8 })
 
 pub worked_symbols : WorkedSymbols
-unfolding productions parse_unqualified_name parse_named_args parse_in_place parse_component parse_next parse_components
+unfolding productions parse_subnames parse_module parse_module_substitution parse_front parse_unqualified_name parse_named_args parse_in_place parse_component parse_next parse_components
     parse_info parse_class_of part_as base_as first_as name_as parse_list literal_as arg_as type_as exception_as
-    parse_function_mark parse_dimension parse_size parse_abi_tags parse_float_type parse_params bind_closure past_digits
+    parse_function_mark parse_dimension parse_size parse_abi_tags parse_float_type parse_params bind_declared past_digits
     past_discriminator local_as more_of without_zeros ordinal_digits parse_closure is_param_class symbol_as parse_block_mark
-    parse_signature encoding_as t_special_of g_special_of type_row_of tree_as item_as parse_items
+    parse_enable_if parse_signature encoding_as t_special_of g_special_of type_row_of tree_as item_as parse_items
     make_none make_one make_two make_three make_few make_as parse_row ends fold_row_of expression_row_of braced_row_of
     unresolved_type_as parse_args_if_any operator_as skip_on base_name_as parse_scope_list unresolved_as global_as
-    parse_placement parse_offset_end parse_vendor_operands expression_as parse_lambda parse_function_param parse_float
+    parse_to_underscore parse_offset_end parse_vendor_operands expression_as parse_lambda parse_function_param parse_float
     are_hex hex_three significant_len doubled_text single_size single_fraction float_text float_digits past_word_if repeat_at_most parse_call_offset parse_temporary_id parse_substitution
     parse_template_param parse_cv
     parse_ref parse_builtin parse_bool parse_null parse_integer builtin_of d_builtin_of integer_of std_of operator_of
-    base_name args_of is_with_args is_param expand bind_args parse_closed bind_encoding bind as_pack measure count
+    base_name args_of is_with_args is_module is_param expand bind_args parse_closed bind_encoding bind as_pack measure count
     front_digits weighted number source_name index_of digits number_text optional_number_text identifier
     print list_from last_ends sequence separated repeated ending short_std_text long_std_text std_text cv_text
     ref_text mark opened member_opened closed prec_of rank is_simple has_args is_designator is_scoped is_objc_object
@@ -81,4 +82,8 @@ worked_symbols = record {
   expression = some_by _ (codes "_Z1fIiEDTplfp_Li1EET_") (codes "decltype(fp + 1) f<int>(int)") refl (omega arith) refl;
   scope = some_by _ (codes "_Z1fI1BEDTsr1AIT_EE1xES1_") (codes "decltype(A<B>::x) f<B>(B)") refl (omega arith) refl;
   fold = some_by _ (codes "_Z1fIJicEEDTfrplfp_EDpT_") (codes "decltype(((fp...) + ...)) f<int, char>(int, char)") refl (omega arith) refl;
+  partition = some_by _ (codes "_ZW1MWP1N1fv") (codes "f@M:N()") refl (omega arith) refl;
+  friend = some_by _ (codes "_ZN1AF1fEv") (codes "A::friend f()") refl (omega arith) refl;
+  object = some_by _ (codes "_ZNH1A1fES_") (codes "A::f(this A)") refl (omega arith) refl;
+  condition = some_by _ (codes "_Z1fUa9enable_ifILi1EEv") (codes "f() [enable_if:1]") refl (omega arith) refl;
 }

@@ -51,9 +51,9 @@ no_answer printing read t text reads is bad u r good = bad (subst IsText (ap (te
 
 -- a demangler begins with nothing saved
 pub started : (way : Entry) {x : Option (Reading × State)} (text : List ℕ) (saved : List Tree) → saved ≡ []
-    → entry_parser way (record { rest = text; saved = saved; replaced = 0; level = 0 }) ≡ x → parse_entry way text ≡ found_of x
+    → entry_parser way (record { rest = text; saved = saved; replaced = 0; invented = record { types = 0; values = 0; templates = 0 }; level = 0 }) ≡ x → parse_entry way text ≡ found_of x
 started way text saved e f =
-    ap (λ (ts : List Tree). found_of (entry_parser way (record { rest = text; saved = ts; replaced = 0; level = 0 }))) (sym e) ∙ ap found_of f
+    ap (λ (ts : List Tree). found_of (entry_parser way (record { rest = text; saved = ts; replaced = 0; invented = record { types = 0; values = 0; templates = 0 }; level = 0 }))) (sym e) ∙ ap found_of f
 
 -- the answer, after the test of the text
 pub answered : (printing : Printing) (read : Option Reading) (r : Reading) (text : List ℕ) → read ≡ Some r → text ≡ text_of printing r

@@ -50,3 +50,11 @@ pub record WorkedSymbols : Type 0 where
   -- a fold
   pub fold : IsAnswer whole (codes "_Z1fIJicEEDTfrplfp_EDpT_")
       (Some (codes "decltype(((fp...) + ...)) f<int, char>(int, char)"))
+  -- a partition of a module
+  pub partition : IsAnswer whole (codes "_ZW1MWP1N1fv") (Some (codes "f@M:N()"))
+  -- a friend
+  pub friend : IsAnswer whole (codes "_ZN1AF1fEv") (Some (codes "A::friend f()"))
+  -- a function with an explicit object
+  pub object : IsAnswer whole (codes "_ZNH1A1fES_") (Some (codes "A::f(this A)"))
+  -- a function with a condition
+  pub condition : IsAnswer whole (codes "_Z1fUa9enable_ifILi1EEv") (Some (codes "f() [enable_if:1]"))

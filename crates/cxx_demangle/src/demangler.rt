@@ -24,7 +24,7 @@ use cxx_printer::{
     Kind, Mode, Style, Symbol, has_qualifiers, kind_of, print_base_name, print_context,
     print_parameters, print_return_type, print_symbol,
 };
-use cxx_reader::{Reader, Reading, read_symbol, read_type_alone};
+use cxx_reader::{Invented, Reader, Reading, read_symbol, read_type_alone};
 use cxx_tree::{Arena, Stop};
 use growing_text::Text;
 use std::alloc::{AllocError, Global};
@@ -167,6 +167,11 @@ fn read(
         rest: text,
         arena: cleared,
         replaced: 0,
+        invented: Invented {
+            types: 0,
+            values: 0,
+            templates: 0,
+        },
         level: 0,
         alloc,
     };

@@ -14,9 +14,9 @@ use Rattle.cxx_grammar.specs.Productions.{Productions}
 use Rattle.cxx_grammar.specs.Rows.{parse_list, parse_row, expression_arg_row, encoding_row}
 use Rattle.cxx_grammar.specs.Unnamed.{parse_lambda}
 
--- <template-args> ::= I <template-arg>* E
+-- <template-args> ::= I E | I <template-arg>+ [Q <expression>] E
 abbrev pub parse_args : Productions → Parses Trees
-parse_args p = if_next "I" (parse_list p 1 item.Arg) refused
+parse_args p = if_next "I" (parse_list p 1 item.ConstrainedArg) refused
 
 -- a name with its arguments
 abbrev pub parse_with_args : Productions → Tree → Parses Tree
@@ -73,8 +73,15 @@ parse_literal p = do
   past 1
   by case_of_literal (literal_as p)
 
+-- <template-param-decl> <template-arg>. The declaration isn't printed
+abbrev pub parse_declared_arg : Productions → Parses Tree
+parse_declared_arg p = do
+  p.declaration 0
+  p.arg
+
 unfoldable pub arg_as : Productions → ArgCase → Parses Tree
 arg_as p arg.Expression = parse_row p expression_arg_row
+arg_as p arg.Declared = parse_declared_arg p
 arg_as p arg.Pack = parse_pack p
 arg_as p arg.Encoding = parse_row p encoding_row
 arg_as p arg.Literal = parse_literal p
@@ -84,6 +91,7 @@ arg_as p arg.Type = p.type false
 --                ::= X <expression> E
 --                ::= <expr-primary>
 --                ::= J <template-arg>* E
+--                ::= <template-param-decl> <template-arg>
 --                ::= LZ <encoding> E, as old compilers write the address of a function or of an object
 abbrev pub parse_arg : Productions → Parses Tree
 parse_arg p = by case_of_arg (arg_as p)

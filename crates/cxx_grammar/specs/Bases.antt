@@ -2,7 +2,9 @@
 use Rattle.std.specs.Prelude.{ℕ, List, [], codes, Bool, true, false, Option, Some, None}
 use Rattle.cxx_tree.specs.declared.kinds.Std.{Std}
 use Rattle.cxx_tree.specs.declared.kinds.Std.TheVariants as std
-use Rattle.cxx_tree.specs.Tree.{Tree, Trees, named, leaf, std_name, scoped, with_args, abi_tag, in_module, param}
+use Rattle.cxx_tree.specs.declared.kinds.Role.{Role}
+use Rattle.cxx_tree.specs.declared.kinds.Role.TheVariants as role
+use Rattle.cxx_tree.specs.Tree.{Tree, Trees, named, leaf, std_name, phrase, scoped, with_args, abi_tag, in_module, param, type_param, non_type_param, template_param, pack_param}
 
 -- an abbreviation of std without `std::` and arguments; whether it is written out
 abbrev pub std_base : Std → Bool → List ℕ
@@ -48,6 +50,15 @@ unfoldable pub is_param : Tree → Bool
 is_param (param level index) = true
 is_param t = false
 
+abbrev pub is_module_role : Role → Bool
+is_module_role role.Module = true
+is_module_role other = false
+
+-- the name of a module
+unfoldable pub is_module : Tree → Bool
+is_module (phrase attributes parts) = is_module_role attributes.role
+is_module t = false
+
 -- a template parameter, with arguments or without. It isn't known which name its constructors would have
 unfoldable pub is_param_class : Tree → Bool
 is_param_class (param level index) = true
@@ -58,3 +69,11 @@ is_param_class t = false
 unfoldable pub expand : Tree → Tree
 expand (std_name std expanded) = std_name std true
 expand t = t
+
+-- the name that a declaration of a template parameter invents
+unfoldable pub declared_name : Tree → Tree
+declared_name (type_param front name) = name
+declared_name (non_type_param name t) = name
+declared_name (template_param name declarations rest) = name
+declared_name (pack_param declaration) = declared_name declaration
+declared_name t = t

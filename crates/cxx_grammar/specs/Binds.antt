@@ -1,34 +1,50 @@
 -- What becomes of template parameters when their binder is complete.
 use Rattle.std.specs.Prelude.{◌||◌, ℕ, ◌+◌, List, [], ◌∷◌, ◌++◌, nat_eq, nat_le, Bool, true, false, is_some, Option, Some, None, if◌then◌else◌}
-use Rattle.cxx_tree.specs.declared.bind.Others.TheVariants.{Auto, Keep}
+use Rattle.cxx_tree.specs.declared.bind.Others.TheVariants.{Keep, Written}
+use Rattle.cxx_tree.specs.declared.bind.Others.{Others}
 use Rattle.cxx_tree.specs.Tree.{Tree, Trees, no_trees, more_trees}
 use Rattle.cxx_tree.specs.Measure.{measure}
 use Rattle.cxx_tree.specs.Bind.{Binding, bind}
 use Rattle.cxx_grammar.specs.State.{Info, LearnedName}
 use Rattle.cxx_grammar.specs.Parses.{Parses, ◌>>=◌, ◌>>◌, pure, check, make}
-use Rattle.cxx_grammar.specs.Bases.{args_of}
+use Rattle.cxx_grammar.specs.Bases.{args_of, declared_name}
 
 -- at most 65,536 nodes of a symbol are counted
 abbrev pub count_nodes : ℕ → Parses (Unit {0})
 count_nodes n s = if nat_le (s.replaced + n) 65536 then Some (tt, record s { replaced = s.replaced + n }) else None
 
--- the nodes of a tree that are or contain a template parameter
+-- the nodes of a tree that are or contain a template parameter, whether it is replaced or not
 abbrev pub count_replaced : Tree → Parses (Unit {0})
 count_replaced t = count_nodes (measure t).params
 
--- a closure: each parameter from its level on is `auto`
-unfoldable pub bind_closure : ℕ → Tree → Parses Tree
-bind_closure level t = do
+-- what is bound is within the limits
+abbrev pub bind_by : Binding → Tree → Parses Tree
+bind_by binding t = make (bind binding t)
+
+-- the names of declarations
+unfoldable pub names_of : Trees → List Tree
+names_of no_trees = []
+names_of (more_trees declaration declarations) = declared_name declaration ∷ names_of declarations
+
+-- a binder with these declarations: each parameter of its level that has one becomes its name
+unfoldable pub bind_declared : ℕ → Others → Trees → Tree → Parses Tree
+bind_declared level others declarations t = do
   count_replaced t
-  make (bind (record { level = level; names = []; others = Auto }) t)
+  bind_by (record { level = level; names = names_of declarations; others = others }) t
+
+-- a constraint: its template parameters are printed as they are mangled. Compilers write parameters of outer classes
+-- there, for which no argument stands
+unfoldable pub bind_constraint : Tree → Parses Tree
+bind_constraint e = do
+  count_replaced e
+  bind_by (record { level = 0; names = []; others = Written }) e
 
 -- the parameters of an encoding stand for these trees
 abbrev pub binding_of : List Tree → Binding
 binding_of args = record { level = 0; names = args; others = Keep }
 
--- what is bound is within the limits
 abbrev pub bind_tree : List Tree → Tree → Parses Tree
-bind_tree args t = make (bind (binding_of args) t)
+bind_tree args t = bind_by (binding_of args) t
 
 -- an argument that isn't part of the encoding's tree is counted by itself
 abbrev pub count_arg : Bool → Tree → Parses (Unit {0})

@@ -1,6 +1,6 @@
 -- Which case of a production the next bytes select. Each table is in order: the first row that fits is taken.
 use Prim.Native.String.{String}
-use Rattle.std.specs.Prelude.{ℕ, List, [], ◌∷◌, codes, Bool, true, false, ◌||◌, ◌&&◌, if◌then◌else◌, drop, is_some}
+use Rattle.std.specs.Prelude.{ℕ, List, [], ◌∷◌, codes, Bool, true, false, ◌||◌, ◌&&◌, not, if◌then◌else◌, drop, is_some}
 use Rattle.abi_scalars.specs.Bytes.{begins, begins_between, begins_digit, begins_one_of, past_letter, letter}
 use Rattle.cxx_grammar.specs.Words.{builtin_of, integer_of}
 use Rattle.cxx_grammar.specs.declared.cases.PrefixCase.{PrefixCase}
@@ -32,6 +32,10 @@ use Rattle.cxx_grammar.specs.declared.cases.UnresolvedCase.{UnresolvedCase}
 use Rattle.cxx_grammar.specs.declared.cases.UnresolvedCase.TheVariants as unresolved
 use Rattle.cxx_grammar.specs.declared.cases.UnresolvedTypeCase.{UnresolvedTypeCase}
 use Rattle.cxx_grammar.specs.declared.cases.UnresolvedTypeCase.TheVariants as unresolved_type
+use Rattle.cxx_grammar.specs.declared.cases.DeclarationCase.{DeclarationCase}
+use Rattle.cxx_grammar.specs.declared.cases.DeclarationCase.TheVariants as declaration
+use Rattle.cxx_grammar.specs.declared.cases.RequirementCase.{RequirementCase}
+use Rattle.cxx_grammar.specs.declared.cases.RequirementCase.TheVariants as requirement
 use Rattle.cxx_grammar.specs.declared.cases.BaseNameCase.{BaseNameCase}
 use Rattle.cxx_grammar.specs.declared.cases.BaseNameCase.TheVariants as base_name
 
@@ -54,6 +58,14 @@ case_of_prefix bytes = case_in prefixes prefix.None bytes
 abbrev pub is_encoding_end : List ℕ → Bool
 is_encoding_end [] = true
 is_encoding_end (b ∷ bytes) = begins_one_of (codes "E._") (b ∷ bytes)
+
+-- the parameters of an encoding also end before its constraint
+abbrev pub is_params_end : List ℕ → Bool
+is_params_end bytes = is_encoding_end bytes || begins (codes "Q") bytes
+
+-- the parameters of a lambda end before `E` or a constraint
+abbrev pub is_lambda_end : List ℕ → Bool
+is_lambda_end bytes = begins_one_of (codes "EQ") bytes
 
 -- the parameters of a function type end before `E`, `RE` or `OE`
 abbrev pub is_function_end : List ℕ → Bool
@@ -107,6 +119,7 @@ case_of_component bytes =
 
 abbrev pub bases : List (String × BaseCase)
 bases =
+    ("DC", base.Bindings) ∷
     ("Ut", base.Unnamed) ∷
     ("Ub", base.Block) ∷
     ("Ul", base.Closure) ∷
@@ -148,6 +161,8 @@ types =
     ("DF", type_case.Float) ∷
     ("DB", type_case.Row) ∷
     ("DU", type_case.Row) ∷
+    ("Dk", type_case.Row) ∷
+    ("DK", type_case.Row) ∷
     ("D", type_case.Builtin) ∷
     ("A", type_case.Array) ∷
     ("Ts", type_case.SavedRow) ∷
@@ -180,6 +195,11 @@ case_of_exception bytes = case_in exceptions exception.None bytes
 abbrev pub args : List (String × ArgCase)
 args =
     ("X", arg.Expression) ∷
+    ("Ty", arg.Declared) ∷
+    ("Tk", arg.Declared) ∷
+    ("Tn", arg.Declared) ∷
+    ("Tt", arg.Declared) ∷
+    ("Tp", arg.Declared) ∷
     ("J", arg.Pack) ∷
     ("LZ", arg.Encoding) ∷
     ("L", arg.Literal) ∷ []
@@ -220,6 +240,8 @@ expressions =
     ("fp", expression.FunctionParam) ∷
     ("fL", expression.FunctionParam) ∷
     ("so", expression.Subobject) ∷
+    ("rq", expression.Requires false) ∷
+    ("rQ", expression.Requires true) ∷
     ("u", expression.Vendor) ∷
     ("aw", expression.Unread) ∷ []
 
@@ -256,3 +278,27 @@ abbrev pub case_of_base_name : List ℕ → BaseNameCase
 case_of_base_name bytes =
     if begins_digit bytes then base_name.Simple else
     if begins (codes "dn") bytes then base_name.Destructor else base_name.Operator
+
+abbrev pub declarations : List (String × DeclarationCase)
+declarations =
+    ("Ty", declaration.Type) ∷
+    ("Tk", declaration.Constrained) ∷
+    ("Tn", declaration.Value) ∷
+    ("Tt", declaration.Template) ∷
+    ("Tp", declaration.Pack) ∷ []
+
+abbrev pub case_of_declaration : List ℕ → DeclarationCase
+case_of_declaration bytes = case_in declarations declaration.Unread bytes
+
+-- a list of declarations has no mark at its end
+abbrev pub is_declarations_end : List ℕ → Bool
+is_declarations_end bytes = not (begins (codes "T") bytes && begins_one_of (codes "ykntp") (drop 1 bytes))
+
+abbrev pub requirements : List (String × RequirementCase)
+requirements =
+    ("X", requirement.Expression) ∷
+    ("T", requirement.Type) ∷
+    ("Q", requirement.Nested) ∷ []
+
+abbrev pub case_of_requirement : List ℕ → RequirementCase
+case_of_requirement bytes = case_in requirements requirement.Unread bytes

@@ -2,12 +2,13 @@
 use Rattle.std.specs.Prelude.{ℕ, List, [], ◌∷◌, codes, bytes_eq, Bool, false, not, ◌&&◌, if◌then◌else◌}
 use Rattle.cxx_tree.specs.Tree.{Tree, Trees, no_trees}
 use Rattle.cxx_tree.specs.Stored.{trees_from_list}
-use Rattle.cxx_tree.specs.Phrases.{call, new_expression, subobject}
+use Rattle.cxx_tree.specs.Phrases.{call, new_expression, requires_expression, subobject}
 use Rattle.cxx_tree.specs.Texts.{number_printed}
 use Rattle.abi_scalars.specs.Bytes.{begins, begins_one_of}
 use Rattle.cxx_grammar.specs.declared.cases.ExpressionCase.{ExpressionCase}
 use Rattle.cxx_grammar.specs.declared.cases.ExpressionCase.TheVariants as expression
 use Rattle.cxx_grammar.specs.declared.rows.End.TheVariants as end
+use Rattle.cxx_grammar.specs.declared.rows.Item.{Item}
 use Rattle.cxx_grammar.specs.declared.rows.Item.TheVariants as item
 use Rattle.cxx_grammar.specs.Parses.{Parses, ◌>>=◌, ◌>>◌, pure, refused, past, expect, past_word_if, by, if_bytes, if_next, repeat, make}
 use Rattle.cxx_grammar.specs.Cases.{case_of_expression}
@@ -18,15 +19,15 @@ use Rattle.cxx_grammar.specs.Operators.{expression_row_of, braced_row_of}
 use Rattle.cxx_grammar.specs.Args.{parse_literal}
 use Rattle.cxx_grammar.specs.Unresolved.{parse_unresolved_name, parse_global_name}
 
--- New.
-
--- <expression>* _, after n bytes
-unfoldable pub parse_placement : Productions → ℕ → Parses Trees
-parse_placement p n = do
+-- items up to a `_`, which is read, behind n letters
+unfoldable pub parse_to_underscore : Productions → ℕ → Item → Parses Trees
+parse_to_underscore p n item = do
   past n
-  places ← list_after p item.Expression end.Underscore []
+  trees ← list_after p item end.Underscore []
   expect "_"
-  pure (trees_from_list places)
+  pure (trees_from_list trees)
+
+-- New.
 
 abbrev pub parse_no_values : Parses Trees
 parse_no_values = do
@@ -44,7 +45,7 @@ new_len is_global = if is_global then 4 else 2
 -- [gs] nw <expression>* _ <type> E | [gs] nw <expression>* _ <type> <initializer>, and the same with na
 abbrev pub parse_new : Productions → Bool → Bool → Parses Tree
 parse_new p is_global is_array = do
-  places ← parse_placement p (new_len is_global)
+  places ← parse_to_underscore p (new_len is_global) item.Expression
   t ← p.type false
   values ← parse_initializer p
   make (new_expression places t values is_global is_array)
@@ -82,17 +83,40 @@ parse_subobject p = do
   offset ← parse_offset_end
   make (subobject t e offset)
 
+-- Requires expressions.
+
+abbrev pub parse_no_params : Parses Trees
+parse_no_params = do
+  past 2
+  pure no_trees
+
+-- rQ <type>* _, or rq
+abbrev pub parse_requires_params : Productions → Bool → Parses Trees
+parse_requires_params p has_params =
+    if has_params then parse_to_underscore p 2 item.Type else parse_no_params
+
+-- <requirement>+ E
+abbrev pub parse_requirements : Productions → Parses Trees
+parse_requirements p = if_next "E" refused (parse_list p 0 item.Requirement)
+
+-- rq <requirement>+ E | rQ <type>* _ <requirement>+ E
+abbrev pub parse_requires : Productions → Bool → Parses Tree
+parse_requires p has_params = do
+  params ← parse_requires_params p has_params
+  requirements ← parse_requirements p
+  make (requires_expression params requirements)
+
 -- Expressions of vendors.
 
 abbrev pub one : Tree → Trees
 one t = trees_from_list (t ∷ [])
 
--- t <type> | z <expression>
 abbrev pub parse_uuid_expression : Productions → Parses Tree
 parse_uuid_expression p = do
   past 1
   p.expression
 
+-- t <type> | z <expression>
 abbrev pub parse_uuid_tree : Productions → Parses Tree
 parse_uuid_tree p = do
   is_type ← past_word_if (codes "t")
@@ -127,6 +151,7 @@ expression_as p expression.Literal = parse_literal p
 expression_as p expression.Param = parse_template_param
 expression_as p expression.FunctionParam = parse_function_param
 expression_as p expression.Subobject = parse_subobject p
+expression_as p (expression.Requires has_params) = parse_requires p has_params
 expression_as p expression.Vendor = parse_vendor_expression p
 expression_as p expression.Unread = refused
 expression_as p expression.Name = parse_unresolved_name p
@@ -147,6 +172,7 @@ parse_other_expression p = by case_of_expression (expression_as p)
 --              ::= ti <type> | te <expression> | st <type> | sz <expression> | at <type> | az <expression>
 --              ::= nx <expression>
 --              ::= so .. | mc ..
+--              ::= rq <requirement>+ E | rQ <type>* _ <requirement>+ E
 --              ::= <template-param>
 --              ::= <function-param>
 --              ::= dt <expression> <unresolved-name> | pt <expression> <unresolved-name>

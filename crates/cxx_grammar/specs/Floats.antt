@@ -52,7 +52,7 @@ are_zeros digits = nat_eq (significant_len digits) 0
 abbrev pub fraction_text : List ℕ → List ℕ
 fraction_text digits = if are_zeros digits then [] else codes "." ++ take (significant_len digits) digits
 
--- p, and an exponent that is so much too great
+-- p, and an exponent from which its bias is taken
 abbrev pub exponent_text : ℕ → ℕ → List ℕ
 exponent_text e bias =
     if nat_le bias e then codes "p+" ++ decimal (e - bias) else codes "p-" ++ decimal (bias - e)

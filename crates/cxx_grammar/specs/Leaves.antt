@@ -154,12 +154,26 @@ parse_substitution = do
   bytes ← look
   substitution_as (std_of bytes)
 
+-- <number> _, of which the number isn't left out
+abbrev pub parse_outer_level : Parses ℕ
+parse_outer_level = do
+  past 1
+  bytes ← look
+  check (begins_digit bytes)
+  of_bytes (index_of Decimal)
+
+-- [L <number> _]: the level of a template parameter
+unfoldable pub parse_param_level : Parses ℕ
+parse_param_level = if_next "L" parse_outer_level (pure 0)
+
 -- <template-param> ::= T_ | T <number> _
+--                  ::= TL <level-1 number> __ | TL <level-1 number> _ <number> _
 unfoldable pub parse_template_param : Parses Tree
 parse_template_param = do
   past 1
+  level ← parse_param_level
   index ← of_bytes (index_of Decimal)
-  make (param 0 index)
+  make (param level index)
 
 -- Qualifiers.
 

@@ -6,9 +6,13 @@ pub mod Bases
 pub mod Ordinals
 pub mod Floats
 pub mod Leaves
+pub mod Modules
 pub mod Binds
 pub mod Productions
+pub mod Requirements
 pub mod Rows
+pub mod Constraints
+pub mod Declarations
 pub mod Operators
 pub mod Unnamed
 pub mod Args
@@ -19,3 +23,4 @@ pub mod Types
 pub mod Expressions
 pub mod Encodings
 pub mod Symbol
+pub mod WrittenOut

@@ -64,7 +64,7 @@ binary_rows =
     ("rs", between ">>" Shift) ∷
     ("ss", between "<=>" Spaceship) ∷ assignment_rows
 
--- dt <expression> <unresolved-name> | pt <expression> <unresolved-name>
+-- dt <expression> <unresolved-name> | pt <expression> <unresolved-name>, where any expression may be the name
 -- ds <expression> <expression> | pm <expression> <expression>
 abbrev pub member_by : String → Prec → Row
 member_by symbol prec = made (maker.Member prec) symbol two_operands
@@ -91,7 +91,7 @@ word_of_operand word prec = made (maker.Enclosing prec) word one_operand
 abbrev pub deleted : String → Row
 deleted word = made maker.Unary word one_operand
 
--- <unary operator-name> <expression>, and those of one type or of one expression in parentheses
+-- those of one expression or of one type, and then those that a fold may have
 abbrev pub unary_rows : List (String × Row)
 unary_rows =
     ("ad", in_front "&") ∷

@@ -1,5 +1,5 @@
 -- The counted productions: each cycle of the grammar goes through one of them, and at most so many may nest.
-use Rattle.std.specs.Prelude.{Bool}
+use Rattle.std.specs.Prelude.{ℕ, Bool}
 use Rattle.cxx_tree.specs.Tree.{Tree}
 use Rattle.cxx_grammar.specs.State.{LearnedName}
 use Rattle.cxx_grammar.specs.Parses.{Parses, ◌<$>◌, refused}
@@ -22,6 +22,8 @@ pub record Productions : Type 0 where
   pub expression : Parses Tree
   -- <braced-expression>
   pub braced : Parses Tree
+  -- <template-param-decl>, with its number
+  pub declaration : ℕ → Parses Tree
 
 -- a name of which nothing else matters
 abbrev pub name_tree : Productions → Parses Tree
@@ -37,4 +39,5 @@ no_productions = record {
   arg = refused;
   expression = refused;
   braced = refused;
+  declaration = λ number. refused;
 }

@@ -5,7 +5,7 @@ use Rattle.cxx_tree.specs.declared.kinds.Prec.{Prec}
 use Rattle.cxx_tree.specs.declared.kinds.Prec.TheVariants.{Primary, Unary}
 use Rattle.cxx_tree.specs.Tree.{Tree, Trees, expansion, listed}
 use Rattle.cxx_tree.specs.Stored.{trees_from_list}
-use Rattle.cxx_tree.specs.Phrases.{binary, call, conditional, conversion, count, ctor_vtable, designated, designated_range, enclosing, fold, init_list, member, named_cast, postfix_op, prefix_op, prefixed, subscript}
+use Rattle.cxx_tree.specs.Phrases.{binary, bindings, call, conditional, conversion, count, ctor_vtable, designated, designated_range, enclosing, fold, init_list, member, named_cast, postfix_op, prefix_op, prefixed, subscript, suffixed}
 use Rattle.abi_scalars.specs.Bytes.{begins, begins_digit}
 use Rattle.abi_scalars.specs.Texts.{optional_number_text}
 use Rattle.cxx_grammar.specs.declared.rows.End.{End}
@@ -15,10 +15,12 @@ use Rattle.cxx_grammar.specs.declared.rows.Item.TheVariants as item
 use Rattle.cxx_grammar.specs.declared.rows.Maker.{Maker}
 use Rattle.cxx_grammar.specs.declared.rows.Maker.TheVariants as maker
 use Rattle.cxx_grammar.specs.Parses.{Parses, ◌>>=◌, ◌>>◌, pure, refused, given, look, past, expect, optional, of_bytes, if_bytes, if_next, item_more, items_after, is_e, make}
-use Rattle.cxx_grammar.specs.Cases.{is_encoding_end, is_function_end}
+use Rattle.cxx_grammar.specs.Cases.{is_params_end, is_lambda_end, is_function_end}
 use Rattle.cxx_grammar.specs.Words.{row}
 use Rattle.cxx_grammar.specs.Leaves.{make_name, parse_digits, parse_source_name, parse_template_param, parse_function_param, parse_offset, parse_call_offset, parse_temporary_id}
+use Rattle.cxx_grammar.specs.Modules.{parse_module}
 use Rattle.cxx_grammar.specs.Productions.{Productions, name_tree}
+use Rattle.cxx_grammar.specs.Requirements.{parse_constrained_arg, parse_requirement}
 
 -- a text in LLVM's style, and in GNU's
 pub record Styled : Type 0 where
@@ -46,7 +48,7 @@ behind_words skip items llvm gnu = record {
 abbrev pub behind : String → List Item → Row
 behind words items = behind_words 2 items words words
 
--- another tree behind a code of two letters, with the same words in both styles
+-- what a maker makes of items behind a code of two letters, with the same words in both styles
 abbrev pub coded : Maker → List ℕ → List Item → Row
 coded maker words items =
     record { skip = 2; items = items; maker = maker; words = record { llvm = words; gnu = words } }
@@ -62,6 +64,7 @@ made maker words items = coded maker (codes words) items
 --                ::= T <call-offset> <encoding>
 --                ::= GV <name>
 --                ::= GR <name> [[<seq-id>] _]
+--                ::= GI <module-name>
 --                ::= GTt <encoding> | GTn <encoding>
 
 -- those after `T`
@@ -87,6 +90,7 @@ abbrev pub g_specials : List (String × Row)
 g_specials =
     ("V", behind "guard variable for " (item.Name ∷ [])) ∷
     ("R", behind "reference temporary for " (item.Name ∷ item.SeqId ∷ [])) ∷
+    ("I", behind "initializer for module " (item.Module ∷ [])) ∷
     ("Tt", behind_words 3 (item.Encoding ∷ []) "transaction clone for " "transaction clone for ") ∷
     ("Tn", behind_words 3 (item.Encoding ∷ []) "non-transaction clone for " "non-transaction clone for ") ∷ []
 
@@ -108,7 +112,13 @@ abbrev pub decltype_row : Row
 decltype_row =
     record (behind_words 2 (item.Expression ∷ item.E ∷ []) "decltype" "decltype ") { maker = maker.Enclosing Primary }
 
+-- words behind the tree of an item, behind a code of two letters
+abbrev pub followed_by : String → List Item → Row
+followed_by words items = made maker.Suffixed words items
+
 -- <builtin-type> ::= DB <number> _ | DB <expression> _ | DU <number> _ | DU <expression> _
+--                ::= Dk <type-constraint> | DK <type-constraint>
+-- <type-constraint> ::= <name>
 -- <class-enum-type> ::= Ts <name> | Tu <name> | Te <name>
 abbrev pub type_rows : List (String × Row)
 type_rows =
@@ -116,12 +126,18 @@ type_rows =
     ("DT", decltype_row) ∷
     ("DB", enclosed_by "_BitInt" (item.Size ∷ [])) ∷
     ("DU", enclosed_by "unsigned _BitInt" (item.Size ∷ [])) ∷
+    ("Dk", followed_by " auto" (item.Name ∷ [])) ∷
+    ("DK", followed_by " decltype(auto)" (item.Name ∷ [])) ∷
     ("Ts", behind "struct " (item.Name ∷ [])) ∷
     ("Tu", behind "union " (item.Name ∷ [])) ∷
     ("Te", behind "enum " (item.Name ∷ [])) ∷ []
 
 unfoldable pub type_row_of : List ℕ → Option Row
 type_row_of bytes = row type_rows bytes
+
+-- DC <source-name>+ E
+abbrev pub bindings_row : Row
+bindings_row = made maker.Bindings "" (item.SourceName ∷ item.SourceNames ∷ [])
 
 -- DO <expression> E
 abbrev pub computed_noexcept_row : Row
@@ -157,17 +173,27 @@ parse_size p = do
   expect "_"
   pure size
 
+-- the object of a function
+abbrev pub parse_object : Productions → Parses Tree
+parse_object p = do
+  t ← p.type false
+  make (prefixed (codes "this ") (codes "this ") t Primary)
+
 -- the tree of an item
 unfoldable pub tree_as : Productions → Item → Parses Tree
 tree_as p item.Type = p.type false
 tree_as p item.Name = name_tree p
 tree_as p item.Arg = p.arg
+tree_as p item.ConstrainedArg = parse_constrained_arg p
 tree_as p item.Encoding = p.encoding
 tree_as p item.Param = if_next "v" refused (p.type false)
 tree_as p item.BareType = p.type true
+tree_as p item.Object = parse_object p
 tree_as p item.Expression = p.expression
 tree_as p item.Braced = p.braced
+tree_as p item.Requirement = parse_requirement p
 tree_as p item.SourceName = parse_source_name
+tree_as p item.Module = parse_module
 tree_as p item.TemplateParam = parse_template_param
 tree_as p item.FunctionParam = parse_function_param
 tree_as p item.Size = parse_size p
@@ -175,7 +201,8 @@ tree_as p other = refused
 
 unfoldable pub ends : End → List ℕ → Bool
 ends end.E = is_e
-ends end.Encoding = is_encoding_end
+ends end.Encoding = is_params_end
+ends end.Lambda = is_lambda_end
 ends end.Function = is_function_end
 ends end.Underscore = begins (codes "_")
 
@@ -209,6 +236,7 @@ unfoldable pub item_as : Productions → List Tree → Item → Parses (List Tre
 item_as p trees item.Expressions = rest_after p item.Expression trees
 item_as p trees item.Braces = rest_after p item.Braced trees
 item_as p trees item.Args = rest_after p item.Arg trees
+item_as p trees item.SourceNames = rest_after p item.SourceName trees
 item_as p trees item.Operands =
     if_next "_" (parse_operands p trees) (item_more (tree_as p item.Expression) trees)
 item_as p trees item.Offset = do parse_offset; pure trees
@@ -252,6 +280,7 @@ make_one maker.Same words t = pure t
 make_one maker.Prefixed words t = make (prefixed words.llvm words.gnu t Primary)
 make_one maker.Unary words t = make (prefixed words.llvm words.gnu t Unary)
 make_one (maker.Enclosing prec) words t = make (enclosing words.llvm words.gnu t prec)
+make_one maker.Suffixed words t = make (suffixed t words.llvm words.gnu)
 make_one (maker.Prefix prec) words a = make (prefix_op words.llvm a prec)
 make_one maker.Postfix words a = make (postfix_op a words.llvm)
 make_one maker.Expansion words t = make (expansion t)
@@ -294,6 +323,9 @@ converted prec t es = conversion t es prec
 abbrev pub make_init_list : List Tree → Parses Tree
 make_init_list es = make (init_list None (trees_from_list es))
 
+abbrev pub make_bindings : List Tree → Parses Tree
+make_bindings names = make (bindings (trees_from_list names))
+
 abbrev pub typed_init_list : Tree → Trees → Tree
 typed_init_list t es = init_list (Some t) es
 
@@ -303,6 +335,7 @@ make_as (maker.Conversion prec) words trees = make_behind (converted prec) trees
 make_as maker.Call words trees = make_behind call trees
 make_as maker.TypedInitList words trees = make_behind typed_init_list trees
 make_as maker.InitList words trees = make_init_list trees
+make_as maker.Bindings words trees = make_bindings trees
 make_as maker.CountArgs words trees = make_args_count trees
 make_as other words trees = make_few other words trees
 
@@ -339,13 +372,14 @@ parse_list p n item = do
   expect "E"
   pure (trees_from_list trees)
 
-abbrev pub parse_some_params : Productions → End → Parses (List Tree)
-parse_some_params p end = do
-  t ← p.type false
+-- types up to an end, of which the first one is an item of its own
+abbrev pub parse_some_params : Productions → Item → End → Parses (List Tree)
+parse_some_params p first end = do
+  t ← tree_as p first
   list_after p item.Type end (t ∷ [])
 
 -- v | <type>+, up to an end
-unfoldable pub parse_params : Productions → End → Parses (List Tree)
-parse_params p end = do
+unfoldable pub parse_params : Productions → Item → End → Parses (List Tree)
+parse_params p first end = do
   is_void ← optional "v"
-  if is_void then pure [] else parse_some_params p end
+  if is_void then pure [] else parse_some_params p first end

@@ -14,6 +14,7 @@ use Rattle.cxx_grammar.specs.Names.{parse_name}
 use Rattle.cxx_grammar.specs.Types.{parse_type, parse_qualified_type}
 use Rattle.cxx_grammar.specs.Args.{parse_arg}
 use Rattle.cxx_grammar.specs.Expressions.{parse_expression, parse_braced}
+use Rattle.cxx_grammar.specs.Declarations.{parse_declaration}
 use Rattle.cxx_grammar.specs.Encodings.{parse_encoding}
 
 -- the productions that others may be inside of
@@ -26,6 +27,7 @@ productions_over p = record {
   arg = parse_arg p;
   expression = parse_expression p;
   braced = parse_braced p;
+  declaration = parse_declaration p;
 }
 
 -- the productions, of which at most so many may nest

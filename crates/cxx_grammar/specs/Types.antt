@@ -14,10 +14,12 @@ use Rattle.cxx_grammar.specs.declared.cases.TypeCase.TheVariants as type_case
 use Rattle.cxx_grammar.specs.declared.rows.End.TheVariants as end
 use Rattle.cxx_grammar.specs.declared.rows.Item.TheVariants as item
 use Rattle.cxx_grammar.specs.Parses.{Parses, ◌>>=◌, ◌>>◌, ◌<$>◌, pure, some, check, given, look, past, expect, optional, by, if_next, make, saved}
+use Rattle.cxx_grammar.specs.Bases.{is_module}
 use Rattle.cxx_grammar.specs.Cases.{case_of_type, case_of_exception}
 use Rattle.cxx_grammar.specs.Leaves.{make_name, make_word, parse_identifier, parse_substitution, parse_template_param, parse_cv, parse_ref, parse_builtin, parse_float_type}
 use Rattle.cxx_grammar.specs.Productions.{Productions, name_tree}
 use Rattle.cxx_grammar.specs.Args.{parse_args, parse_with_args}
+use Rattle.cxx_grammar.specs.Names.{parse_in_module}
 use Rattle.cxx_grammar.specs.Rows.{type_row_of, parse_row_of, list_after, parse_list, parse_size, parse_row, computed_noexcept_row}
 
 -- Functions.
@@ -217,11 +219,15 @@ parse_param_type p is_bare = do
   t ← saved parse_template_param
   parse_type_args p is_bare t
 
--- <substitution> [<template-args>]. A substitution isn't saved again
+-- a type in a module that is a substitution
+abbrev pub parse_module_type : Productions → Tree → Parses Tree
+parse_module_type p owner = (λ n. n.tree) <$> parse_in_module p None owner
+
+-- <substitution> [<template-args>], or a name in a module that is the substitution. A substitution isn't saved again
 abbrev pub parse_substituted_type : Productions → Bool → Parses Tree
 parse_substituted_type p is_bare = do
   t ← parse_substitution
-  parse_type_args p is_bare t
+  if is_module t then saved (parse_module_type p t) else parse_type_args p is_bare t
 
 -- a tree around a type, after n bytes
 abbrev pub parse_around : ℕ → (Tree → Tree) → Parses Tree → Parses Tree

@@ -130,7 +130,7 @@ parse_simple_scopes p is_global = do
   scope ← make_global_if is_global id
   parse_scopes p scope
 
--- sr <type> <base-unresolved-name>
+-- sr <type> <base-unresolved-name>, as GCC writes a name in std or in a <nested-name>
 abbrev pub parse_in_type : Productions → Parses Tree
 parse_in_type p = do
   past 2

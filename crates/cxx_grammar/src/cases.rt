@@ -79,6 +79,8 @@ pub enum ComponentCase {
 pub enum BaseCase {
     /// A digit from 1 to 9
     Source,
+    /// `DC`
+    Bindings,
     /// `Ut`
     Unnamed,
     /// `Ub`
@@ -110,7 +112,7 @@ pub enum TypeCase {
     Expansion,
     /// `DF`
     Float,
-    /// `DB` or `DU`: a row, which isn't saved
+    /// `DB`, `DU`, `Dk` or `DK`: a row, which isn't saved
     Row,
     /// A letter, or `D` and anything else
     Builtin,
@@ -152,6 +154,8 @@ pub enum ExceptionCase {
 pub enum ArgCase {
     /// `X`
     Expression,
+    /// `T` and one of `y`, `k`, `n`, `t` and `p`: a declaration in front of the argument.
+    Declared,
     /// `J`
     Pack,
     /// `LZ`
@@ -211,6 +215,8 @@ pub enum ExpressionCase {
     FunctionParam,
     /// `so`
     Subobject,
+    /// `rq`, or `rQ`, which has parameters
+    Requires(bool),
     /// `u`
     Vendor,
     /// `aw`: an operator that has no expression.
@@ -256,4 +262,34 @@ pub enum BaseNameCase {
     Destructor,
     /// An operator, perhaps behind `on`.
     Operator,
+}
+
+/// The cases of a `<template-param-decl>`.
+#[derive(Clone, Copy)]
+pub enum DeclarationCase {
+    /// `Ty`
+    Type,
+    /// `Tk`: a type of a concept.
+    Constrained,
+    /// `Tn`
+    Value,
+    /// `Tt`
+    Template,
+    /// `Tp`
+    Pack,
+    /// Anything else.
+    Unread,
+}
+
+/// The cases of a `<requirement>`.
+#[derive(Clone, Copy)]
+pub enum RequirementCase {
+    /// `X`
+    Expression,
+    /// `T`
+    Type,
+    /// `Q`
+    Nested,
+    /// Anything else.
+    Unread,
 }

@@ -11,18 +11,26 @@ pub enum Item {
     Name,
     /// `<template-arg>`
     Arg,
+    /// `<template-arg>`, behind which a constraint may end the list.
+    ConstrainedArg,
     /// `<encoding>`
     Encoding,
     /// `<type>` that isn't `void`
     Param,
     /// `<type>` that ends the operator of a conversion.
     BareType,
+    /// `<type>` that is the object of a function, which is its first parameter.
+    Object,
     /// `<expression>`
     Expression,
     /// `<braced-expression>`
     Braced,
+    /// `<requirement>`
+    Requirement,
     /// `<source-name>`
     SourceName,
+    /// `<module-name>`
+    Module,
     /// `<template-param>`
     TemplateParam,
     /// `<function-param>`
@@ -35,6 +43,8 @@ pub enum Item {
     Braces,
     /// Template arguments up to an `E`.
     Args,
+    /// Source names up to an `E`.
+    SourceNames,
     /// `<expression>`, or `_` and expressions up to an `E`.
     Operands,
     /// `<number> _`, which is skipped.
@@ -54,8 +64,10 @@ pub enum Item {
 pub enum End {
     /// Before an `E`.
     E,
-    /// At the end of an encoding.
+    /// At the end of an encoding, or before a `Q`.
     Encoding,
+    /// At the end of the parameters of a lambda: before `E` or `Q`.
+    Lambda,
     /// At the end of a function type: before `E`, `RE` or `OE`.
     Function,
     /// Before a `_`.
@@ -75,6 +87,8 @@ pub enum Maker {
     Unary,
     /// Words, and the only tree in parentheses.
     Enclosing(Prec),
+    /// The only tree, and words.
+    Suffixed,
     /// The vtable of a base: the derived type, and the base.
     CtorVtable,
     /// An operator in front of its operand.
@@ -95,6 +109,8 @@ pub enum Maker {
     Conversion(Prec),
     /// A function, and its arguments.
     Call,
+    /// The names of a structured binding.
+    Bindings,
     /// What braces have.
     InitList,
     /// A type, and what the braces behind it have.
@@ -118,7 +134,7 @@ pub enum Maker {
 }
 
 /// A production: how many letters of its code are skipped, its items, what is made of their trees, and the words of
-/// that in LLVM's style and in GNU's. The code of a thunk ends with the first letter of its offset, which isn't skipped.
+/// that in LLVM's style and in GNU's. A thunk's code ends with the first letter of its offset, which isn't skipped.
 #[derive(Clone, Copy)]
 pub struct Row {
     pub skip: usize,

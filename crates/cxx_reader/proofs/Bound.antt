@@ -1,7 +1,7 @@
 -- The arguments of an encoding, one after the other.
 use Rattle.std.proofs.Common.{ℕ, ◌≡◌, ◌+◌, ◌≤◌, List, [], ◌∷◌, ◌++◌, length, map, drop, refl, sym, ap, ◌∙◌, arith, zero, suc, Option, Some, None, Bool, Err}
 use Rattle.cxx_tree.specs.Tree.{Tree}
-use Rattle.cxx_tree.specs.Kept.{KeepsNodes}
+use Rattle.cxx_tree.specs.Kept.{KeepsNodes, IsNode}
 use Rattle.cxx_tree.specs.declared.node.List as handle
 use Rattle.cxx_tree.specs.Stored.{size, list_at, trees_from_list, IsListBelow}
 use Rattle.cxx_tree.proofs.Forest.{list_at-more, IsListBelow-more}
@@ -52,6 +52,12 @@ list_below-keeps a b l g h = IsListBelow-more a.held b.held g.extends (size a) (
 
 pub listed-grows : (a b : Store) → KeepsNodes a b → (l : handle.List) → IsListBelow a.held (size a) l → listed b l ≡ listed a l
 listed-grows a b g l h = ap (map (stands b)) (list_at-more a.held b.held g.extends l h.0) ∙ map-stands a b g (list_at a.held l) h.1
+
+-- a node or none
+pub some-stands : (a b : Store) → KeepsNodes a b → (o : Option ℕ) → IfSome o (IsNode a) → option_map (stands b) o ≡ option_map (stands a) o
+unfolding stands
+some-stands a b g None h = refl
+some-stands a b g (Some i) h = ap (λ (t : Tree). Some t) (g.same i h)
 
 -- the same of a list or none
 pub some-below : (a b : Store) → KeepsNodes a b → (o : Option handle.List) → IfSome o (IsListBelow a.held (size a)) → IfSome o (IsListBelow b.held (size b))

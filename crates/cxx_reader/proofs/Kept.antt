@@ -12,7 +12,7 @@ use Rattle.cxx_grammar.specs.Parses.{make, make_saved}
 use Rattle.cxx_reader.specs.declared.reader.Reader.{Reader}
 use Rattle.cxx_grammar.specs.Bases.{args_of}
 use Rattle.cxx_reader.specs.declared.reader.LearnedName.{LearnedName}
-use Rattle.cxx_reader.specs.Outcome.{Gives, Keeps, Moves, IsNamed, named_at, info_at, inherited_at}
+use Rattle.cxx_reader.specs.Outcome.{invented_at, Gives, Keeps, Moves, IsNamed, named_at, info_at, inherited_at}
 use Rattle.cxx_tree.proofs.Forest.{same-forest}
 use Rattle.cxx_tree.proofs.Grown.{nodes-grow, nodes-same, nodes-trans, nodes-taken, saved-taken}
 use Rattle.std.specs.Prelude.{OnOk, IfSome}
@@ -33,7 +33,7 @@ IsNode-same a b i s n = omega (arith, n, ap length s.nodes)
 
 -- the state after a node was made
 pub gives_made : (r : Result ℕ Stop) (after : Reader) (a : Store) (t : Tree) (s : grammar.State) → Makes r a after.arena t
-    → s ≡ record { rest = after.rest.now; saved = saved_trees a; replaced = after.replaced; level = after.level } → Gives r after (make t s)
+    → s ≡ record { rest = after.rest.now; saved = saved_trees a; replaced = after.replaced; invented = invented_at after.invented; level = after.level } → Gives r after (make t s)
 unfolding Makes stands
 gives_made (Ok i) after a t s m e =
     let stays = m.2.saved in let fits = m.3 in let is = m.1 in (m.0, cc)
@@ -42,9 +42,9 @@ gives_made (Err Memory) after a t s m e = tt
 
 -- the same of a node that holds a list, whose nodes are collected no more
 pub gives_taken : (r : Result ℕ Stop) (after : Reader) (a : Store) (from : ℕ) (t : Tree) (s : grammar.State) → Makes r (taken from a) after.arena t
-    → s ≡ record { rest = after.rest.now; saved = saved_trees a; replaced = after.replaced; level = after.level } → Gives r after (make t s)
+    → s ≡ record { rest = after.rest.now; saved = saved_trees a; replaced = after.replaced; invented = invented_at after.invented; level = after.level } → Gives r after (make t s)
 gives_taken r after a from t s m e =
-    gives_made r after (taken from a) t s m (e ∙ ap (λ (l : List Tree). record { rest = after.rest.now; saved = l; replaced = after.replaced; level = after.level }) (sym (saved-taken from a)))
+    gives_made r after (taken from a) t s m (e ∙ ap (λ (l : List Tree). record { rest = after.rest.now; saved = l; replaced = after.replaced; invented = invented_at after.invented; level = after.level }) (sym (saved-taken from a)))
 
 tree-stands : (a : Store) (i : ℕ) (t : Tree) → tree_at (forest a) i ≡ t → stands a i ≡ t
 unfolding stands
@@ -52,7 +52,7 @@ tree-stands a i t e = e
 
 -- the state after a node was made and saved
 pub gives_saved : (i : ℕ) (after : Reader) (a mid : Store) (t : Tree) (s : grammar.State) → Makes (Ok i) a mid t → saved_trees after.arena ≡ saved_trees mid ++ stands mid i ∷ []
-    → SameNodes mid after.arena → s ≡ record { rest = after.rest.now; saved = saved_trees a; replaced = after.replaced; level = after.level } → Gives (Ok i) after (make_saved t s)
+    → SameNodes mid after.arena → s ≡ record { rest = after.rest.now; saved = saved_trees a; replaced = after.replaced; invented = invented_at after.invented; level = after.level } → Gives (Ok i) after (make_saved t s)
 unfolding Makes
 gives_saved i after a mid t s m w st e =
     let stays = m.2.saved in let fits = m.3 in let is : stands mid i ≡ t = tree-stands mid i t m.1 in

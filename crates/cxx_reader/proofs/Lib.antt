@@ -4,6 +4,7 @@ pub mod Opens
 pub mod Rules
 pub mod Lists
 pub mod Bound
+pub mod Binders
 pub mod Unbound
 pub mod Sources
 pub mod Digits

@@ -19,10 +19,9 @@ use Rattle.cxx_tree.specs.declared.arena.Stop.TheVariants.{Unreadable, Memory}
 use Rattle.cxx_tree.specs.Stored.{Store, stands}
 use Rattle.cxx_grammar.specs.Productions.{Productions}
 use Rattle.cxx_grammar.specs.Names.{parse_next, parse_components}
-use Rattle.cxx_grammar.specs.Expressions.{parse_placement}
+use Rattle.cxx_grammar.specs.Expressions.{parse_to_underscore}
 use Rattle.cxx_grammar.specs.Unresolved.{parse_next_scope, parse_scope_list}
 use Rattle.cxx_grammar.specs.declared.rows.End.TheVariants as end
-use Rattle.cxx_grammar.specs.declared.rows.Item.TheVariants as item
 use Rattle.cxx_grammar.specs.declared.rows.Item.{Item}
 use Rattle.cxx_grammar.specs.declared.rows.Maker.{Maker}
 use Rattle.cxx_grammar.specs.Rows.{Row, Styled, item_as, make_as, make_few, parse_items, parse_row, list_after, rest_after, parse_list}
@@ -83,9 +82,9 @@ pub record Pushed (item : Option (Tree × State)) (old after : Reader) (i : ℕ)
   pub parsed : item ≡ Some (stands after.arena i, state after)
 
 pub pushed : {item : Option (Tree × State)} (old mid after : Reader) (i : ℕ) → Keeps old mid → SameNodes mid.arena after.arena → after.arena.saved ≡ mid.arena.saved
-    → after.arena.pending ≡ mid.arena.pending ++ i ∷ [] → after.rest ≡ mid.rest → after.replaced ≡ mid.replaced → after.level ≡ mid.level
+    → after.arena.pending ≡ mid.arena.pending ++ i ∷ [] → after.rest ≡ mid.rest → after.replaced ≡ mid.replaced → after.invented ≡ mid.invented → after.level ≡ mid.level
     → IsNode mid.arena i × (item ≡ Some (stands mid.arena i, state mid)) → Pushed item old after i
-pushed old mid after i k st sv p r n l g =
+pushed old mid after i k st sv p r n w l g =
     let same = stands-same mid.arena after.arena i st in
     let trees = saved-same mid.arena after.arena (same-forest mid.arena after.arena st.nodes st.held) sv in
     let after-state : state mid ≡ state after = cc in
@@ -124,15 +123,15 @@ KeepsFront-after from (Err e) a b c k l = tt
 
 -- an item is read, and its node is collected
 pub collected : (r : Result (Unit {0}) Stop) (old mid after : Reader) (i from : ℕ) (item : Parses Tree) → IsOkUnless r Memory → Keeps old mid → SameNodes mid.arena after.arena → after.arena.saved ≡ mid.arena.saved
-    → OnOk r (after.arena.pending ≡ mid.arena.pending ++ i ∷ []) → after.rest ≡ mid.rest → after.replaced ≡ mid.replaced → after.level ≡ mid.level → IsNode mid.arena i × (item (state old) ≡ Some (stands mid.arena i, state mid))
+    → OnOk r (after.arena.pending ≡ mid.arena.pending ++ i ∷ []) → after.rest ≡ mid.rest → after.replaced ≡ mid.replaced → after.invented ≡ mid.invented → after.level ≡ mid.level → IsNode mid.arena i × (item (state old) ≡ Some (stands mid.arena i, state mid))
     → from ≤ length old.arena.pending → AllByRecursion (IsNode old.arena) (drop from old.arena.pending) → GivesFrom r from after (item_more item (trees_behind from old.arena) (state old))
-collected (Ok u) old mid after i from item m k st sv p r e v g long below =
-    let one : Pushed (item (state old)) old after i = pushed old mid after i k st sv p r e v g in (
+collected (Ok u) old mid after i from item m k st sv p r e w v g long below =
+    let one : Pushed (item (state old)) old after i = pushed old mid after i k st sv p r e w v g in (
       one-more-below old.arena after.arena from i one.grows below long one.pending one.node,
       rw one.parsed (ap (λ (ts : List Tree). Some (ts, state after)) (sym (one-more old.arena after.arena from i one.grows below long one.pending))),
     )
-collected (Err Unreadable) old mid after i from item m k st sv p r e v g long below = absurd (let f = m in cc)
-collected (Err Memory) old mid after i from item m k st sv p r e v g long below = tt
+collected (Err Unreadable) old mid after i from item m k st sv p r e w v g long below = absurd (let f = m in cc)
+collected (Err Memory) old mid after i from item m k st sv p r e w v g long below = tt
 
 -- an item isn't read
 pub item_stop : (e : Stop) (from : ℕ) (after : Reader) (item : Parses Tree) (trees : List Tree) (s : State) → Gives (Err e) after (item s) → GivesFrom (Err e) from after (item_more item trees s)
@@ -237,6 +236,17 @@ list_moves (Ok l) old mid after from e k g p n =
     }
 list_moves (Err stop) old mid after from e k g p n = tt
 
+-- a node is made of the nodes that were collected behind others, and of what was read after them
+pub function_keeps : (r : Result ℕ Stop) (old start mid last after : Reader) (from : ℕ) → Keeps old start → from ≡ length start.arena.pending → KeepsFront from start mid → Keeps mid last
+    → OnOk r (KeepsNodes last.arena after.arena) → OnOk r (after.arena.pending ≡ take from last.arena.pending) → OnOk r (after.rest.now ≡ last.rest.now) → OnOk r (Keeps old after)
+function_keeps (Ok i) old start mid last after from b e k l g p n =
+    record {
+      grows = nodes-trans old.arena start.arena after.arena b.grows (nodes-trans start.arena mid.arena after.arena k.grows (nodes-trans mid.arena last.arena after.arena l.grows g));
+      pending = p ∙ ap (λ (is : List ℕ). take from is) l.pending ∙ k.front ∙ ap (λ (j : ℕ). take j start.arena.pending) e ∙ take-length start.arena.pending ∙ b.pending;
+      within = omega (arith, b.within, k.within, l.within, ap (λ (bytes : List ℕ). length bytes) n);
+    }
+function_keeps (Err stop) old start mid last after from b e k l g p n = tt
+
 pub begins_some : (letter : ℕ) (bytes : List ℕ) → begins (letter ∷ []) bytes ≡ true → 0 < length bytes
 begins_some letter [] e = absurd (let f = e in cc)
 begins_some letter (b ∷ bytes) e = omega arith
@@ -291,20 +301,31 @@ KeepsFront-arena from a b c k e w =
       within = omega (arith, k.within, w);
     }
 
--- the placement of a `new` is read, or not
-pub place_stop : (e : Stop) (from : ℕ) (after : Reader) (p : Productions) (n : ℕ) (s : State) → GivesFrom (Err e) from after (list_after p item.Expression end.Underscore [] (skip n s)) → GivesList (Err e) after (parse_placement p n s)
-unfolding parse_placement
-place_stop Unreadable from after p n s f = rw f refl
-place_stop Memory from after p n s f = tt
+-- items up to a `_` are read, or not
+pub place_stop : (e : Stop) (from : ℕ) (after : Reader) (p : Productions) (n : ℕ) (item : Item) (s : State) → GivesFrom (Err e) from after (list_after p item end.Underscore [] (skip n s)) → GivesList (Err e) after (parse_to_underscore p n item s)
+unfolding parse_to_underscore
+place_stop Unreadable from after p n item s f = rw f refl
+place_stop Memory from after p n item s f = tt
 
-pub place_gives : (r : Result handle.List Stop) (after : Reader) (a : Store) (from : ℕ) (p : Productions) (n : ℕ) (s u : State)
-    → list_after p item.Expression end.Underscore [] (skip n s) ≡ Some (trees_behind from a, u) → begins (codes "_") u.rest ≡ true
+pub place_gives : (r : Result handle.List Stop) (after : Reader) (a : Store) (from : ℕ) (p : Productions) (n : ℕ) (item : Item) (s u : State)
+    → list_after p item end.Underscore [] (skip n s) ≡ Some (trees_behind from a, u) → begins (codes "_") u.rest ≡ true
     → IfOk r (λ l. list_at after.arena.held l ≡ drop from a.pending)
     → IfOk r (λ l. IsListBelow after.arena.held (size after.arena) l)
     → KeepsNodes a after.arena → AllByRecursion (IsNode a) (drop from a.pending)
-    → state after ≡ skip 1 u → IsOkUnless r Memory → GivesList r after (parse_placement p n s)
-unfolding parse_placement
-place_gives r after a from p n s u done e is below g all st m = listed_gives r after a from (skip 1 u) (rw (done, e) refl) is below g all st m
+    → state after ≡ skip 1 u → IsOkUnless r Memory → GivesList r after (parse_to_underscore p n item s)
+unfolding parse_to_underscore
+place_gives r after a from p n item s u done e is below g all st m = listed_gives r after a from (skip 1 u) (rw (done, e) refl) is below g all st m
+
+-- a list is read, perhaps an empty one
+pub list_keeps : {A : Type 0} (r : Result A Stop) (old mid after : Reader) (from : ℕ) → from ≡ length old.arena.pending → KeepsFront from old mid
+    → KeepsNodes mid.arena after.arena → after.arena.pending ≡ take from mid.arena.pending → length after.rest.now ≤ length mid.rest.now → OnOk r (Keeps old after)
+list_keeps (Ok l) old mid after from e k g p n =
+    record {
+      grows = nodes-trans old.arena mid.arena after.arena k.grows g;
+      pending = p ∙ k.front ∙ ap (λ (j : ℕ). take j old.arena.pending) e ∙ take-length old.arena.pending;
+      within = omega (arith, k.within, n);
+    }
+list_keeps (Err stop) old mid after from e k g p n = tt
 
 -- scopes are read, or not
 pub scopes_stop : (e : Stop) (after : Reader) (p : Productions) (outer : Tree) (s : State) {q : Tree} {u : State}

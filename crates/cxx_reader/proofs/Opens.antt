@@ -6,6 +6,7 @@ use Rattle.cxx_grammar.specs.Names.{parse_name}
 use Rattle.cxx_grammar.specs.Types.{parse_type, parse_qualified_type}
 use Rattle.cxx_grammar.specs.Args.{parse_arg}
 use Rattle.cxx_grammar.specs.Expressions.{parse_expression, parse_braced}
+use Rattle.cxx_grammar.specs.Declarations.{parse_declaration}
 use Rattle.cxx_grammar.specs.Encodings.{parse_encoding}
 use Rattle.cxx_grammar.specs.Symbol.{productions, productions_over}
 
@@ -32,6 +33,9 @@ expression_opens d s h = ap (λ (p : Productions). p.expression s) (one_level d 
 pub braced_opens : (d : ℕ) (s : State) → 0 < d → (productions d).braced s ≡ parse_braced (productions (d - 1)) s
 braced_opens d s h = ap (λ (p : Productions). p.braced s) (one_level d h)
 
+pub declaration_opens : (d n : ℕ) (s : State) → 0 < d → (productions d).declaration n s ≡ parse_declaration (productions (d - 1)) n s
+declaration_opens d n s h = ap (λ (p : Productions). p.declaration n s) (one_level d h)
+
 pub encoding_opens : (d : ℕ) (s : State) → 0 < d → (productions d).encoding s ≡ parse_encoding (productions (d - 1)) s
 encoding_opens d s h = ap (λ (p : Productions). p.encoding s) (one_level d h)
 
@@ -51,6 +55,10 @@ pub no_braced : (s : State) → (productions 0).braced s ≡ None
 unfolding productions
 no_braced s = refl
 
+pub no_declaration : (n : ℕ) (s : State) → (productions 0).declaration n s ≡ None
+unfolding productions
+no_declaration n s = refl
+
 pub no_type : (b : Bool) (s : State) → (productions 0).type b s ≡ None
 unfolding productions
 no_type b s = refl
@@ -63,4 +71,4 @@ pub no_encoding : (s : State) → (productions 0).encoding s ≡ None
 unfolding productions
 no_encoding s = refl
 
-pub ruleset opens = (encoding_opens, no_encoding, name_opens, no_name, arg_opens, no_arg, expression_opens, no_expression, braced_opens, no_braced, type_opens, no_type, qualified_opens, no_qualified)
+pub ruleset opens = (encoding_opens, no_encoding, name_opens, no_name, arg_opens, no_arg, expression_opens, no_expression, braced_opens, no_braced, declaration_opens, no_declaration, type_opens, no_type, qualified_opens, no_qualified)

@@ -9,7 +9,8 @@ use Rattle.cxx_grammar.specs.State.{State}
 use Rattle.cxx_grammar.specs.Productions.{Productions}
 use Rattle.cxx_grammar.specs.Rows.{item_as, parse_items}
 use Rattle.cxx_reader.specs.declared.reader.Reader.{Reader}
-use Rattle.cxx_reader.specs.Outcome.{Gives}
+use Rattle.cxx_grammar.specs.Modules.{parse_subname, next_subname}
+use Rattle.cxx_reader.specs.Outcome.{Gives, GivesOption}
 use Rattle.cxx_grammar.specs.Parses.{Parses, ◌>>=◌, pure, repeat, repeat_at_most}
 
 -- what steps give, after some of them
@@ -49,6 +50,12 @@ pub tree_stop : (e : Stop) (after : Reader) {whole : Option (Tree × State)} {is
     → SoFar whole is_end step t s → is_end s.rest ≡ false → Gives (Err e) after (step t s) → Gives (Err e) after whole
 tree_stop Unreadable after l e f = steps_fail l e f
 tree_stop Memory after l e f = tt
+
+-- a subname of a module isn't read
+pub subname_stop : (e : Stop) (after : Reader) {whole : Option (Option Tree × State)} {is_end : List ℕ → Bool} {outer : Option Tree} {s : State}
+    → SoFar whole is_end next_subname outer s → is_end s.rest ≡ false → Gives (Err e) after (parse_subname outer s) → GivesOption (Err e) after whole
+subname_stop Unreadable after l e f = steps_fail l e (rw f refl)
+subname_stop Memory after l e f = tt
 
 -- what the items of a row give, after some of them
 pub record ItemsSoFar (whole : Option (List Tree × State)) (p : Productions) (trees : List Tree) (items : List Item) (s : State) : Type 0 where

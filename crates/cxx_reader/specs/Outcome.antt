@@ -16,18 +16,33 @@ use Rattle.cxx_tree.specs.Kept.{IsNode, KeepsNodes}
 use Rattle.cxx_grammar.specs.State as grammar
 use Rattle.cxx_grammar.specs.Names as names
 use Rattle.cxx_grammar.specs.Bases.{args_of}
+use Rattle.cxx_grammar.specs.Declarations as declarations
+use Rattle.cxx_grammar.specs.Unnamed as unnamed
 use Rattle.cxx_grammar.specs.Symbol as symbols
+use Rattle.cxx_tree.specs.declared.lambdas.Signature.{Signature}
 use Rattle.cxx_reader.specs.declared.counts.Count.{Count}
+use Rattle.cxx_reader.specs.declared.declarations.Declared.{Declared}
 use Rattle.cxx_reader.specs.declared.names.Part.{Part}
 use Rattle.cxx_reader.specs.declared.names.Place.{Place}
 use Rattle.cxx_reader.specs.declared.reader.Info.{Info}
+use Rattle.cxx_reader.specs.declared.reader.Invented.{Invented}
 use Rattle.cxx_reader.specs.declared.reader.LearnedName.{LearnedName}
 use Rattle.cxx_reader.specs.declared.reader.Reader.{Reader}
 use Rattle.cxx_reader.specs.declared.symbols.Reading.{Reading}
 
+-- how many names were invented
+abbrev pub invented_at : Invented → grammar.Invented
+invented_at i = record { types = i.types; values = i.values; templates = i.templates }
+
 -- the parser's state that a reader stands for
 abbrev pub state : Reader → grammar.State
-state r = record { rest = r.rest.now; saved = saved_trees r.arena; replaced = r.replaced; level = r.level }
+state r = record {
+  rest = r.rest.now;
+  saved = saved_trees r.arena;
+  replaced = r.replaced;
+  invented = invented_at r.invented;
+  level = r.level;
+}
 
 -- a call kept what was there: the nodes, and those that are collected. It read no byte again
 pub record Keeps (old new : Reader) : Type 0 where
@@ -85,6 +100,12 @@ abbrev pub GivesOptionList : Result (Option handle.List) Stop → Reader → Opt
 GivesOptionList r after parsed =
     GivesAs (λ a o. IfSome o (IsListBelow a.held (size a))) (λ a o. option_map (list_trees a) o) r after parsed
 
+-- a number that was read
+abbrev pub GivesCount : Result ℕ Stop → Reader → Option (ℕ × grammar.State) → Type 0
+GivesCount (Ok n) after parsed = parsed ≡ Some (n, state after)
+GivesCount (Err Unreadable) after parsed = parsed ≡ None
+GivesCount (Err Memory) after parsed = ⊥
+
 -- bytes that were read
 abbrev pub GivesText : Result (Bor (List ℕ)) Stop → Reader → Option (List ℕ × grammar.State) → Type 0
 GivesText (Ok bytes) after parsed = parsed ≡ Some (bytes.now, state after)
@@ -129,6 +150,7 @@ info_at a i = record {
   no_return = i.no_return;
   cv = i.cv;
   ref = i.ref_qual;
+  explicit_object = i.explicit_object;
   inherited = inherited_at a i.inherited;
 }
 
@@ -138,7 +160,14 @@ IsInfo a i = IfSome i.inherited (IsNode a)
 
 -- what is learned of a name before its components are read
 abbrev pub info_of : Cv → RefQual → Info
-info_of cv ref = record { ends_with_args = false; no_return = false; cv = cv; ref_qual = ref; inherited = None }
+info_of cv ref = record {
+  ends_with_args = false;
+  no_return = false;
+  cv = cv;
+  ref_qual = ref;
+  explicit_object = false;
+  inherited = None;
+}
 
 abbrev pub no_info : Info
 no_info = info_of grammar.no_cv refqual.None
@@ -154,19 +183,60 @@ abbrev pub GivesNamed : Result LearnedName Stop → Reader → Option (grammar.L
 GivesNamed r after parsed = GivesAs IsNamed named_at r after parsed
 
 unfoldable pub place_at : Store → Place → names.Place
-place_at a p = record { scope = option_map (stands a) p.scope; is_nested = p.is_nested; info = info_at a p.info }
+place_at a p = record {
+  scope = option_map (stands a) p.scope;
+  owner = option_map (stands a) p.owner;
+  is_friend = p.is_friend;
+  is_nested = p.is_nested;
+  info = info_at a p.info;
+}
 
 abbrev pub IsPlace : Store → Place → Type 0
-IsPlace a p = IfSome p.scope (IsNode a) × IsInfo a p.info
+IsPlace a p = IfSome p.scope (IsNode a) × IfSome p.owner (IsNode a) × IsInfo a p.info
+
+abbrev pub GivesPlace : Result Place Stop → Reader → Option (names.Place × grammar.State) → Type 0
+GivesPlace r after parsed = GivesAs IsPlace place_at r after parsed
 
 unfoldable pub part_at : Store → Part → names.Part
-part_at a p = record { tree = stands a p.node; scope = option_map (stands a) p.scope; info = info_at a p.info }
+part_at a p = record { tree = stands a p.node; place = place_at a p.place }
 
 abbrev pub IsPart : Store → Part → Type 0
-IsPart a p = IsNode a p.node × IfSome p.scope (IsNode a) × IsInfo a p.info
+IsPart a p = IsNode a p.node × IsPlace a p.place
 
 abbrev pub GivesPart : Result Part Stop → Reader → Option (names.Part × grammar.State) → Type 0
 GivesPart r after parsed = GivesAs IsPart part_at r after parsed
+
+-- Binders.
+
+-- the signature of a lambda
+abbrev pub signature_at : Store → Signature → unnamed.Lambda
+signature_at a s = record {
+  declarations = list_trees a s.declarations;
+  before = option_map (stands a) s.before;
+  params = list_trees a s.params;
+  behind = option_map (stands a) s.behind;
+}
+
+abbrev pub IsSignature : Store → Signature → Type 0
+IsSignature a s =
+    (IsListBelow a.held (size a) s.declarations × IfSome s.before (IsNode a))
+    × (IsListBelow a.held (size a) s.params × IfSome s.behind (IsNode a))
+
+abbrev pub GivesSignature : Result Signature Stop → Reader → Option (unnamed.Lambda × grammar.State) → Type 0
+GivesSignature r after parsed = GivesAs IsSignature signature_at r after parsed
+
+-- the declarations of a template, and their constraint
+abbrev pub declared_at : Store → Declared → declarations.Declared
+declared_at a d = record {
+  declarations = list_trees a d.declarations;
+  constraint = option_map (stands a) d.constraint;
+}
+
+abbrev pub IsDeclared : Store → Declared → Type 0
+IsDeclared a d = IsListBelow a.held (size a) d.declarations × IfSome d.constraint (IsNode a)
+
+abbrev pub GivesDeclared : Result Declared Stop → Reader → Option (declarations.Declared × grammar.State) → Type 0
+GivesDeclared r after parsed = GivesAs IsDeclared declared_at r after parsed
 
 -- Symbols.
 

@@ -17,7 +17,7 @@ abbrev pub tagged_in : Option Tree → List ℕ → Parses Tree
 tagged_in scope name = do
   t ← make (named (source_text name))
   tagged ← parse_abi_tags t
-  make_in_scope scope tagged
+  make_in_scope false scope tagged
 
 -- a <source-name> with its tags, in a scope if there is one
 abbrev pub source_in : Option Tree → Parses Tree

@@ -1,12 +1,12 @@
 //! What a name is asked for: the name of its constructors, and its arguments.
-#![tactic(auto, unfolding(cxx_tree::specs::Stored::tree_of, cxx_tree::specs::Stored::plain_tree, cxx_tree::specs::Stored::declaration_tree, cxx_tree::specs::Stored::IsBelow, cxx_tree::specs::Stored::IsPlainBelow, cxx_grammar::specs::Bases::base_name, cxx_grammar::specs::Bases::args_of, cxx_grammar::specs::Bases::is_with_args, cxx_grammar::specs::Bases::is_param, cxx_grammar::specs::Bases::is_param_class, cxx_grammar::specs::Bases::expand))]
+#![tactic(auto, unfolding(cxx_tree::specs::Stored::tree_of, cxx_tree::specs::Stored::plain_tree, cxx_tree::specs::Stored::declaration_tree, cxx_tree::specs::Stored::IsBelow, cxx_tree::specs::Stored::IsPlainBelow, cxx_grammar::specs::Bases::base_name, cxx_grammar::specs::Bases::args_of, cxx_grammar::specs::Bases::is_with_args, cxx_grammar::specs::Bases::is_param, cxx_grammar::specs::Bases::is_module, cxx_grammar::specs::Bases::is_param_class, cxx_grammar::specs::Bases::expand))]
 
 ghost use Rattle.std.specs.Prelude.{◌≡◌, ℕ, ◌<◌, option_map, true, IfSome, MatchOption};
 ghost use Rattle.cxx_tree.specs.Tree.{std_name};
 ghost use Rattle.cxx_tree.specs.Stored.{forest, size, tree_at, trees_in, text_at, IsText, IsListBelow};
 ghost use Rattle.cxx_grammar.specs.Bases as spec;
 
-use cxx_tree::{Arena, List, Node, NodeText, Plain, Std};
+use cxx_tree::{Arena, Declaration, List, Node, NodeText, Plain, Role, Std};
 
 // An abbreviation of std without `std::` and arguments.
 fn std_base(std: Std, is_expanded: bool) -> &'static [u8]
@@ -91,6 +91,27 @@ pub fn is_with_args(arena: &Arena, i: u32) -> bool
     }
 }
 
+/// Returns whether a node is the name of a module.
+pub fn is_module(arena: &Arena, i: u32) -> bool
+    requires within { i < size arena.now }
+    ensures value { result ≡ spec.is_module (tree_at (forest arena.now) i) }
+{
+    match *arena.node(i) {
+        Node::Plain(Plain::Phrase(attributes, _)) => is_module_role(attributes.role),
+        _ => false,
+    }
+}
+
+// Returns whether a phrase is the name of a module.
+fn is_module_role(role: Role) -> bool
+    ensures value { result ≡ spec.is_module_role role }
+{
+    match role {
+        Role::Module => true,
+        _ => false,
+    }
+}
+
 // Returns whether a node is a template parameter.
 fn is_param(arena: &Arena, i: u32) -> bool
     requires within { i < size arena.now }
@@ -124,5 +145,21 @@ pub fn short_std(arena: &Arena, i: u32) -> Option<Std>
     match *arena.node(i) {
         Node::Plain(Plain::StdName(std, false)) => Some(std),
         _ => None,
+    }
+}
+
+/// Returns the name that a declaration of a template parameter invents.
+#[tactic(auto, unfolding(cxx_tree::specs::Stored::tree_of, cxx_tree::specs::Stored::plain_tree, cxx_tree::specs::Stored::declaration_tree, cxx_tree::specs::Stored::IsBelow, cxx_tree::specs::Stored::IsDeclarationBelow, cxx_grammar::specs::Bases::declared_name))]
+pub fn declared_name(arena: &Arena, i: u32) -> u32
+    requires within { i < size arena.now }
+    ensures value { tree_at (forest arena.now) result ≡ spec.declared_name (tree_at (forest arena.now) i) }
+    ensures node { result < size arena.now }
+{
+    match *arena.node(i) {
+        Node::Declaration(Declaration::TypeParam(_, name)) => name,
+        Node::Declaration(Declaration::NonTypeParam(name, _)) => name,
+        Node::Declaration(Declaration::TemplateParam(name, _, _)) => name,
+        Node::Declaration(Declaration::PackParam(declaration)) => declared_name(arena, declaration),
+        _ => i,
     }
 }

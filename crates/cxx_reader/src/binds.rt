@@ -1,7 +1,7 @@
 //! What becomes of the template parameters of an encoding.
-#![tactic(auto, using(crate::proofs::Rules::productions), unfolding(cxx_tree::specs::Grows::Makes, cxx_tree::specs::Stored::stands, cxx_tree::specs::Stored::saved_trees, cxx_grammar::specs::Binds::parse_closed, cxx_grammar::specs::Binds::bind_encoding, cxx_grammar::specs::Binds::bind_closure, crate::specs::Outcome::named_at, crate::specs::Outcome::list_trees, cxx_tree::specs::Counts::Row))]
+#![tactic(auto, using(crate::proofs::Rules::productions), unfolding(cxx_tree::specs::Grows::Makes, cxx_tree::specs::Stored::stands, cxx_tree::specs::Stored::saved_trees, cxx_grammar::specs::Binds::parse_closed, cxx_grammar::specs::Binds::bind_encoding, cxx_grammar::specs::Binds::bind_declared, cxx_grammar::specs::Binds::bind_constraint, crate::specs::Outcome::named_at, crate::specs::Outcome::list_trees, cxx_tree::specs::Counts::Row))]
 
-ghost use Rattle.std.specs.Prelude.{◌≡◌, ℕ, ◌+◌, ◌*◌, ◌<◌, ◌≤◌, [], length, map, drop, take, OnOk, IfSome, option_map, Option, true};
+ghost use Rattle.std.specs.Prelude.{◌≡◌, ℕ, ◌+◌, ◌*◌, ◌<◌, ◌≤◌, [], length, map, drop, take, OnOk, IfSome, option_map, Option, Some, true};
 ghost use Rattle.cxx_tree.specs.Kept.{KeepsNodes, IsNode};
 ghost use Rattle.cxx_tree.specs.Measure.{measure, measure_each};
 ghost use Rattle.cxx_tree.specs.Stored.{forest, size, trees_in, trees_from_list, IsListBelow, stands};
@@ -10,7 +10,7 @@ ghost use Rattle.cxx_grammar.specs.Binds as spec;
 ghost use Rattle.cxx_reader.specs.Unbound.{IsUnbound};
 ghost use Rattle.cxx_reader.specs.Outcome.{state, Keeps, KeepsFront, Gives, GivesFrom, GivesUnit, IsNamed, named_at, trees_behind, list_trees};
 
-use crate::bases::args_of;
+use crate::bases::{args_of, declared_name};
 use crate::reader::{LearnedName, Reader};
 use cxx_tree::bind::{Binding, Others, bind};
 use cxx_tree::{List, Stop};
@@ -34,7 +34,30 @@ impl<'a> Reader<'a> {
         Ok(())
     }
 
-    // Binds a node: the nodes from `from` on of the list that is read stand for its template parameters.
+    // Binds a node: the nodes from `from` on of the list that is read stand for the template parameters of a level.
+    fn bind_at(&mut self, level: u64, from: usize, others: Others, i: u32) -> Result<u32, Stop>
+        requires node { IsNode self.old.arena i }
+        requires within { from ≤ length self.old.arena.pending }
+        ensures reads { Gives result self.new (spec.bind_by (record {
+          level = level;
+          names = trees_behind from self.old.arena;
+          others = others;
+        }) (stands self.old.arena i) (state self.old)) }
+        ensures keeps { OnOk result (Keeps self.old self.new) }
+        ensures rest { self.new.rest.now ≡ self.old.rest.now }
+    {
+        // Its clauses say that these are nodes.
+        self.arena.pending(from);
+        let binding = Binding {
+            level,
+            from,
+            others,
+        };
+        bind(&mut self.arena, self.alloc, &binding, i)
+    }
+
+    // Binds a node: the nodes from `from` on of the list that is read stand for the template parameters of its
+    // encoding.
     fn bind_one(&mut self, from: usize, i: u32) -> Result<u32, Stop>
         requires node { IsNode self.old.arena i }
         requires within { from ≤ length self.old.arena.pending }
@@ -43,14 +66,7 @@ impl<'a> Reader<'a> {
         ensures keeps { OnOk result (Keeps self.old self.new) }
         ensures rest { self.new.rest.now ≡ self.old.rest.now }
     {
-        // Its clauses say that these are nodes.
-        self.arena.pending(from);
-        let binding = Binding {
-            level: 0,
-            from,
-            others: Others::Keep,
-        };
-        bind(&mut self.arena, self.alloc, &binding, i)
+        self.bind_at(0, from, Others::Keep, i)
     }
 
     // Binds an argument.
@@ -111,18 +127,75 @@ impl<'a> Reader<'a> {
         self.inherited_args(name).is_some() || args_of(&self.arena, name.node).is_some()
     }
 
-    /// Makes each template parameter of a closure from its level on `auto`.
-    pub fn bind_closure(&mut self, level: u64, i: u32) -> Result<u32, Stop>
+    // Appends the names of declarations to the list that is read.
+    fn add_names(&mut self, declarations: List) -> Result<(), Stop>
+        requires declarations { IsListBelow self.old.arena.held (size self.old.arena) declarations }
+        ensures reads { GivesFrom result (length self.old.arena.pending) self.new
+            (Some (spec.names_of (list_trees self.old.arena declarations), state self.old)) }
+        ensures keeps { OnOk result (KeepsFront (length self.old.arena.pending) self.old self.new) }
+        ensures rest { self.new.rest.now ≡ self.old.rest.now }
+    {
+        let len = self.arena.items(declarations).len();
+        for k in 0..len {
+            let declaration = self.arena.item(declarations, k);
+            let name = declared_name(&self.arena, declaration);
+            tri!(self.arena.add(name));
+        }
+        Ok(())
+    }
+
+    // Binds a node: the nodes from `from` on of the list that is read stand for the template parameters of a level.
+    // They leave the list.
+    fn bind_names(&mut self, level: u64, from: usize, others: Others, i: u32) -> Result<u32, Stop>
         requires node { IsNode self.old.arena i }
-        ensures reads { Gives result self.new (spec.bind_closure level (stands self.old.arena i) (state self.old)) }
+        requires within { from ≤ length self.old.arena.pending }
+        ensures reads { Gives result self.new (spec.bind_by (record {
+          level = level;
+          names = trees_behind from self.old.arena;
+          others = others;
+        }) (stands self.old.arena i) (state self.old)) }
+        ensures grows { OnOk result (KeepsNodes self.old.arena self.new.arena) }
+        ensures pending { OnOk result (self.new.arena.pending ≡ take from self.old.arena.pending) }
+        ensures rest { self.new.rest.now ≡ self.old.rest.now }
+    {
+        let bound = self.bind_at(level, from, others, i);
+        self.arena.cut(from);
+        bound
+    }
+
+    /// Binds the template parameters of a binder with these declarations, whose names they become.
+    pub fn bind_declared(
+        &mut self,
+        level: u64,
+        others: Others,
+        declarations: List,
+        i: u32,
+    ) -> Result<u32, Stop>
+        requires declarations { IsListBelow self.old.arena.held (size self.old.arena) declarations }
+        requires node { IsNode self.old.arena i }
+        ensures reads { Gives result self.new (spec.bind_declared level others (list_trees self.old.arena declarations)
+            (stands self.old.arena i) (state self.old)) }
+        ensures keeps { OnOk result (Keeps self.old self.new) }
+        ensures rest { self.new.rest.now ≡ self.old.rest.now }
+    {
+        tri!(self.count_replaced(i));
+        let from = self.arena.pending_len();
+        tri!(self.add_names(declarations));
+        self.bind_names(level, from, others, i)
+    }
+
+    /// Makes the template parameters of a constraint names, as they are mangled.
+    pub fn bind_constraint(&mut self, i: u32) -> Result<u32, Stop>
+        requires node { IsNode self.old.arena i }
+        ensures reads { Gives result self.new (spec.bind_constraint (stands self.old.arena i) (state self.old)) }
         ensures keeps { OnOk result (Keeps self.old self.new) }
         ensures rest { self.new.rest.now ≡ self.old.rest.now }
     {
         tri!(self.count_replaced(i));
         let binding = Binding {
-            level,
+            level: 0,
             from: self.arena.pending_len(),
-            others: Others::Auto,
+            others: Others::Written,
         };
         bind(&mut self.arena, self.alloc, &binding, i)
     }

@@ -1,21 +1,23 @@
 //! Which case the next bytes select.
 #![tactic(auto, unfolding(cxx_grammar::specs::Words::builtin_of, cxx_grammar::specs::Words::integer_of))]
 
-ghost use Rattle.std.specs.Prelude.{◌≡◌, ◌<◌, [], ◌∷◌, codes, length, if◌then◌else◌};
+ghost use Rattle.std.specs.Prelude.{◌≡◌, ◌<◌, [], ◌∷◌, codes, length, not, if◌then◌else◌};
 ghost use Rattle.abi_scalars.specs.Bytes.{begins, begins_digit, letter, past_letter};
 ghost use Rattle.cxx_grammar.specs.declared.cases.TypeCase.TheVariants as type_case;
 ghost use Rattle.cxx_grammar.specs.declared.cases.FirstCase.TheVariants as first;
+ghost use Rattle.cxx_grammar.specs.declared.cases.BaseCase.TheVariants as base;
 ghost use Rattle.cxx_grammar.specs.declared.cases.ExceptionCase.TheVariants as exception;
 ghost use Rattle.cxx_grammar.specs.declared.cases.ArgCase.TheVariants as arg;
+ghost use Rattle.cxx_grammar.specs.declared.cases.DeclarationCase.TheVariants as declaration;
 ghost use Rattle.cxx_grammar.specs.declared.cases.LiteralCase.TheVariants as literal;
 ghost use Rattle.cxx_grammar.specs.declared.cases.UnresolvedTypeCase.TheVariants as unresolved_type;
 ghost use Rattle.cxx_grammar.specs.Cases as spec;
 
 use crate::words::{builtin_of, integer_of};
 use cxx_grammar::cases::{
-    ArgCase, BaseCase, BaseNameCase, ComponentCase, EncodingCase, ExceptionCase, ExpressionCase,
-    FirstCase, FloatFormat, LiteralCase, LocalCase, NameCase, PrefixCase, TypeCase, UnresolvedCase,
-    UnresolvedTypeCase,
+    ArgCase, BaseCase, BaseNameCase, ComponentCase, DeclarationCase, EncodingCase, ExceptionCase,
+    ExpressionCase, FirstCase, FloatFormat, LiteralCase, LocalCase, NameCase, PrefixCase,
+    RequirementCase, TypeCase, UnresolvedCase, UnresolvedTypeCase,
 };
 
 /// Returns whether a letter is next.
@@ -35,6 +37,69 @@ pub fn is_encoding_end(bytes: &[u8]) -> bool
 {
     match bytes {
         [] | [b'E' | b'.' | b'_', ..] => true,
+        _ => false,
+    }
+}
+
+/// Returns whether the parameters of an encoding end here: at its end, or before a `Q`.
+pub fn is_params_end(bytes: &[u8]) -> bool
+    ensures value { result ≡ spec.is_params_end bytes.now }
+{
+    match bytes {
+        [] | [b'E' | b'.' | b'_' | b'Q', ..] => true,
+        _ => false,
+    }
+}
+
+/// Returns whether the parameters of a lambda end here: before `E` or `Q`.
+pub fn is_lambda_end(bytes: &[u8]) -> bool
+    ensures value { result ≡ spec.is_lambda_end bytes.now }
+{
+    match bytes {
+        [b'E' | b'Q', ..] => true,
+        _ => false,
+    }
+}
+
+/// Returns whether the conditions of a function are next: `Ua9enable_ifI`.
+pub fn begins_enable_if(bytes: &[u8]) -> bool
+    ensures value { result ≡ begins (codes "Ua9enable_ifI") bytes.now }
+{
+    match bytes {
+        [b'U', b'a', b'9', rest @ ..] => begins_conditions(rest),
+        _ => false,
+    }
+}
+
+/// Returns whether a `<template-param-decl>` is next.
+pub fn begins_declaration(bytes: &[u8]) -> bool
+    ensures value { not result ≡ spec.is_declarations_end bytes.now }
+{
+    match bytes {
+        [b'T', b'y' | b'k' | b'n' | b't' | b'p', ..] => true,
+        _ => false,
+    }
+}
+
+// Returns whether `enable_ifI` is next.
+#[inline(never)]
+fn begins_conditions(bytes: &[u8]) -> bool
+    ensures value { result ≡ begins (codes "enable_ifI") bytes.now }
+{
+    match bytes {
+        [
+            b'e',
+            b'n',
+            b'a',
+            b'b',
+            b'l',
+            b'e',
+            b'_',
+            b'i',
+            b'f',
+            b'I',
+            ..
+        ] => true,
         _ => false,
     }
 }
@@ -145,9 +210,11 @@ pub fn component_case(bytes: &[u8]) -> ComponentCase
 /// Returns the case of an `<unqualified-name>` that is no constructor.
 pub fn base_case(bytes: &[u8]) -> BaseCase
     ensures value { result ≡ spec.case_of_base bytes.now }
+    ensures some { result ≡ base.Bindings → 0 < length bytes.now }
 {
     match bytes {
         [b'1'..=b'9', ..] => BaseCase::Source,
+        [b'D', b'C', ..] => BaseCase::Bindings,
         [b'v', b'0'..=b'9', ..] => BaseCase::Vendor,
         [b'U', b't', ..] => BaseCase::Unnamed,
         [b'U', b'b', ..] => BaseCase::Block,
@@ -219,7 +286,7 @@ fn d_case(bytes: &[u8]) -> TypeCase
         [b'v', ..] => TypeCase::Vector,
         [b'p', ..] => TypeCase::Expansion,
         [b'F', ..] => TypeCase::Float,
-        [b'B' | b'U', ..] => TypeCase::Row,
+        [b'B' | b'U' | b'k' | b'K', ..] => TypeCase::Row,
         _ => TypeCase::Builtin,
     }
 }
@@ -245,6 +312,7 @@ pub fn arg_case(bytes: &[u8]) -> ArgCase
 {
     match bytes {
         [b'X', ..] => ArgCase::Expression,
+        [b'T', b'y' | b'k' | b'n' | b't' | b'p', ..] => ArgCase::Declared,
         [b'J', ..] => ArgCase::Pack,
         [b'L', b'Z', ..] => ArgCase::Encoding,
         [b'L', ..] => ArgCase::Literal,
@@ -287,6 +355,8 @@ pub fn expression_case(bytes: &[u8]) -> ExpressionCase
         [b'T', ..] => ExpressionCase::Param,
         [b'f', b'p' | b'L', ..] => ExpressionCase::FunctionParam,
         [b's', b'o', ..] => ExpressionCase::Subobject,
+        [b'r', b'q', ..] => ExpressionCase::Requires(false),
+        [b'r', b'Q', ..] => ExpressionCase::Requires(true),
         [b'u', ..] => ExpressionCase::Vendor,
         [b'a', b'w', ..] => ExpressionCase::Unread,
         _ => ExpressionCase::Name,
@@ -353,5 +423,32 @@ pub fn begins_values(bytes: &[u8]) -> bool
     match bytes {
         [b'p', b'i', ..] => true,
         _ => false,
+    }
+}
+
+/// Returns the case of a `<template-param-decl>`.
+pub fn declaration_case(bytes: &[u8]) -> DeclarationCase
+    ensures value { result ≡ spec.case_of_declaration bytes.now }
+    ensures some { result ≡ declaration.Type → 0 < length bytes.now }
+{
+    match bytes {
+        [b'T', b'y', ..] => DeclarationCase::Type,
+        [b'T', b'k', ..] => DeclarationCase::Constrained,
+        [b'T', b'n', ..] => DeclarationCase::Value,
+        [b'T', b't', ..] => DeclarationCase::Template,
+        [b'T', b'p', ..] => DeclarationCase::Pack,
+        _ => DeclarationCase::Unread,
+    }
+}
+
+/// Returns the case of a `<requirement>`.
+pub fn requirement_case(bytes: &[u8]) -> RequirementCase
+    ensures value { result ≡ spec.case_of_requirement bytes.now }
+{
+    match bytes {
+        [b'X', ..] => RequirementCase::Expression,
+        [b'T', ..] => RequirementCase::Type,
+        [b'Q', ..] => RequirementCase::Nested,
+        _ => RequirementCase::Unread,
     }
 }

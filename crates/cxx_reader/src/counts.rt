@@ -1,18 +1,18 @@
 //! Which one of several entities without a name it is.
 #![tactic(auto, using(crate::proofs::Kept::readers), unfolding(cxx_tree::specs::Grows::Makes, cxx_tree::specs::Stored::stands, crate::specs::Outcome::list_trees))]
 
-ghost use Rattle.std.specs.Prelude.{◌≡◌, [], ◌<◌, ◌≤◌, length, OnOk, None};
-ghost use Rattle.cxx_tree.specs.Phrases.{closure, lambda};
-ghost use Rattle.cxx_tree.specs.Stored.{size, text_at, list_at, IsText, IsListBelow};
-ghost use Rattle.cxx_tree.specs.Tree.{no_trees};
+ghost use Rattle.std.specs.Prelude.{◌≡◌, ◌<◌, ◌≤◌, length, option_map, OnOk};
+ghost use Rattle.cxx_tree.specs.Phrases.{closure};
+ghost use Rattle.cxx_tree.specs.Stored.{size, stands, text_at, IsText};
 ghost use Rattle.cxx_grammar.specs.Ordinals.{ordinal_of};
 ghost use Rattle.cxx_grammar.specs.Parses.{make};
 ghost use Rattle.cxx_grammar.specs.Unnamed as spec;
-ghost use Rattle.cxx_reader.specs.Outcome.{state, list_trees, Keeps, Moves, Gives, GivesText, Copies, CopiesCount};
+ghost use Rattle.cxx_reader.specs.Outcome.{state, list_trees, Keeps, Moves, Gives, GivesText, Copies, CopiesCount, IsSignature, signature_at};
 
 use crate::ordinals::{ordinal, without_zeros};
 use crate::reader::Reader;
-use cxx_tree::{List, NodeText, Signature, Stop};
+use cxx_tree::bind::Others;
+use cxx_tree::{NodeText, Signature, Stop};
 
 /// A count as it is written, and its ordinal.
 #[derive(Clone, Copy)]
@@ -43,89 +43,69 @@ impl<'a> Reader<'a> {
         self.arena.make_fixed(b"'block-literal'")
     }
 
-    /// Reads `[<number>] _` behind the parameters of a closure, and makes the closure. It binds the template parameters
+    /// Reads `[<number>] _` behind the signature of a closure, and makes the closure. It binds the template parameters
     /// of its level.
-    pub fn read_closure_end(&mut self, level: u64, params: List) -> Result<u32, Stop>
-        requires params { IsListBelow self.old.arena.held (size self.old.arena) params }
-        ensures reads { Gives result self.new (spec.parse_closure_end level (list_trees self.old.arena params)
+    pub fn read_closure_end(&mut self, level: u64, signature: Signature) -> Result<u32, Stop>
+        requires signature { IsSignature self.old.arena signature }
+        ensures reads { Gives result self.new (spec.parse_closure_end level (signature_at self.old.arena signature)
             (state self.old)) }
         ensures keeps { OnOk result (Keeps self.old self.new) }
     {
         let digits = tri!(self.read_count());
-        let t = tri!(self.make_counted(params, digits));
-        self.bind_closure(level, t)
+        let t = tri!(self.make_counted(signature, digits));
+        self.bind_declared(level, Others::Auto, signature.declarations, t)
     }
 
-    /// Reads `[<number>] _` behind the parameters of a lambda, and makes its value. It binds the template parameters of
+    /// Reads `[<number>] _` behind the signature of a lambda, and makes its value. It binds the template parameters of
     /// its level.
-    pub fn read_lambda_end(&mut self, level: u64, params: List) -> Result<u32, Stop>
-        requires params { IsListBelow self.old.arena.held (size self.old.arena) params }
-        ensures reads { Gives result self.new (spec.parse_lambda_end level (list_trees self.old.arena params)
+    pub fn read_lambda_end(&mut self, level: u64, signature: Signature) -> Result<u32, Stop>
+        requires signature { IsSignature self.old.arena signature }
+        ensures reads { Gives result self.new (spec.parse_lambda_end level (signature_at self.old.arena signature)
             (state self.old)) }
         ensures keeps { OnOk result (Keeps self.old self.new) }
     {
         tri!(self.read_count());
-        let t = tri!(self.make_lambda(params));
-        self.bind_closure(level, t)
+        let t = tri!(self.make_lambda(signature));
+        self.bind_declared(level, Others::Auto, signature.declarations, t)
     }
 
-    // Makes a lambda without declarations and constraints.
-    fn make_lambda(&mut self, params: List) -> Result<u32, Stop>
-        requires params { IsListBelow self.old.arena.held (size self.old.arena) params }
-        ensures reads { Gives result self.new (make (lambda no_trees None (list_trees self.old.arena params) None)
+    // Makes a lambda.
+    fn make_lambda(&mut self, signature: Signature) -> Result<u32, Stop>
+        requires signature { IsSignature self.old.arena signature }
+        ensures reads { Gives result self.new (make (spec.lambda_tree (signature_at self.old.arena signature))
             (state self.old)) }
         ensures keeps { OnOk result (Keeps self.old self.new) }
         ensures rest { OnOk result (self.new.rest.now ≡ self.old.rest.now) }
     {
-        match self.arena.list(&[]) {
-            Ok(declarations) => {
-                let signature = Signature {
-                    declarations,
-                    before: None,
-                    params,
-                    behind: None,
-                };
-                self.arena.make_lambda(self.alloc, signature)
-            }
-            Err(_) => Err(Stop::Memory),
-        }
+        self.arena.make_lambda(self.alloc, signature)
     }
 
     // Makes a closure with its count.
-    fn make_counted(&mut self, params: List, digits: &[u8]) -> Result<u32, Stop>
-        requires params { IsListBelow self.old.arena.held (size self.old.arena) params }
-        ensures reads { Gives result self.new (make (spec.closure_tree (list_trees self.old.arena params) digits.now)
-            (state self.old)) }
+    fn make_counted(&mut self, signature: Signature, digits: &[u8]) -> Result<u32, Stop>
+        requires signature { IsSignature self.old.arena signature }
+        ensures reads { Gives result self.new (make (spec.closure_tree (signature_at self.old.arena signature)
+            digits.now) (state self.old)) }
         ensures keeps { OnOk result (Keeps self.old self.new) }
         ensures rest { OnOk result (self.new.rest.now ≡ self.old.rest.now) }
     {
         let count = tri!(self.make_count(digits, digits));
-        self.make_closure(params, count)
+        self.make_closure(signature, count)
     }
 
-    // Makes a closure without declarations and constraints.
-    fn make_closure(&mut self, params: List, count: Count) -> Result<u32, Stop>
-        requires params { IsListBelow self.old.arena.held (size self.old.arena) params }
+    // Makes a closure.
+    fn make_closure(&mut self, signature: Signature, count: Count) -> Result<u32, Stop>
+        requires signature { IsSignature self.old.arena signature }
         requires text { IsText self.old.arena.held count.text }
         requires ordinal { IsText self.old.arena.held count.ordinal }
-        ensures reads { Gives result self.new (make (closure no_trees None (list_trees self.old.arena params) None
-            (text_at self.old.arena.held count.text) (text_at self.old.arena.held count.ordinal)) (state self.old)) }
+        ensures reads { Gives result self.new (make (closure (list_trees self.old.arena signature.declarations)
+            (option_map (stands self.old.arena) signature.before) (list_trees self.old.arena signature.params)
+            (option_map (stands self.old.arena) signature.behind) (text_at self.old.arena.held count.text)
+            (text_at self.old.arena.held count.ordinal)) (state self.old)) }
         ensures keeps { OnOk result (Keeps self.old self.new) }
         ensures rest { OnOk result (self.new.rest.now ≡ self.old.rest.now) }
     {
-        match self.arena.list(&[]) {
-            Ok(declarations) => {
-                let signature = Signature {
-                    declarations,
-                    before: None,
-                    params,
-                    behind: None,
-                };
-                self.arena
-                    .make_closure(self.alloc, signature, count.text, count.ordinal)
-            }
-            Err(_) => Err(Stop::Memory),
-        }
+        self.arena
+            .make_closure(self.alloc, signature, count.text, count.ordinal)
     }
 
     // Reads `[<number>] _`.

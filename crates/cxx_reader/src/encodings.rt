@@ -1,26 +1,28 @@
 //! Encodings (Itanium C++ ABI 5.1.2).
-#![tactic(auto, using(crate::proofs::Rules::productions), unfolding(cxx_tree::specs::Stored::tree_of, cxx_tree::specs::Stored::plain_tree, cxx_tree::specs::Stored::IsBelow, cxx_tree::specs::Stored::IsPlainBelow, cxx_tree::specs::Stored::stands, crate::specs::Outcome::named_at, cxx_grammar::specs::Encodings::parse_signature, cxx_grammar::specs::Encodings::encoding_as))]
+#![tactic(auto, using(crate::proofs::Rules::productions), unfolding(cxx_tree::specs::Stored::tree_of, cxx_tree::specs::Stored::plain_tree, cxx_tree::specs::Stored::IsBelow, cxx_tree::specs::Stored::IsPlainBelow, cxx_tree::specs::Stored::stands, crate::specs::Outcome::named_at, crate::specs::Outcome::list_trees, cxx_grammar::specs::Encodings::parse_signature, cxx_grammar::specs::Encodings::parse_enable_if, cxx_grammar::specs::Encodings::encoding_as))]
 
-ghost use Rattle.std.specs.Prelude.{◌≡◌, ℕ, ◌<◌, ◌≤◌, ◌&&◌, not, length, drop, take, OnOk, IfSome, option_map};
+ghost use Rattle.std.specs.Prelude.{◌≡◌, ℕ, ◌<◌, ◌≤◌, ◌&&◌, not, if◌then◌else◌, length, drop, take, OnOk, IfSome, option_map};
+ghost use Rattle.cxx_grammar.specs.declared.rows.Item.TheVariants as item;
 ghost use Rattle.cxx_tree.specs.Kept.{KeepsNodes, IsNode};
-ghost use Rattle.cxx_tree.specs.Stored.{forest, size, stands};
+ghost use Rattle.cxx_tree.specs.Stored.{forest, size, stands, IsListBelow};
 ghost use Rattle.cxx_grammar.specs.Encodings as spec;
 ghost use Rattle.cxx_grammar.specs.Cases.{case_of_encoding};
 ghost use Rattle.cxx_grammar.specs.Parses.{at_level};
 ghost use Rattle.cxx_grammar.specs.Symbol.{productions};
-ghost use Rattle.cxx_reader.specs.Outcome.{state, trees_behind, Keeps, KeepsFront, Moves, Gives, GivesOption, GivesFrom, IsNamed, named_at};
+ghost use Rattle.cxx_reader.specs.Outcome.{state, trees_behind, Keeps, KeepsFront, Moves, Gives, GivesOption, GivesOptionList, GivesFrom, IsNamed, list_trees, named_at};
 
-use crate::cases::{encoding_case, is_encoding_end};
+use crate::cases::{begins_enable_if, encoding_case, is_encoding_end};
+use crate::constraints::read_constraint;
 use crate::names::read_name;
 use crate::reader::{Info, LearnedName, Reader};
-use crate::rows::{read_params, read_row};
+use crate::rows::{read_list, read_params, read_row};
 use crate::specials::special_row;
 use crate::types::read_type;
 use cxx_grammar::cases::EncodingCase;
-use cxx_grammar::rows::End;
-use cxx_tree::{Clauses, Node, Plain, Stop};
+use cxx_grammar::rows::{End, Item};
+use cxx_tree::{Clauses, List, Node, Plain, Stop};
 
-/// Reads what follows the name of an encoding: nothing, or `<bare-function-type>`.
+/// Reads what follows the name of an encoding: nothing, or `[<enable-if>] <bare-function-type>`.
 #[cycle(reader)]
 pub fn read_signature(reader: &mut Reader, depth: usize, name: LearnedName) -> Result<u32, Stop>
     requires named { IsNamed reader.old.arena name }
@@ -34,7 +36,7 @@ pub fn read_signature(reader: &mut Reader, depth: usize, name: LearnedName) -> R
     read_function(reader, depth, name)
 }
 
-// Reads `<bare-function-type> ::= [<return type>] <parameters>`.
+// Reads `[<enable-if>] [<return type>] <parameters> [Q <constraint-expression>]`.
 #[cycle(reader)]
 fn read_function(reader: &mut Reader, depth: usize, name: LearnedName) -> Result<u32, Stop>
     requires named { IsNamed reader.old.arena name }
@@ -42,10 +44,40 @@ fn read_function(reader: &mut Reader, depth: usize, name: LearnedName) -> Result
         (named_at reader.old.arena name) (state reader.old)) }
     ensures keeps { OnOk result (Keeps reader.old reader.new) }
 {
+    let enable_if = tri!(read_enable_if(reader, depth));
     let ret = tri!(read_return_type(reader, depth, has_return(name.info)));
     let from = reader.arena.pending_len();
-    tri!(read_params(reader, depth, End::Encoding));
-    reader.make_function(ret, name, from)
+    tri!(read_params(reader, depth, first_param(name.info), End::Encoding,));
+    let constraint = tri!(read_constraint(reader, depth));
+    let clauses = Clauses {
+        enable_if,
+        constraint,
+    };
+    reader.make_function(ret, name, from, clauses)
+}
+
+// Reads `[Ua9enable_ifI <template-arg>* E]`.
+#[cycle(reader)]
+fn read_enable_if(reader: &mut Reader, depth: usize) -> Result<Option<List>, Stop>
+    ensures reads { GivesOptionList result reader.new (spec.parse_enable_if (productions depth) (state reader.old)) }
+    ensures keeps { OnOk result (Keeps reader.old reader.new) }
+{
+    if !begins_enable_if(reader.rest) {
+        return Ok(None);
+    }
+    let conditions = tri!(read_list(reader, depth, 13, Item::Arg));
+    Ok(Some(conditions))
+}
+
+// What the first parameter of a function is: a type, which may be that of its object.
+fn first_param(info: Info) -> Item
+    ensures value { result ≡ (if info.explicit_object then item.Object else item.Type) }
+{
+    if info.explicit_object {
+        Item::Object
+    } else {
+        Item::Type
+    }
 }
 
 // Whether a function has its return type in front of its parameters.
@@ -76,22 +108,23 @@ impl<'a> Reader<'a> {
         ret: Option<u32>,
         name: LearnedName,
         from: usize,
+        clauses: Clauses,
     ) -> Result<u32, Stop>
         requires ret { IfSome ret (IsNode self.old.arena) }
         requires named { IsNamed self.old.arena name }
         requires within { from ≤ length self.old.arena.pending }
+        requires enable_if { IfSome clauses.enable_if (IsListBelow self.old.arena.held (size self.old.arena)) }
+        requires constraint { IfSome clauses.constraint (IsNode self.old.arena) }
         ensures reads { Gives result self.new (spec.make_function (option_map (stands self.old.arena) ret)
-            (named_at self.old.arena name) (trees_behind from self.old.arena) (state self.old)) }
+            (named_at self.old.arena name) (trees_behind from self.old.arena)
+            (option_map (list_trees self.old.arena) clauses.enable_if)
+            (option_map (stands self.old.arena) clauses.constraint) (state self.old)) }
         ensures grows { OnOk result (KeepsNodes self.old.arena self.new.arena) }
         ensures pending { OnOk result (self.new.arena.pending ≡ take from self.old.arena.pending) }
         ensures rest { OnOk result (self.new.rest.now ≡ self.old.rest.now) }
     {
         let info = name.info;
         let params = tri!(self.arena.list_from(from));
-        let clauses = Clauses {
-            enable_if: None,
-            constraint: None,
-        };
         self.arena
             .make_encoding(ret, name.node, params, info.cv, info.ref_qual, clauses)
     }

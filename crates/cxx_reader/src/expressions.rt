@@ -3,7 +3,7 @@
 
 ghost use Rattle.std.specs.Prelude.{◌≡◌, ℕ, ◌<◌, ◌≤◌, length, OnOk, Some};
 ghost use Rattle.cxx_tree.specs.Kept.{IsNode};
-ghost use Rattle.cxx_tree.specs.Phrases.{call, new_expression, subobject};
+ghost use Rattle.cxx_tree.specs.Phrases.{call, new_expression, requires_expression, subobject};
 ghost use Rattle.cxx_tree.specs.Stored.{size, stands, IsListBelow};
 ghost use Rattle.cxx_tree.specs.Texts.{number_printed};
 ghost use Rattle.cxx_grammar.specs.Expressions as spec;
@@ -69,6 +69,7 @@ fn read_other_expression(reader: &mut Reader, depth: usize) -> Result<u32, Stop>
         ExpressionCase::Param => reader.read_template_param(),
         ExpressionCase::FunctionParam => reader.read_function_param(),
         ExpressionCase::Subobject => read_subobject(reader, depth),
+        ExpressionCase::Requires(has_params) => read_requires(reader, depth, has_params),
         ExpressionCase::Vendor => read_vendor_expression(reader, depth),
         ExpressionCase::Unread => Err(Stop::Unreadable),
         ExpressionCase::Name => read_unresolved_name(reader, depth),
@@ -83,7 +84,7 @@ fn read_new(reader: &mut Reader, depth: usize, is_global: bool, is_array: bool) 
         (state reader.old)) }
     ensures moves { OnOk result (Moves reader.old reader.new) }
 {
-    let places = tri!(read_placement(reader, depth, new_len(is_global)));
+    let places = tri!(read_to_underscore(reader, depth, new_len(is_global), Item::Expression));
     let t = tri!(read_type(reader, depth, false));
     let values = tri!(read_initializer(reader, depth));
     reader.make_new(places, t, values, is_global, is_array)
@@ -99,15 +100,16 @@ fn new_len(is_global: bool) -> usize
     2
 }
 
-// Reads `<expression>* _`, behind n letters.
+// Reads items up to a `_`, behind n letters.
 #[cycle(reader)]
-fn read_placement(reader: &mut Reader, depth: usize, n: usize) -> Result<List, Stop>
-    ensures reads { GivesList result reader.new (spec.parse_placement (productions depth) n (state reader.old)) }
+fn read_to_underscore(reader: &mut Reader, depth: usize, n: usize, item: Item) -> Result<List, Stop>
+    ensures reads { GivesList result reader.new (spec.parse_to_underscore (productions depth) n item
+        (state reader.old)) }
     ensures moves { OnOk result (Moves reader.old reader.new) }
 {
     reader.skip(n);
     let from = reader.arena.pending_len();
-    tri!(read_items(reader, depth, Item::Expression, End::Underscore, from));
+    tri!(read_items(reader, depth, item, End::Underscore, from));
     reader.skip(1);
     reader.arena.list_from(from)
 }
@@ -136,6 +138,43 @@ fn read_subobject(reader: &mut Reader, depth: usize) -> Result<u32, Stop>
     let e = tri!(read_expression(reader, depth));
     let offset = tri!(reader.read_offset_end());
     reader.make_subobject(t, e, offset)
+}
+
+// Reads `rq <requirement>+ E`, or `rQ <type>* _ <requirement>+ E`.
+#[cycle(reader)]
+#[inline(never)]
+fn read_requires(reader: &mut Reader, depth: usize, has_params: bool) -> Result<u32, Stop>
+    ensures reads { Gives result reader.new (spec.parse_requires (productions depth) has_params (state reader.old)) }
+    ensures moves { OnOk result (Moves reader.old reader.new) }
+{
+    let params = tri!(read_requires_params(reader, depth, has_params));
+    let requirements = tri!(read_requirements(reader, depth));
+    reader.make_requires(params, requirements)
+}
+
+// Reads `rq`, or `rQ <type>* _`.
+#[cycle(reader)]
+fn read_requires_params(reader: &mut Reader, depth: usize, has_params: bool) -> Result<List, Stop>
+    ensures reads { GivesList result reader.new (spec.parse_requires_params (productions depth) has_params
+        (state reader.old)) }
+    ensures keeps { OnOk result (Keeps reader.old reader.new) }
+{
+    if has_params {
+        return read_to_underscore(reader, depth, 2, Item::Type);
+    }
+    reader.read_no_params()
+}
+
+// Reads `<requirement>+ E`.
+#[cycle(reader)]
+fn read_requirements(reader: &mut Reader, depth: usize) -> Result<List, Stop>
+    ensures reads { GivesList result reader.new (spec.parse_requirements (productions depth) (state reader.old)) }
+    ensures moves { OnOk result (Moves reader.old reader.new) }
+{
+    if begins(reader.rest, b'E') {
+        return Err(Stop::Unreadable);
+    }
+    read_list(reader, depth, 0, Item::Requirement)
 }
 
 // Reads `u <source-name> <template-arg>* E`, or `u8__uuidof` and `t <type>` or `z <expression>`.
@@ -207,6 +246,28 @@ impl<'a> Reader<'a> {
         tri!(self.expect(b'E'));
         let from = self.arena.pending_len();
         self.arena.list_from(from)
+    }
+
+    // Reads `rq`, behind which there are no parameters.
+    fn read_no_params(&mut self) -> Result<List, Stop>
+        ensures reads { GivesList result self.new (spec.parse_no_params (state self.old)) }
+        ensures keeps { OnOk result (Keeps self.old self.new) }
+    {
+        self.skip(2);
+        let from = self.arena.pending_len();
+        self.arena.list_from(from)
+    }
+
+    // Makes a requires expression.
+    fn make_requires(&mut self, params: List, requirements: List) -> Result<u32, Stop>
+        requires params { IsListBelow self.old.arena.held (size self.old.arena) params }
+        requires requirements { IsListBelow self.old.arena.held (size self.old.arena) requirements }
+        ensures reads { Gives result self.new (make (requires_expression (list_trees self.old.arena params)
+            (list_trees self.old.arena requirements)) (state self.old)) }
+        ensures keeps { OnOk result (Keeps self.old self.new) }
+        ensures rest { OnOk result (self.new.rest.now ≡ self.old.rest.now) }
+    {
+        self.arena.make_requires(params, requirements)
     }
 
     // Makes a `new` expression.

@@ -1,5 +1,5 @@
 //! Names (Itanium C++ ABI 5.1.2).
-#![tactic(auto, using(crate::proofs::Rules::productions), unfolding(cxx_tree::specs::Grows::Makes, cxx_tree::specs::Stored::tree_of, cxx_tree::specs::Stored::plain_tree, cxx_tree::specs::Stored::IsBelow, cxx_tree::specs::Stored::IsPlainBelow, cxx_tree::specs::Stored::stands, crate::specs::Outcome::named_at, crate::specs::Outcome::place_at, crate::specs::Outcome::part_at, crate::specs::Outcome::list_trees, cxx_grammar::specs::Names::name_as, cxx_grammar::specs::Names::first_as, cxx_grammar::specs::Names::part_as, cxx_grammar::specs::Names::base_as, cxx_grammar::specs::Names::parse_class_of, cxx_grammar::specs::Names::parse_info, cxx_grammar::specs::Names::parse_unqualified_name, cxx_grammar::specs::Names::parse_named_args, cxx_grammar::specs::Names::parse_in_place, cxx_grammar::specs::Names::parse_component, cxx_grammar::specs::Names::parse_next))]
+#![tactic(auto, using(crate::proofs::Rules::productions), unfolding(cxx_tree::specs::Grows::Makes, cxx_tree::specs::Stored::tree_of, cxx_tree::specs::Stored::plain_tree, cxx_tree::specs::Stored::IsBelow, cxx_tree::specs::Stored::IsPlainBelow, cxx_tree::specs::Stored::stands, crate::specs::Outcome::named_at, crate::specs::Outcome::place_at, crate::specs::Outcome::part_at, crate::specs::Outcome::list_trees, cxx_grammar::specs::Names::name_as, cxx_grammar::specs::Names::first_as, cxx_grammar::specs::Names::part_as, cxx_grammar::specs::Names::base_as, cxx_grammar::specs::Names::parse_class_of, cxx_grammar::specs::Names::parse_info, cxx_grammar::specs::Names::parse_front, cxx_grammar::specs::Names::parse_unqualified_name, cxx_grammar::specs::Names::parse_named_args, cxx_grammar::specs::Names::parse_in_place, cxx_grammar::specs::Names::parse_component, cxx_grammar::specs::Names::parse_next))]
 
 ghost use Rattle.std.specs.Prelude.{◌≡◌, ℕ, ◌<◌, ◌≤◌, length, true, false, Option, Some, None, OnOk, IfSome, option_map};
 ghost use Rattle.abi_scalars.specs.Texts.{begins_source};
@@ -9,20 +9,21 @@ ghost use Rattle.cxx_grammar.specs.Parses as parses;
 ghost use Rattle.cxx_grammar.specs.Leaves as leaves;
 ghost use Rattle.cxx_grammar.specs.Bases.{expand};
 ghost use Rattle.cxx_grammar.specs.Cases.{case_of_base, case_of_component};
+ghost use Rattle.cxx_grammar.specs.declared.cases.BaseCase.TheVariants as base;
 ghost use Rattle.cxx_grammar.specs.Names as spec;
 ghost use Rattle.cxx_grammar.specs.State as grammar;
 ghost use Rattle.cxx_grammar.specs.Symbol.{productions};
 ghost use Rattle.cxx_reader.specs.Outcome as outcome;
-ghost use Rattle.cxx_reader.specs.Outcome.{state, Keeps, Moves, Gives, GivesNamed, GivesPart, IsInfo, IsNamed, IsPlace, IsPart, info_at, named_at, place_at, part_at};
+ghost use Rattle.cxx_reader.specs.Outcome.{state, Keeps, Moves, Gives, GivesNamed, GivesPart, GivesPlace, IsInfo, IsNamed, IsPlace, IsPart, info_at, named_at, place_at, part_at};
 ghost use Rattle.cxx_reader.specs.Sources.{parse_source_at};
 
 use crate::args::read_args;
-use crate::bases::{base_name, is_param_class, is_with_args, short_std};
+use crate::bases::{base_name, is_module, is_param_class, is_with_args, short_std};
 use crate::cases::{base_case, begins, component_case, first_case, name_case};
 use crate::locals::read_local_name;
 use crate::reader::{Info, LearnedName, Reader};
 use crate::rows::read_row;
-use crate::specials::decltype_row;
+use crate::specials::{bindings_row, decltype_row};
 use crate::types::read_type;
 use crate::unnamed::read_closure;
 use abi_scalars::texts::begins_source;
@@ -33,18 +34,21 @@ use cxx_tree::{Cv, Node, NodeText, Plain, Prec, RefQual, Stop};
 #[derive(Clone, Copy)]
 pub struct Place {
     pub scope: Option<u32>,
+    /// Its module.
+    pub owner: Option<u32>,
+    /// It is a friend that its scope declares.
+    pub is_friend: bool,
     /// It is a component of a `<nested-name>`.
     pub is_nested: bool,
     /// What is learned of the name by what stands in front of it.
     pub info: Info,
 }
 
-/// A name without its tags and its scope, and the scope that it has.
+/// A name without its module, its tags and its scope, and the place that it has.
 #[derive(Clone, Copy)]
 pub struct Part {
     pub node: u32,
-    pub scope: Option<u32>,
-    pub info: Info,
+    pub place: Place,
 }
 
 /// What is learned of a name before its components are read: its qualifiers.
@@ -56,6 +60,7 @@ fn info_of(cv: Cv, ref_qual: RefQual) -> Info
         no_return: false,
         cv,
         ref_qual,
+        explicit_object: false,
         inherited: None,
     }
 }
@@ -88,11 +93,19 @@ pub fn plain(node: u32) -> LearnedName
 
 // The place of a name outside of a `<nested-name>`.
 #[inline(always)]
-fn unscoped(scope: Option<u32>) -> Place
-    ensures value { result ≡ record { scope = scope; is_nested = false; info = outcome.no_info } }
+fn unscoped(scope: Option<u32>, owner: Option<u32>) -> Place
+    ensures value { result ≡ record {
+      scope = scope;
+      owner = owner;
+      is_friend = false;
+      is_nested = false;
+      info = outcome.no_info;
+    } }
 {
     Place {
         scope,
+        owner,
+        is_friend: false,
         is_nested: false,
         info: unqualified(),
     }
@@ -100,11 +113,19 @@ fn unscoped(scope: Option<u32>) -> Place
 
 // The place of a component of a `<nested-name>`.
 #[inline(always)]
-fn nested(scope: Option<u32>, info: Info) -> Place
-    ensures value { result ≡ record { scope = scope; is_nested = true; info = record info { ends_with_args = false } } }
+fn nested(scope: Option<u32>, owner: Option<u32>, info: Info) -> Place
+    ensures value { result ≡ record {
+      scope = scope;
+      owner = owner;
+      is_friend = false;
+      is_nested = true;
+      info = record info { ends_with_args = false };
+    } }
 {
     Place {
         scope,
+        owner,
+        is_friend: false,
         is_nested: true,
         info: Info {
             ends_with_args: false,
@@ -132,7 +153,7 @@ pub fn read_name(reader: &mut Reader, depth: usize) -> Result<LearnedName, Stop>
     }
 }
 
-// Reads `St <unqualified-name> [<template-args>]`.
+// Reads `St [<module substitution>] <unqualified-name> [<template-args>]`.
 #[cycle(reader)]
 fn read_std_name(reader: &mut Reader, depth: usize) -> Result<LearnedName, Stop>
     ensures reads { GivesNamed result reader.new (spec.parse_std_name (productions depth) (state reader.old)) }
@@ -140,26 +161,62 @@ fn read_std_name(reader: &mut Reader, depth: usize) -> Result<LearnedName, Stop>
 {
     reader.skip(2);
     let scope = tri!(reader.make_std());
-    read_in_place(reader, depth, unscoped(Some(scope)))
+    if begins(reader.rest, b'S') {
+        return read_std_module(reader, depth, scope);
+    }
+    read_in_place(reader, depth, unscoped(Some(scope), None))
+}
+
+// Reads `<module substitution> <unqualified-name> [<template-args>]` in std.
+#[cycle(reader)]
+fn read_std_module(reader: &mut Reader, depth: usize, std: u32) -> Result<LearnedName, Stop>
+    requires std { IsNode reader.old.arena std }
+    ensures reads { GivesNamed result reader.new (spec.parse_std_module (productions depth)
+        (stands reader.old.arena std) (state reader.old)) }
+    ensures moves { OnOk result (Moves reader.old reader.new) }
+{
+    let owner = tri!(reader.read_module_substitution());
+    read_in_module(reader, depth, Some(std), owner)
+}
+
+/// Reads `<unqualified-name> [<template-args>]` in a module that is a substitution.
+#[cycle(reader)]
+#[inline(never)]
+pub fn read_in_module(
+    reader: &mut Reader,
+    depth: usize,
+    scope: Option<u32>,
+    owner: u32,
+) -> Result<LearnedName, Stop>
+    requires scope { IfSome scope (IsNode reader.old.arena) }
+    requires owner { IsNode reader.old.arena owner }
+    ensures reads { GivesNamed result reader.new (spec.parse_in_module (productions depth)
+        (option_map (stands reader.old.arena) scope) (stands reader.old.arena owner) (state reader.old)) }
+    ensures moves { OnOk result (Moves reader.old reader.new) }
+{
+    read_in_place(reader, depth, unscoped(scope, Some(owner)))
 }
 
 // Reads `<unqualified-name> [<template-args>]` without a scope.
 #[cycle(reader)]
 fn read_unscoped(reader: &mut Reader, depth: usize) -> Result<LearnedName, Stop>
-    ensures reads { GivesNamed result reader.new (spec.parse_in_place (productions depth) (spec.unscoped None)
+    ensures reads { GivesNamed result reader.new (spec.parse_in_place (productions depth) (spec.unscoped None None)
         (state reader.old)) }
     ensures moves { OnOk result (Moves reader.old reader.new) }
 {
-    read_in_place(reader, depth, unscoped(None))
+    read_in_place(reader, depth, unscoped(None, None))
 }
 
-// Reads `<substitution> <template-args>`.
+// Reads `<substitution> <template-args>`, or a name in a module that is the substitution.
 #[cycle(reader)]
 fn read_substituted(reader: &mut Reader, depth: usize) -> Result<LearnedName, Stop>
     ensures reads { GivesNamed result reader.new (spec.parse_substituted (productions depth) (state reader.old)) }
     ensures moves { OnOk result (Moves reader.old reader.new) }
 {
     let node = tri!(reader.read_substitution());
+    if is_module(&reader.arena, node) {
+        return read_in_module(reader, depth, None, node);
+    }
     read_named_args(reader, depth, plain(node))
 }
 
@@ -201,8 +258,8 @@ fn read_named_args(
     Ok(LearnedName { node, info })
 }
 
-// Reads `<unqualified-name> ::= [L] <name> [<abi-tags>]`, where the name is an operator's, a constructor's or a
-// destructor's, a source name or an unnamed type's. A source name, as most are, is read without the other cases.
+// Reads `<unqualified-name> ::= [<module-name>] [F] [L] <name> [<abi-tags>]`, where the name is an operator's, a
+// constructor's or a destructor's, a source name, an unnamed type's or that of a structured binding.
 #[cycle(reader)]
 #[inline(always)]
 fn read_unqualified_name(
@@ -211,6 +268,23 @@ fn read_unqualified_name(
     place: Place,
 ) -> Result<LearnedName, Stop>
     requires place { IsPlace reader.old.arena place }
+    ensures reads { GivesNamed result reader.new (spec.parse_unqualified_name (productions depth)
+        (place_at reader.old.arena place) (state reader.old)) }
+    ensures moves { OnOk result (Moves reader.old reader.new) }
+{
+    match place.owner {
+        Some(_) => read_other_name(reader, depth, place),
+        None => read_unowned_name(reader, depth, place),
+    }
+}
+
+// Reads an `<unqualified-name>` behind no module that is a substitution. A source name, as most are, is read without
+// the other cases.
+#[cycle(reader)]
+#[inline(always)]
+fn read_unowned_name(reader: &mut Reader, depth: usize, place: Place) -> Result<LearnedName, Stop>
+    requires place { IsPlace reader.old.arena place }
+    requires unowned { place.owner ≡ None }
     ensures reads { GivesNamed result reader.new (spec.parse_unqualified_name (productions depth)
         (place_at reader.old.arena place) (state reader.old)) }
     ensures moves { OnOk result (Moves reader.old reader.new) }
@@ -230,13 +304,12 @@ fn read_other_name(reader: &mut Reader, depth: usize, place: Place) -> Result<Le
         (place_at reader.old.arena place) (state reader.old)) }
     ensures moves { OnOk result (Moves reader.old reader.new) }
 {
-    // The mark of internal linkage, which prints nothing.
-    reader.skip_letter(b'L');
+    let place = tri!(reader.read_front(place));
     let part = tri!(read_part(reader, depth, place));
     reader.read_part_end(part)
 }
 
-// Reads an `<unqualified-name>` after its `L`.
+// Reads an `<unqualified-name>` after its module, its `F` and its `L`.
 #[cycle(reader)]
 fn read_part(reader: &mut Reader, depth: usize, place: Place) -> Result<Part, Stop>
     requires place { IsPlace reader.old.arena place }
@@ -262,13 +335,13 @@ fn read_base_part(reader: &mut Reader, depth: usize, place: Place) -> Result<Par
 {
     let case = base_case(reader.rest);
     let node = tri!(read_base(reader, depth, case));
+    let info = Info {
+        no_return: place.info.no_return || is_conversion(case),
+        ..place.info
+    };
     Ok(Part {
         node,
-        scope: place.scope,
-        info: Info {
-            no_return: place.info.no_return || is_conversion(case),
-            ..place.info
-        },
+        place: Place { info, ..place },
     })
 }
 
@@ -285,11 +358,13 @@ fn is_conversion(case: BaseCase) -> bool
 /// Reads a name without a scope and without tags.
 #[cycle(reader)]
 pub fn read_base(reader: &mut Reader, depth: usize, case: BaseCase) -> Result<u32, Stop>
+    requires some { case ≡ base.Bindings → 0 < length reader.old.rest.now }
     ensures reads { Gives result reader.new (spec.base_as (productions depth) case (state reader.old)) }
     ensures moves { OnOk result (Moves reader.old reader.new) }
 {
     match case {
         BaseCase::Source => reader.read_source_name(),
+        BaseCase::Bindings => read_row(reader, depth, bindings_row()),
         BaseCase::Unnamed => reader.read_unnamed(),
         BaseCase::Block => reader.read_block(),
         BaseCase::Closure => read_closure(reader, depth),
@@ -331,10 +406,10 @@ fn read_inherited_ctor(reader: &mut Reader, depth: usize, place: Place) -> Resul
         inherited: Some(from.node),
         ..place.info
     };
-    reader.make_ctor(class, false, info)
+    reader.make_ctor(class, false, Place { info, ..place })
 }
 
-// Reads `<nested-name> ::= N [<CV-qualifiers>] [<ref-qualifier>] <component>+ E`.
+// Reads `<nested-name> ::= N [<CV-qualifiers>] [<ref-qualifier>] <component>+ E` or `N H <component>+ E`.
 #[cycle(reader)]
 #[inline(always)]
 fn read_nested_name(reader: &mut Reader, depth: usize) -> Result<LearnedName, Stop>
@@ -347,8 +422,8 @@ fn read_nested_name(reader: &mut Reader, depth: usize) -> Result<LearnedName, St
     read_components(reader, depth, name)
 }
 
-// Reads the first component, after the qualifiers. If it is `St` or a substitution, the component in this scope is read
-// too.
+// Reads the first component, after the qualifiers. If it is `St` or a substitution, the component in this scope or in
+// this module is read too.
 #[cycle(reader)]
 #[inline(always)]
 fn read_first(reader: &mut Reader, depth: usize, info: Info) -> Result<LearnedName, Stop>
@@ -363,7 +438,7 @@ fn read_first(reader: &mut Reader, depth: usize, info: Info) -> Result<LearnedNa
         FirstCase::Substitution => read_first_substitution(reader, depth, info),
         FirstCase::Param => reader.read_first_param(info),
         FirstCase::Decltype => read_first_decltype(reader, depth, info),
-        FirstCase::Unqualified => read_unqualified_name(reader, depth, nested(None, info)),
+        FirstCase::Unqualified => read_unqualified_name(reader, depth, nested(None, None, info)),
     }
 }
 
@@ -401,11 +476,15 @@ fn read_first_substitution(
     info: Info,
 ) -> Result<LearnedName, Stop>
     requires info { IsInfo reader.old.arena info }
+    requires no_args { info.ends_with_args ≡ false }
     ensures reads { GivesNamed result reader.new (spec.first_substitution (productions depth)
         (info_at reader.old.arena info) (state reader.old)) }
     ensures moves { OnOk result (Moves reader.old reader.new) }
 {
     let node = tri!(reader.read_substitution());
+    if is_module(&reader.arena, node) {
+        return read_unqualified_name(reader, depth, nested(None, Some(node), info));
+    }
     read_component(reader, depth, LearnedName { node, info })
 }
 
@@ -463,7 +542,31 @@ fn read_component(
     if begins(reader.rest, b'I') {
         return read_more_args(reader, depth, scope);
     }
-    read_unqualified_name(reader, depth, nested(Some(scope.node), scope.info))
+    if begins(reader.rest, b'S') {
+        return read_module_component(reader, depth, scope);
+    }
+    read_unqualified_name(reader, depth, nested(Some(scope.node), None, scope.info))
+}
+
+// Reads `<module substitution> <unqualified-name>` in a scope.
+#[cycle(reader)]
+#[inline(never)]
+fn read_module_component(
+    reader: &mut Reader,
+    depth: usize,
+    scope: LearnedName,
+) -> Result<LearnedName, Stop>
+    requires named { IsNamed reader.old.arena scope }
+    ensures reads { GivesNamed result reader.new (spec.parse_module_component (productions depth)
+        (named_at reader.old.arena scope) (state reader.old)) }
+    ensures moves { OnOk result (Moves reader.old reader.new) }
+{
+    let owner = tri!(reader.read_module_substitution());
+    read_unqualified_name(
+        reader,
+        depth,
+        nested(Some(scope.node), Some(owner), scope.info),
+    )
 }
 
 // Reads the arguments of a name that has none yet.
@@ -510,7 +613,7 @@ impl<'a> Reader<'a> {
     {
         self.skip(2);
         let class = tri!(self.class_of(place));
-        self.make_ctor(class, is_destructor, place.info)
+        self.make_ctor(class, is_destructor, place)
     }
 
     // The class of a constructor: an abbreviation of std is written out.
@@ -523,7 +626,7 @@ impl<'a> Reader<'a> {
         let Some(class) = place.scope else {
             return Err(Stop::Unreadable);
         };
-        if !place.is_nested || is_param_class(&self.arena, class) {
+        if !place.is_nested || place.owner.is_some() || is_param_class(&self.arena, class) {
             return Err(Stop::Unreadable);
         }
         self.expanded(class)
@@ -543,38 +646,75 @@ impl<'a> Reader<'a> {
     }
 
     // Makes a constructor or a destructor of a class.
-    fn make_ctor(&mut self, class: u32, is_destructor: bool, info: Info) -> Result<Part, Stop>
+    fn make_ctor(&mut self, class: u32, is_destructor: bool, place: Place) -> Result<Part, Stop>
         requires class { IsNode self.old.arena class }
-        requires info { IsInfo self.old.arena info }
+        requires place { IsPlace self.old.arena place }
         ensures reads { GivesPart result self.new (spec.make_ctor (stands self.old.arena class) is_destructor
-            (info_at self.old.arena info) (state self.old)) }
+            (place_at self.old.arena place) (state self.old)) }
         ensures keeps { OnOk result (Keeps self.old self.new) }
         ensures rest { OnOk result (self.new.rest.now ≡ self.old.rest.now) }
     {
         let text = base_name(&self.arena, class);
         let node = tri!(self.arena.make_ctor_dtor(text, is_destructor));
+        let info = Info {
+            no_return: true,
+            ..place.info
+        };
         Ok(Part {
             node,
-            scope: Some(class),
-            info: Info {
-                no_return: true,
-                ..info
+            place: Place {
+                scope: Some(class),
+                info,
+                ..place
             },
         })
     }
 
-    // Reads the tags of a name, and puts it in its scope.
+    // Reads `[<module-name>] [F] [L]`.
+    fn read_front(&mut self, place: Place) -> Result<Place, Stop>
+        requires place { IsPlace self.old.arena place }
+        ensures reads { GivesPlace result self.new (spec.parse_front (place_at self.old.arena place)
+            (state self.old)) }
+        ensures keeps { OnOk result (Keeps self.old self.new) }
+    {
+        let owner = tri!(self.read_subnames(place.owner));
+        let is_friend = self.skip_friend(place.scope);
+        // The mark of internal linkage, which prints nothing.
+        self.skip_letter(b'L');
+        Ok(Place {
+            owner,
+            is_friend,
+            ..place
+        })
+    }
+
+    // Skips `F`, if it is next and there is a scope. Returns whether it was.
+    fn skip_friend(&mut self, scope: Option<u32>) -> bool
+        requires scope { IfSome scope (IsNode self.old.arena) }
+        ensures reads { spec.parse_friend (option_map (stands self.old.arena) scope) (state self.old)
+            ≡ Some (result, state self.new) }
+        ensures arena { self.new.arena ≡ self.old.arena }
+        ensures within { length self.new.rest.now ≤ length self.old.rest.now }
+    {
+        match scope {
+            Some(_) => self.skip_letter(b'F'),
+            None => false,
+        }
+    }
+
+    // Puts a name in its module, reads its tags, and puts it in its scope.
     fn read_part_end(&mut self, part: Part) -> Result<LearnedName, Stop>
         requires part { IsPart self.old.arena part }
         ensures reads { GivesNamed result self.new (spec.parse_part_end (part_at self.old.arena part)
             (state self.old)) }
         ensures keeps { OnOk result (Keeps self.old self.new) }
     {
-        let tagged = tri!(self.read_abi_tags(part.node));
-        let node = tri!(self.put_in(part.scope, tagged));
+        let owned = tri!(self.put_in_module(part.place.owner, part.node));
+        let tagged = tri!(self.read_abi_tags(owned));
+        let node = tri!(self.put_in(part.place.is_friend, part.place.scope, tagged));
         Ok(LearnedName {
             node,
-            info: part.info,
+            info: part.place.info,
         })
     }
 
@@ -598,6 +738,12 @@ impl<'a> Reader<'a> {
         ensures arena { self.new.arena ≡ self.old.arena }
         ensures within { length self.new.rest.now ≤ length self.old.rest.now }
     {
+        if self.skip_letter(b'H') {
+            return Info {
+                explicit_object: true,
+                ..unqualified()
+            };
+        }
         let cv = self.read_cv();
         let ref_qual = self.read_ref_qual();
         info_of(cv, ref_qual)

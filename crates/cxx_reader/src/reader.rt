@@ -1,5 +1,5 @@
 //! The state of the readers, and what is read by itself.
-#![tactic(auto, using(crate::proofs::Kept::readers), unfolding(cxx_tree::specs::Stored::stands, cxx_tree::specs::Grows::Makes, cxx_grammar::specs::Parses::past_word_if, cxx_grammar::specs::Leaves::parse_substitution, cxx_grammar::specs::Leaves::parse_template_param, cxx_grammar::specs::Leaves::parse_cv, cxx_grammar::specs::Leaves::parse_ref, cxx_grammar::specs::Leaves::parse_builtin, cxx_grammar::specs::Names::base_as, cxx_tree::specs::Stored::tree_of, cxx_tree::specs::Stored::plain_tree, cxx_tree::specs::Stored::IsBelow, cxx_tree::specs::Stored::IsPlainBelow))]
+#![tactic(auto, using(crate::proofs::Kept::readers), unfolding(cxx_tree::specs::Stored::stands, cxx_tree::specs::Grows::Makes, cxx_grammar::specs::Parses::past_word_if, cxx_grammar::specs::Leaves::parse_substitution, cxx_grammar::specs::Leaves::parse_template_param, cxx_grammar::specs::Leaves::parse_param_level, cxx_grammar::specs::Leaves::parse_cv, cxx_grammar::specs::Leaves::parse_ref, cxx_grammar::specs::Leaves::parse_builtin, cxx_grammar::specs::Names::base_as, cxx_tree::specs::Stored::tree_of, cxx_tree::specs::Stored::plain_tree, cxx_tree::specs::Stored::IsBelow, cxx_tree::specs::Stored::IsPlainBelow))]
 
 ghost use Rattle.std.specs.Prelude.{◌≡◌, ℕ, ◌-◌, ◌<◌, ◌≤◌, [], ◌∷◌, length, true, false, Some, IfSome, OnOk, option_map};
 ghost use Rattle.cxx_tree.specs.Stored.{forest, size, tree_of, IsBelow, stands};
@@ -10,9 +10,9 @@ ghost use Rattle.cxx_grammar.specs.Leaves as leaves;
 ghost use Rattle.cxx_grammar.specs.Names as names;
 ghost use Rattle.cxx_grammar.specs.Words as words;
 ghost use Rattle.cxx_reader.specs.Sources as sources;
-ghost use Rattle.cxx_reader.specs.Outcome.{state, Keeps, Moves, Gives, GivesText, Copies};
+ghost use Rattle.cxx_reader.specs.Outcome.{state, Keeps, Moves, Gives, GivesCount, GivesText, Copies};
 
-use crate::cases::begins;
+use crate::cases::{begins, begins_digit};
 use crate::words::{builtin_of, d_builtin_of, operator_of};
 use abi_scalars::numerals::{Radix, index_of};
 use abi_scalars::texts::{identifier, source_text};
@@ -26,9 +26,18 @@ pub struct Reader<'a> {
     pub arena: Arena,
     /// How many nodes were replaced.
     pub replaced: usize,
+    pub invented: Invented,
     /// How many binders of template parameters are around this place.
     pub level: u64,
     pub alloc: Global,
+}
+
+/// How many names were invented for declared template parameters.
+#[derive(Clone, Copy)]
+pub struct Invented {
+    pub types: u64,
+    pub values: u64,
+    pub templates: u64,
 }
 
 /// What an encoding learns of its name.
@@ -40,6 +49,8 @@ pub struct Info {
     pub no_return: bool,
     pub cv: Cv,
     pub ref_qual: RefQual,
+    /// `H` stood after `N`: the first parameter is the object.
+    pub explicit_object: bool,
     /// The name after `CI`.
     pub inherited: Option<u32>,
 }
@@ -183,20 +194,20 @@ impl<'a> Reader<'a> {
     {
         let node = tri!(self.arena.make_name(source_text(name)));
         let tagged = tri!(self.read_abi_tags(node));
-        self.put_in(scope, tagged)
+        self.put_in(false, scope, tagged)
     }
 
-    /// Puts a name in a scope if there is one.
-    pub fn put_in(&mut self, scope: Option<u32>, name: u32) -> Result<u32, Stop>
+    /// Puts a name in a scope if there is one, which may declare it as a friend.
+    pub fn put_in(&mut self, is_friend: bool, scope: Option<u32>, name: u32) -> Result<u32, Stop>
         requires scope { IfSome scope (IsNode self.old.arena) }
         requires name { IsNode self.old.arena name }
-        ensures reads { Gives result self.new (names.make_in_scope (option_map (stands self.old.arena) scope)
-            (stands self.old.arena name) (state self.old)) }
+        ensures reads { Gives result self.new (names.make_in_scope is_friend
+            (option_map (stands self.old.arena) scope) (stands self.old.arena name) (state self.old)) }
         ensures keeps { OnOk result (Keeps self.old self.new) }
         ensures rest { OnOk result (self.new.rest.now ≡ self.old.rest.now) }
     {
         match scope {
-            Some(scope) => self.make(Node::Plain(Plain::Scoped(false, scope, name))),
+            Some(scope) => self.make(Node::Plain(Plain::Scoped(is_friend, scope, name))),
             None => Ok(name),
         }
     }
@@ -336,17 +347,49 @@ impl<'a> Reader<'a> {
         }
     }
 
-    /// Reads `<template-param> ::= T [<number>] _`.
+    /// Reads `<template-param> ::= T [L <number> _] [<number>] _`.
     pub fn read_template_param(&mut self) -> Result<u32, Stop>
         ensures reads { Gives result self.new (leaves.parse_template_param (state self.old)) }
         ensures moves { OnOk result (Moves self.old self.new) }
     {
         self.skip(1);
+        let level = tri!(self.read_param_level());
         let Some((index, rest)) = index_of(Radix::Decimal, self.rest) else {
             return Err(Stop::Unreadable);
         };
         self.rest = rest;
-        self.make(Node::Plain(Plain::Param(0, index as u64)))
+        self.make(Node::Plain(Plain::Param(level, index as u64)))
+    }
+
+    // Reads `[L <number> _]`, the level of a template parameter.
+    #[inline(always)]
+    fn read_param_level(&mut self) -> Result<u64, Stop>
+        ensures reads { GivesCount result self.new (leaves.parse_param_level (state self.old)) }
+        ensures arena { self.new.arena ≡ self.old.arena }
+        ensures within { length self.new.rest.now ≤ length self.old.rest.now }
+    {
+        if begins(self.rest, b'L') {
+            return self.read_outer_level();
+        }
+        Ok(0)
+    }
+
+    // Reads `L <number> _`.
+    #[inline(never)]
+    fn read_outer_level(&mut self) -> Result<u64, Stop>
+        ensures reads { GivesCount result self.new (leaves.parse_outer_level (state self.old)) }
+        ensures arena { self.new.arena ≡ self.old.arena }
+        ensures within { length self.new.rest.now ≤ length self.old.rest.now }
+    {
+        self.skip(1);
+        if !begins_digit(self.rest) {
+            return Err(Stop::Unreadable);
+        }
+        let Some((level, rest)) = index_of(Radix::Decimal, self.rest) else {
+            return Err(Stop::Unreadable);
+        };
+        self.rest = rest;
+        Ok(level as u64)
     }
 
     /// Reads `<builtin-type>`.

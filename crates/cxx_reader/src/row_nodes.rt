@@ -43,6 +43,7 @@ impl<'a> Reader<'a> {
             Maker::Call => self.call_node(from),
             Maker::TypedInitList => self.typed_init_list_node(from),
             Maker::InitList => self.init_list_node(from),
+            Maker::Bindings => self.bindings_node(from),
             Maker::CountArgs => self.args_count_node(from),
             _ => self.few_node(row, from),
         }
@@ -92,6 +93,7 @@ impl<'a> Reader<'a> {
             Maker::Prefixed => self.arena.make_prefixed(llvm, gnu, t, Prec::Primary),
             Maker::Unary => self.arena.make_prefixed(llvm, gnu, t, Prec::Unary),
             Maker::Enclosing(prec) => self.arena.make_enclosing(llvm, gnu, t, prec),
+            Maker::Suffixed => self.arena.make_suffixed(t, llvm, gnu),
             Maker::Prefix(prec) => self.arena.make_prefix_op(llvm, t, prec),
             Maker::Postfix => self.arena.make_postfix_op(t, llvm),
             Maker::Expansion => self.make(Node::Plain(Plain::Expansion(t))),
@@ -203,6 +205,19 @@ impl<'a> Reader<'a> {
     {
         let items = tri!(self.arena.list_from(from));
         self.arena.make_init_list(None, items)
+    }
+
+    // Makes the node of the names of a structured binding.
+    fn bindings_node(&mut self, from: usize) -> Result<u32, Stop>
+        requires within { from ≤ length self.old.arena.pending }
+        ensures reads { Gives result self.new (spec.make_bindings (trees_behind from self.old.arena)
+            (state self.old)) }
+        ensures grows { OnOk result (KeepsNodes self.old.arena self.new.arena) }
+        ensures pending { OnOk result (take from self.new.arena.pending ≡ take from self.old.arena.pending) }
+        ensures rest { OnOk result (self.new.rest.now ≡ self.old.rest.now) }
+    {
+        let names = tri!(self.arena.list_from(from));
+        self.arena.make_bindings(names)
     }
 
     // Makes `sizeof...` of arguments.

@@ -12,15 +12,16 @@ ghost use Rattle.cxx_reader.specs.Outcome.{state, trees_behind, Keeps, KeepsFron
 ghost use Rattle.cxx_grammar.specs.declared.rows.Item.TheVariants.{Param as param, Operands as operands};
 ghost use Rattle.cxx_reader.specs.Rows.{row_at};
 
-use crate::args::read_arg;
-use crate::cases::{begins, begins_digit, is_encoding_end, is_function_end};
+use crate::args::{read_arg, read_constrained_arg};
+use crate::cases::{begins, begins_digit, is_function_end, is_lambda_end, is_params_end};
 use crate::encodings::read_encoding;
 use crate::expressions::{read_braced, read_expression};
 use crate::names::read_name;
 use crate::reader::Reader;
+use crate::requirements::read_requirement;
 use crate::types::read_type;
 use cxx_grammar::rows::{End, Item, Row};
-use cxx_tree::{List, Stop};
+use cxx_tree::{List, NodeText, Prec, Stop};
 
 /// Reads a row, and makes the node of its items.
 #[cycle(reader)]
@@ -72,6 +73,7 @@ fn read_item(reader: &mut Reader, depth: usize, item: Item, from: usize) -> Resu
         Item::Expressions => read_rest(reader, depth, Item::Expression, from),
         Item::Braces => read_rest(reader, depth, Item::Braced, from),
         Item::Args => read_rest(reader, depth, Item::Arg, from),
+        Item::SourceNames => read_rest(reader, depth, Item::SourceName, from),
         Item::Operands => read_operands(reader, depth, from),
         Item::Offset => reader.skip_offset(),
         Item::CallOffset => reader.skip_call_offset(),
@@ -163,31 +165,31 @@ pub fn read_list(reader: &mut Reader, depth: usize, n: usize, item: Item) -> Res
     reader.arena.list_from(from)
 }
 
-/// Reads `v | <type>+` up to an end, and collects the nodes.
+/// Reads `v | <type>+` up to an end, and collects the nodes. The first type is an item of its own.
 #[cycle(reader)]
 #[inline(always)]
-pub fn read_params(reader: &mut Reader, depth: usize, end: End) -> Result<(), Stop>
+pub fn read_params(reader: &mut Reader, depth: usize, first: Item, end: End) -> Result<(), Stop>
     ensures reads { GivesFrom result (length reader.old.arena.pending) reader.new
-        (spec.parse_params (productions depth) end (state reader.old)) }
+        (spec.parse_params (productions depth) first end (state reader.old)) }
     ensures keeps { OnOk result (KeepsFront (length reader.old.arena.pending) reader.old reader.new) }
 {
     if reader.skip_letter(b'v') {
         return Ok(());
     }
-    read_some_params(reader, depth, end)
+    read_some_params(reader, depth, first, end)
 }
 
 // Reads `<type>+` up to an end.
 #[cycle(reader)]
 #[inline(always)]
-fn read_some_params(reader: &mut Reader, depth: usize, end: End) -> Result<(), Stop>
+fn read_some_params(reader: &mut Reader, depth: usize, first: Item, end: End) -> Result<(), Stop>
     ensures reads { GivesFrom result (length reader.old.arena.pending) reader.new
-        (spec.parse_some_params (productions depth) end (state reader.old)) }
+        (spec.parse_some_params (productions depth) first end (state reader.old)) }
     ensures keeps { OnOk result (KeepsFront (length reader.old.arena.pending) reader.old reader.new) }
 {
     let from = reader.arena.pending_len();
-    let first = tri!(read_type(reader, depth, false));
-    tri!(reader.arena.add(first));
+    let param = tri!(read_tree(reader, depth, first));
+    tri!(reader.arena.add(param));
     read_items(reader, depth, Item::Type, end, from)
 }
 
@@ -217,14 +219,18 @@ fn read_tree(reader: &mut Reader, depth: usize, item: Item) -> Result<u32, Stop>
         Item::Type => read_type(reader, depth, false),
         Item::Param => read_param(reader, depth),
         Item::BareType => read_type(reader, depth, true),
+        Item::Object => read_object(reader, depth),
         Item::Expression => read_expression(reader, depth),
         Item::Braced => read_braced(reader, depth),
         Item::SourceName => reader.read_source_name(),
+        Item::Module => reader.read_module(),
         Item::TemplateParam => reader.read_template_param(),
         Item::FunctionParam => reader.read_function_param(),
         Item::Size => read_size(reader, depth),
         Item::Name => read_name_tree(reader, depth),
+        Item::ConstrainedArg => read_constrained_arg(reader, depth),
         Item::Arg => read_arg(reader, depth),
+        Item::Requirement => read_requirement(reader, depth),
         Item::Encoding => read_encoding(reader, depth),
         _ => Err(Stop::Unreadable),
     }
@@ -240,6 +246,21 @@ fn read_param(reader: &mut Reader, depth: usize) -> Result<u32, Stop>
         return Err(Stop::Unreadable);
     }
     read_type(reader, depth, false)
+}
+
+// Reads `<type>` that is the object of a function.
+#[cycle(reader)]
+fn read_object(reader: &mut Reader, depth: usize) -> Result<u32, Stop>
+    ensures reads { Gives result reader.new (spec.parse_object (productions depth) (state reader.old)) }
+    ensures moves { OnOk result (Moves reader.old reader.new) }
+{
+    let t = tri!(read_type(reader, depth, false));
+    reader.arena.make_prefixed(
+        NodeText::Fixed(b"this "),
+        NodeText::Fixed(b"this "),
+        t,
+        Prec::Primary,
+    )
 }
 
 /// Reads `<number> _` or `<expression> _`, the size of an array, of a vector or of an integer.
@@ -283,7 +304,8 @@ fn is_end(bytes: &[u8], end: End) -> bool
 {
     match end {
         End::E => begins(bytes, b'E'),
-        End::Encoding => is_encoding_end(bytes),
+        End::Encoding => is_params_end(bytes),
+        End::Lambda => is_lambda_end(bytes),
         End::Function => is_function_end(bytes),
         End::Underscore => begins(bytes, b'_'),
     }

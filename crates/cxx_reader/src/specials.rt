@@ -3,7 +3,7 @@
 
 ghost use Rattle.std.specs.Prelude.{◌≡◌, ◌<◌, [], ◌∷◌, Some, length, option_map, IfSome};
 ghost use Rattle.cxx_grammar.specs.declared.rows.Item.TheVariants.{CallOffset, Encoding};
-ghost use Rattle.cxx_grammar.specs.declared.rows.Maker.TheVariants.{Prefixed, Enclosing};
+ghost use Rattle.cxx_grammar.specs.declared.rows.Maker.TheVariants.{Prefixed, Enclosing, Suffixed};
 ghost use Rattle.cxx_tree.specs.declared.kinds.Prec.TheVariants.{Primary};
 ghost use Rattle.cxx_grammar.specs.Rows as spec;
 ghost use Rattle.cxx_reader.specs.Rows.{row_at};
@@ -108,6 +108,7 @@ fn g_special_row(bytes: &[u8]) -> Option<Row>
     match bytes {
         [b'V', ..] => behind(b"guard variable for ", &[Item::Name]),
         [b'R', ..] => behind(b"reference temporary for ", &[Item::Name, Item::SeqId]),
+        [b'I', ..] => behind(b"initializer for module ", &[Item::Module]),
         [b'T', b't', ..] => clone(b"transaction clone for "),
         [b'T', b'n', ..] => clone(b"non-transaction clone for "),
         _ => None,
@@ -159,6 +160,25 @@ fn enclosing(items: &'static [Item], llvm: &'static [u8], gnu: &'static [u8]) ->
     }
 }
 
+// A row of an item and words, behind a code of two letters.
+fn followed_by(words: &'static [u8], items: &'static [Item]) -> Option<Row>
+    ensures value { option_map row_at result ≡ Some (record {
+      skip = 2;
+      items = items.entry.now;
+      maker = Suffixed;
+      words = record { llvm = words.entry.now; gnu = words.entry.now };
+    }) }
+    ensures some { IfSome result (λ row. 0 < row.skip) }
+{
+    Some(Row {
+        skip: 2,
+        items,
+        maker: Maker::Suffixed,
+        llvm: words,
+        gnu: words,
+    })
+}
+
 /// Returns the row of the type whose code is next, or `None` if there is none.
 pub fn type_row(bytes: &[u8]) -> Option<Row>
     ensures value { option_map row_at result ≡ spec.type_row_of bytes.now }
@@ -172,6 +192,8 @@ pub fn type_row(bytes: &[u8]) -> Option<Row>
             b"unsigned _BitInt",
             b"unsigned _BitInt",
         )),
+        [b'D', b'k', ..] => followed_by(b" auto", &[Item::Name]),
+        [b'D', b'K', ..] => followed_by(b" decltype(auto)", &[Item::Name]),
         [b'T', b's', ..] => behind(b"struct ", &[Item::Name]),
         [b'T', b'u', ..] => behind(b"union ", &[Item::Name]),
         [b'T', b'e', ..] => behind(b"enum ", &[Item::Name]),
@@ -193,6 +215,20 @@ pub fn computed_noexcept_row() -> Row
     ensures some { 0 < result.skip }
 {
     enclosing(&[Item::Expression, Item::E], b"noexcept", b"noexcept")
+}
+
+/// Returns the row `DC <source-name>+ E` of an `<unqualified-name>`.
+pub fn bindings_row() -> Row
+    ensures value { row_at result ≡ spec.bindings_row }
+    ensures some { 0 < result.skip }
+{
+    Row {
+        skip: 2,
+        items: &[Item::SourceName, Item::SourceNames],
+        maker: Maker::Bindings,
+        llvm: b"",
+        gnu: b"",
+    }
 }
 
 // The row of a tree that nothing is made of.

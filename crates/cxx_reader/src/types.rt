@@ -17,10 +17,12 @@ ghost use Rattle.cxx_grammar.specs.Types as spec;
 ghost use Rattle.cxx_grammar.specs.Symbol.{productions};
 ghost use Rattle.cxx_reader.specs.Outcome.{state, Keeps, Moves, Gives};
 
+use crate::bases::is_module;
 use crate::cases::{begins, type_case};
 use crate::compounds::{
     read_array_type, read_function_type, read_member_pointer, read_vector_type,
 };
+use crate::names::read_in_module;
 use crate::reader::Reader;
 use crate::rows::{read_list, read_name_tree, read_row};
 use crate::specials::type_row;
@@ -202,7 +204,7 @@ fn read_param_type(reader: &mut Reader, depth: usize, is_bare: bool) -> Result<u
     read_type_args(reader, depth, is_bare, t)
 }
 
-// Reads `<substitution> [<template-args>]`.
+// Reads `<substitution> [<template-args>]`, or a name in a module that is the substitution.
 #[cycle(reader)]
 #[inline(never)]
 fn read_substituted_type(reader: &mut Reader, depth: usize, is_bare: bool) -> Result<u32, Stop>
@@ -211,7 +213,23 @@ fn read_substituted_type(reader: &mut Reader, depth: usize, is_bare: bool) -> Re
     ensures moves { OnOk result (Moves reader.old reader.new) }
 {
     let t = tri!(reader.read_substitution());
+    if is_module(&reader.arena, t) {
+        return read_module_type(reader, depth, t);
+    }
     read_type_args(reader, depth, is_bare, t)
+}
+
+// Reads a name in a module that is a substitution, and saves it.
+#[cycle(reader)]
+fn read_module_type(reader: &mut Reader, depth: usize, owner: u32) -> Result<u32, Stop>
+    requires owner { IsNode reader.old.arena owner }
+    ensures reads { Gives result reader.new (saved (spec.parse_module_type (productions depth)
+        (stands reader.old.arena owner)) (state reader.old)) }
+    ensures moves { OnOk result (Moves reader.old reader.new) }
+{
+    let name = tri!(read_in_module(reader, depth, None, owner));
+    tri!(reader.arena.save(name.node));
+    Ok(name.node)
 }
 
 // Reads the arguments of a type that isn't bare, if there are any.
@@ -225,7 +243,7 @@ fn read_type_args(reader: &mut Reader, depth: usize, is_bare: bool, t: u32) -> R
     if is_bare || !begins(reader.rest, b'I') {
         return Ok(t);
     }
-    let args = tri!(read_list(reader, depth, 1, Item::Arg));
+    let args = tri!(read_list(reader, depth, 1, Item::ConstrainedArg));
     reader.make_saved(Node::Plain(Plain::WithArgs(t, args)))
 }
 

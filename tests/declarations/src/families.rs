@@ -529,6 +529,65 @@ fn long_expressions() -> Vec<(&'static str, String)> {
     families
 }
 
+/// Long symbols of modules, friends, bindings, declared template parameters, constraints and requirements.
+fn long_declarations() -> Vec<(&'static str, String)> {
+    let some = |what: &str| what.repeat(LONG / what.len());
+    let closure = |signature: &str| format!("_Z1fIN1AUl{signature}E_EEvv");
+    let constrained = |constraint: &str| format!("_Z1fIiEvvQ{constraint}");
+    let mut families = Vec::new();
+    // Those that nest as deep as the bytes go, and as the limit goes.
+    for (open, front, innermost, behind) in [
+        ("packs that are declared", "Tp", "Ty", ""),
+        ("templates that are declared", "Tt", "Ty", "E"),
+        ("values of declared types", "TnN1AUl", "Ty", "vE_E"),
+    ] {
+        for n in [LONG / (front.len() + behind.len()), MAX_DEPTH - 8] {
+            families.push((open, closure(&format!("{}{innermost}{}v", front.repeat(n), behind.repeat(n)))));
+        }
+        families.push((open, closure(&some(front))));
+    }
+    for (open, front, innermost, behind) in [
+        ("constraints of lambdas in constraints", "LUlvQ", "Li1E", "E_E"),
+        ("requirements in requirements", "rqX", "Li1E", "EE"),
+        ("nested requirements", "rqQ", "Li1E", "E"),
+        ("requirements of types", "rqTDT", "Li1E", "EE"),
+        ("constraints of arguments", "1AIiQ", "Li1E", "E"),
+    ] {
+        for n in [LONG / (front.len() + behind.len()), MAX_DEPTH - 8] {
+            families.push((open, constrained(&format!("{}{innermost}{}", front.repeat(n), behind.repeat(n)))));
+        }
+        families.push((open, constrained(&some(front))));
+    }
+    families.extend([
+        ("modules", format!("_Z{}1fv", some("W1a"))),
+        ("partitions", format!("_Z{}1fv", some("WP1a"))),
+        ("modules that are open", format!("_Z{}", some("W"))),
+        ("modules of components", format!("_ZN{}E", some("1aW1m"))),
+        ("a module's initializer", format!("_ZGI{}", some("W1a"))),
+        ("friends", format!("_ZN1A{}E", some("F1f"))),
+        ("friends that are open", format!("_ZN1A{}", some("F"))),
+        ("bindings", format!("_ZDC{}E", some("1a"))),
+        ("bindings that are open", format!("_Z{}", some("DC"))),
+        ("parameters behind an object", format!("_ZNH1A1fE{}", some("i"))),
+        ("conditions", format!("_Z1fUa9enable_ifI{}Ev", some("Li1E"))),
+        ("conditions that are open", format!("_Z1f{}", some("Ua9enable_ifI"))),
+        ("constrained types", format!("_Z1f{}", some("Dk1C"))),
+        ("constrained types that are open", format!("_Z1f{}", some("Dk1CI"))),
+        ("types that are declared", closure(&format!("{}v", some("Ty")))),
+        ("constrained types that are declared", closure(&format!("{}v", some("Tk1C")))),
+        ("values that are declared", closure(&format!("{}v", some("Tni")))),
+        ("parameters of a template that is declared", closure(&format!("Tt{}Ev", some("Ty")))),
+        ("declarations in front of an argument", format!("_Z1fI{}iEvv", some("Ty"))),
+        ("arguments that are declared", format!("_Z1fI{}Evv", some("Tyi"))),
+        ("a long level", format!("_Z1fIiEvTL{}__", "9".repeat(LONG))),
+        ("requirements", constrained(&format!("rq{}E", some("XLi1E")))),
+        ("parameters of requirements", constrained(&format!("rQ{}_XLi1EE", some("i")))),
+        ("constraints of an argument list", format!("_Z1fIiQ{}Evv", some("Li1E"))),
+        ("constraints behind a function", constrained(&some("Li1EQ"))),
+    ]);
+    families
+}
+
 /// Long symbols of each family.
 pub fn costly() -> Vec<(&'static str, String)> {
     let mut chained = chain(2);
@@ -545,6 +604,7 @@ pub fn costly() -> Vec<(&'static str, String)> {
     let nested = |front: &str, n: usize, end: &str| format!("{}{}", front.repeat(n), end.repeat(n));
     let mut families = long_names_and_types(&replacing["_Z1fIiEv1AIT_E".len()..]);
     families.extend(long_expressions());
+    families.extend(long_declarations());
     families.extend([
         ("pointers", pointers(LONG)),
         ("scopes", scopes(LONG / 2)),
@@ -809,6 +869,86 @@ pub fn refused() -> Vec<String> {
         "_Z1fPDOEFvvE",
         "_Z1fPDOLi1EFvvE",
         "_Z1fPDOLi1EE",
+        // Modules, friends, bindings, objects and conditions.
+        "_ZW",
+        "_ZWP",
+        "_ZW1M",
+        "_ZWP1M",
+        "_ZW1",
+        "_ZGI",
+        "_ZGI1M",
+        "_ZGIW1MP",
+        "_ZF1fv",
+        "_Z1AF1fv",
+        "_ZN1AF",
+        "_ZN1AFE",
+        "_ZN1AFF1fEv",
+        "_ZDC",
+        "_ZDCE",
+        "_ZDC1a",
+        "_ZN1ADCE",
+        "_ZNH",
+        "_ZNHE",
+        "_ZNHK1A1fEv",
+        "_ZNKH1A1fEv",
+        "_ZNHH1A1fEv",
+        "_ZH1fv",
+        "_Z1fUa9enable_if",
+        "_Z1fUa9enable_ifI",
+        "_Z1fUa9enable_ifILi1EE",
+        "_Z1fUa9enable_ifILi1Ev",
+        "_Z1fDk",
+        "_Z1fDK",
+        "_Z1fDki",
+        "_Z1fDkE",
+        // Declarations and levels.
+        "_Z1fIN1AUlTyE_EEvv",
+        "_Z1fIN1AUlTkvE_EEvv",
+        "_Z1fIN1AUlTnvE_E",
+        "_Z1fIN1AUlTtvE_EEvv",
+        "_Z1fIN1AUlTtEvE_",
+        "_Z1fIN1AUlTtTyvE_EEvv",
+        "_Z1fIN1AUlTtQLi1EEvE_EEvv",
+        "_Z1fIN1AUlTtTyQLi1ETyEvE_EEvv",
+        "_Z1fIN1AUlTtTyQLi1EQLi1EEvE_EEvv",
+        "_Z1fIN1AUlTpvE_EEvv",
+        "_Z1fIN1AUlTxvE_EEvv",
+        "_Z1fITyEvv",
+        "_Z1fITniEvv",
+        "_Z1fIJTyEEvv",
+        "_Z1fIiEvTL_",
+        "_Z1fIiEvTL__",
+        "_Z1fIiEvTL0_",
+        "_Z1fIiEvTL0__",
+        "_Z1fIiEvTL5_0_",
+        "_Z1fIiEvTL18446744073709551616__",
+        // Constraints and requirements.
+        "_Z1fIiEvvQ",
+        "_Z1fIiEvvQE",
+        "_Z1fIiEvvQi",
+        "_Z1fIiEvvQLi1EQLi1E",
+        "_Z1fIiEvQLi1Ev",
+        "_Z1fIiEQLi1Evv",
+        "_Z1fIiQEvv",
+        "_Z1fIiQLi1EiEvv",
+        "_Z1fIQLi1EEvv",
+        "_Z1fIJiQLi1EEEvv",
+        "_Z1fIN1AUlQLi1EE_EEvv",
+        "_Z1fIN1AUlvQLi1EQLi1EE_EEvv",
+        "_Z1fIN1AUlQLi1EQLi1EvE_EEvv",
+        "_Z1fIiEvvQrqE",
+        "_Z1fIiEvvQrq",
+        "_Z1fIiEvvQrQ_E",
+        "_Z1fIiEvvQrQi_E",
+        "_Z1fIiEvvQrQiXLi1EE",
+        "_Z1fIiEvvQrqXE",
+        "_Z1fIiEvvQrqXLi1E",
+        "_Z1fIiEvvQrqXLi1ERE",
+        "_Z1fIiEvvQrqXLi1ERNE",
+        "_Z1fIiEvvQrqXLi1ER1CNE",
+        "_Z1fIiEvvQrqTE",
+        "_Z1fIiEvvQrqQE",
+        "_Z1fIiEvvQrqLi1EE",
         // Suffixes and blocks.
         "_Z.x",
         "_Z1f_.x",

@@ -7,7 +7,7 @@ use Rattle.cxx_grammar.specs.State.{State}
 use Rattle.cxx_grammar.specs.Binds.{bind_arg, bind_args}
 use Rattle.cxx_reader.specs.declared.reader.Reader.{Reader}
 use Rattle.cxx_tree.specs.Stored.{stands}
-use Rattle.cxx_reader.specs.Outcome.{state, GivesFrom, list_trees}
+use Rattle.cxx_reader.specs.Outcome.{invented_at, state, GivesFrom, list_trees}
 use Rattle.cxx_reader.proofs.Kept.{stands-same, IsNode-same}
 use Rattle.cxx_reader.proofs.Lists.{take-push, one-more, one-more-below}
 use Rattle.cxx_reader.proofs.Bound.{BoundSoFar, listed, bound_end, bound_more, bound_stop, list_below-keeps, next_arg, no_arg}
@@ -42,8 +42,8 @@ loop-k-preserved c =
     let grows : KeepsNodes a b = nodes-trans a mid.arena b read.keeps.grows (nodes-same mid.arena b kept.same) in
     let same = stands-same mid.arena b i kept.same in
     let node = IsNode-same mid.arena b i kept.same read.reads.0 in
-    let after : Reader = record { rest = mid.rest; arena = b; replaced = mid.replaced; level = mid.level; alloc = mid.alloc } in
-    let state-after : state mid ≡ state after = ap (λ (l : List Tree). record { rest = mid.rest.now; saved = l; replaced = mid.replaced; level = mid.level }) (sym (saved-same mid.arena b (same-forest mid.arena b kept.same.nodes kept.same.held) kept.saved)) in
+    let after : Reader = record { rest = mid.rest; arena = b; replaced = mid.replaced; invented = mid.invented; level = mid.level; alloc = mid.alloc } in
+    let state-after : state mid ≡ state after = ap (λ (l : List Tree). record { rest = mid.rest.now; saved = l; replaced = mid.replaced; invented = invented_at mid.invented; level = mid.level }) (sym (saved-same mid.arena b (same-forest mid.arena b kept.same.nodes kept.same.held) kept.saved)) in
     let bound = map (stands a) (drop from a.pending) in
     let arg = stands a c.item-arg.result in
     let parsed : bind_arg c.args.is_inherited bound arg (state r) ≡ Some (stands b i, state after) =

@@ -15,7 +15,7 @@ returns-clause-reads c =
     let old = c.args.self.now in
     let mid = c.split_from.new.self in
     let split = c.in-Ok.ensures {u = tt} in
-    let after : Reader = record { rest = mid.rest; arena = c.make_call.new.self; replaced = mid.replaced; level = mid.level; alloc = mid.alloc } in
+    let after : Reader = record { rest = mid.rest; arena = c.make_call.new.self; replaced = mid.replaced; invented = mid.invented; level = mid.level; alloc = mid.alloc } in
     subst (λ (ts : List Tree). Gives c.make_call.result after (make_behind call ts (state old))) (sym split.split.1)
     (gives_made c.make_call.result after mid.arena _ (state old) c.make_call.ensures.makes (sym split.state))
 

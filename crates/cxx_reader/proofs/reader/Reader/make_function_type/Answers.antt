@@ -4,6 +4,7 @@ use Rattle.cxx_tree.specs.Grows.{Grows}
 use Rattle.cxx_tree.specs.Kept.{KeepsNodes, taken}
 use Rattle.cxx_tree.specs.Stored.{Store, stands, saved_trees}
 use Rattle.cxx_tree.proofs.Grown.{Makes-after}
+use Rattle.cxx_reader.specs.Outcome.{invented_at}
 use Rattle.cxx_reader.specs.declared.reader.Reader.{Reader}
 use Rattle.cxx_reader.proofs.Kept.{gives_taken, Grows-made}
 use Rattle.cxx_reader.proofs.reader.Reader.make_function_type.Goals as goal
@@ -15,13 +16,13 @@ returns-clause-reads c =
     let a = c.args.self.now.arena in
     let b = c.list_from.new.self in
     let d = c.make_function_type.new.self in
-    let after : Reader = record { rest = r.rest; arena = d; replaced = r.replaced; level = r.level; alloc = r.alloc } in
+    let after : Reader = record { rest = r.rest; arena = d; replaced = r.replaced; invented = r.invented; level = r.level; alloc = r.alloc } in
     let same : r.arena ≡ a = c.expect.ensures.arena ∙ c.read_ref_qual-ref_qual.ensures.arena in
     let grows = subst (λ (x : Store). Grows (taken c.args.from x) b) same c.list_from.ensures.grows in
     let listed = simp (c.list_from.ensures.forest, (c.in-Ok-list_from.ensures {u = tt}).trees) at c.make_function_type.ensures.makes in
     let made = simp same at listed in
     let gives = gives_taken c.make_function_type.result after a c.args.from _ _ (Makes-after c.make_function_type.result (taken c.args.from a) b d _ grows made)
-    (ap (λ (x : Store). record { rest = r.rest.now; saved = saved_trees x; replaced = r.replaced; level = r.level }) same) in
+    (ap (λ (x : Store). record { rest = r.rest.now; saved = saved_trees x; replaced = r.replaced; invented = invented_at r.invented; level = r.level }) same) in
     rw (c.read_ref_qual-ref_qual.ensures.reads, (c.in-Ok.ensures {u = tt}).reads) gives
 
 pub returns-clause-grows : goal.returns-clause-grows

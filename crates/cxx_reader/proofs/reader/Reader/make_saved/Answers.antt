@@ -6,11 +6,11 @@ use Rattle.cxx_reader.proofs.reader.Reader.make_saved.Goals as goal
 pub returns-clause-reads : goal.returns-clause-reads
 returns-clause-reads c =
     let r = c.args.self.now in
-    let after : Reader = record { rest = r.rest; arena = c.save.new.self; replaced = r.replaced; level = r.level; alloc = r.alloc } in
+    let after : Reader = record { rest = r.rest; arena = c.save.new.self; replaced = r.replaced; invented = r.invented; level = r.level; alloc = r.alloc } in
     gives_saved _ after _ _ _ _ (c.in-Ok.ensures {u = tt}).makes (c.in-Ok-save.ensures {u = tt}).saved c.save.ensures.same refl
 
 pub returns-clause-keeps : goal.returns-clause-keeps
 returns-clause-keeps c =
     let r = c.args.self.now in
-    let after : Reader = record { rest = r.rest; arena = c.save.new.self; replaced = r.replaced; level = r.level; alloc = r.alloc } in
+    let after : Reader = record { rest = r.rest; arena = c.save.new.self; replaced = r.replaced; invented = r.invented; level = r.level; alloc = r.alloc } in
     Keeps-saved _ r after _ _ (c.in-Ok.ensures {u = tt}).makes c.save.ensures.same c.save.ensures.pending (omega arith)

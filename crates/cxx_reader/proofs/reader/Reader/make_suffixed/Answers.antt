@@ -8,5 +8,5 @@ pub returns-then-is_complex-clause-reads : goal.returns-then-is_complex-clause-r
 unfolding stands
 returns-then-is_complex-clause-reads c =
     let r = c.args.self.now in
-    let after : Reader = record { rest = r.rest; arena = c.make_suffixed.new.self; replaced = r.replaced; level = r.level; alloc = r.alloc } in
+    let after : Reader = record { rest = r.rest; arena = c.make_suffixed.new.self; replaced = r.replaced; invented = r.invented; level = r.level; alloc = r.alloc } in
     rw c.if-is_complex.true (gives_made _ after _ _ _ c.make_suffixed.ensures.makes refl)

@@ -20,7 +20,7 @@ unfolding stands list_trees
 returns-clause-reads c =
     let r = c.text.new.self in
     let old = c.args.self.now in
-    let after : Reader = record { rest = r.rest; arena = c.make_vendor_qualified.new.self; replaced = r.replaced; level = r.level; alloc = r.alloc } in
+    let after : Reader = record { rest = r.rest; arena = c.make_vendor_qualified.new.self; replaced = r.replaced; invented = r.invented; level = r.level; alloc = r.alloc } in
     let gives = Gives c.make_vendor_qualified.result after in
     let grows = c.text.ensures.keeps.grows in
     let made = gives_made c.make_vendor_qualified.result after _ _ _ c.make_vendor_qualified.ensures.makes refl in

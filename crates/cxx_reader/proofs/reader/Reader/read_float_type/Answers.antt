@@ -13,7 +13,7 @@ pub returns-then-begins_brain-clause-reads : goal.returns-then-begins_brain-clau
 unfolding parse_float_type
 returns-then-begins_brain-clause-reads c =
     let r = c.skip-then-begins_brain.new.self in
-    let after : Reader = record { rest = r.rest; arena = c.make_fixed.new.self; replaced = r.replaced; level = r.level; alloc = r.alloc } in
+    let after : Reader = record { rest = r.rest; arena = c.make_fixed.new.self; replaced = r.replaced; invented = r.invented; level = r.level; alloc = r.alloc } in
     let brain : begins (codes "16b") c.skip.new.self.rest.now ≡ true = sym c.begins_brain.ensures.value ∙ c.if-begins_brain.true in
     let gives = gives_made c.make_fixed.result after _ _ _ c.make_fixed.ensures.makes refl in
     subst (λ (u : State). Gives c.make_fixed.result after (if_next "16b" (past 3 >> make_word "std::bfloat16_t") parse_numbered_float u)) c.skip.ensures.state

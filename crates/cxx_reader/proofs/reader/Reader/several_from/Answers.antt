@@ -13,7 +13,7 @@ returns-clause-reads c =
     let a = r.arena in
     let b = c.list_from.new.self in
     let d = c.push.new.self in
-    let after : Reader = record { rest = r.rest; arena = d; replaced = r.replaced; level = r.level; alloc = r.alloc } in
+    let after : Reader = record { rest = r.rest; arena = d; replaced = r.replaced; invented = r.invented; level = r.level; alloc = r.alloc } in
     let made = simp (c.list_from.ensures.forest, (c.in-Ok.ensures {u = tt}).trees) at c.push.ensures.makes in
     gives_taken c.push.result after a c.args.from _ _ (Makes-after c.push.result (taken c.args.from a) b d _ c.list_from.ensures.grows made) refl
 
