@@ -2,7 +2,7 @@
 use Prim.Native.String.{String}
 use Rattle.std.specs.Prelude.{ℕ, zero, suc, ◌+◌, List, [], ◌++◌, length, codes, decimal, false, Option, Some, nat_lt}
 use Rattle.cxx_tree.specs.declared.bind.Others.TheVariants.{Keep}
-use Rattle.cxx_tree.specs.Tree.{Tree, Trees, type_param, non_type_param, pack_param}
+use Rattle.cxx_tree.specs.Tree.{Tree, Trees, named, type_param, non_type_param, pack_param}
 use Rattle.cxx_tree.specs.Stored.{trees_from_list}
 use Rattle.cxx_tree.specs.Phrases.{lambda_param, template_param_of}
 use Rattle.cxx_grammar.specs.declared.cases.DeclarationCase.{DeclarationCase}
@@ -10,7 +10,7 @@ use Rattle.cxx_grammar.specs.declared.cases.DeclarationCase.TheVariants as decla
 use Rattle.cxx_grammar.specs.State.{Invented}
 use Rattle.cxx_grammar.specs.Parses.{Parses, ◌>>=◌, ◌>>◌, pure, refused, check, past, expect, by, if_next, item_more, repeat, make, level, at_level}
 use Rattle.cxx_grammar.specs.Cases.{case_of_declaration, is_declarations_end}
-use Rattle.cxx_grammar.specs.Leaves.{make_word}
+
 use Rattle.cxx_grammar.specs.Binds.{bind_declared}
 use Rattle.cxx_grammar.specs.Productions.{Productions, name_tree}
 use Rattle.cxx_grammar.specs.Constraints.{parse_constraint}
@@ -67,8 +67,7 @@ make_type_param front number = do
 abbrev pub parse_type_param : ℕ → Parses Tree
 parse_type_param number = do
   past 2
-  word ← make_word "typename"
-  make_type_param word number
+  make_type_param (named (codes "typename")) number
 
 -- Tk <name>
 abbrev pub parse_constrained_param : Productions → ℕ → Parses Tree

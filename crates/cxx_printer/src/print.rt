@@ -933,6 +933,7 @@ fn print_head(arena: &Arena, env: Env, t: u32, out: &mut Text) -> Result<(), All
     ensures prints { Prints result out.old out.new (spec.head (spec.print (tree_at (forest arena.now) t) env)) }
 {
     match *node_at(arena, t) {
+        Node::Declaration(Declaration::Typename(_)) => write(out, b"typename"),
         Node::Declaration(Declaration::TypeParam(constraint, _)) => print(
             arena, env, constraint, out,
         ),
@@ -981,6 +982,7 @@ fn print_declared_name(arena: &Arena, env: Env, t: u32, out: &mut Text) -> Resul
         env)) }
 {
     match *node_at(arena, t) {
+        Node::Declaration(Declaration::Typename(name)) => print(arena, env, name, out),
         Node::Declaration(Declaration::TypeParam(_, name)) => print(arena, env, name, out),
         Node::Declaration(Declaration::NonTypeParam(name, _)) => print(arena, env, name, out),
         Node::Declaration(Declaration::TemplateParam(name, _, _)) => print(arena, env, name, out),
@@ -1002,6 +1004,7 @@ fn left_declaration(
         declaration.now) env).text.left) }
 {
     match *declaration {
+        Declaration::Typename(_) => write(out, b"typename "),
         Declaration::TypeParam(constraint, _) => {
             tri!(print(arena, env, constraint, out));
             write(out, b" ")
@@ -1044,6 +1047,7 @@ fn right_declaration(
         declaration.now) env).text.right) }
 {
     match *declaration {
+        Declaration::Typename(name) => print(arena, env, name, out),
         Declaration::TypeParam(_, name) => print(arena, env, name, out),
         Declaration::NonTypeParam(name, t) => {
             tri!(print(arena, env, name, out));

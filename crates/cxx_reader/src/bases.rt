@@ -156,6 +156,7 @@ pub fn declared_name(arena: &Arena, i: u32) -> u32
     ensures node { result < size arena.now }
 {
     match *arena.node(i) {
+        Node::Declaration(Declaration::Typename(name)) => name,
         Node::Declaration(Declaration::TypeParam(_, name)) => name,
         Node::Declaration(Declaration::NonTypeParam(name, _)) => name,
         Node::Declaration(Declaration::TemplateParam(name, _, _)) => name,

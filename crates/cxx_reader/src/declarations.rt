@@ -8,7 +8,6 @@ ghost use Rattle.cxx_tree.specs.Phrases.{template_param_of};
 ghost use Rattle.cxx_tree.specs.Stored.{forest, size, stands, IsListBelow};
 ghost use Rattle.cxx_tree.specs.Tree.{type_param};
 ghost use Rattle.cxx_grammar.specs.Declarations as spec;
-ghost use Rattle.cxx_grammar.specs.Leaves.{make_word};
 ghost use Rattle.cxx_grammar.specs.Parses.{make};
 ghost use Rattle.cxx_grammar.specs.Symbol.{productions};
 ghost use Rattle.cxx_reader.specs.Outcome.{state, list_trees, trees_behind, Copies, Keeps, KeepsFront, Moves, Gives, GivesDeclared, GivesFrom, GivesList, IsDeclared, declared_at};
@@ -204,20 +203,11 @@ impl<'a> Reader<'a> {
         ensures moves { OnOk result (Moves self.old self.new) }
     {
         self.skip(2);
-        let word = tri!(self.make_typename());
-        self.make_type_param(word, number)
+        let name = tri!(self.invent_type(number));
+        self.make(Node::Declaration(Declaration::Typename(name)))
     }
 
-    // Makes the word in front of the name of a type.
-    fn make_typename(&mut self) -> Result<u32, Stop>
-        ensures reads { Gives result self.new (make_word "typename" (state self.old)) }
-        ensures keeps { OnOk result (Keeps self.old self.new) }
-        ensures rest { OnOk result (self.new.rest.now ≡ self.old.rest.now) }
-    {
-        self.arena.make_fixed(b"typename")
-    }
-
-    // Makes the declaration of a type, behind a word or a concept.
+    // Makes the declaration of a type, behind a concept.
     fn make_type_param(&mut self, front: u32, number: usize) -> Result<u32, Stop>
         requires front { IsNode self.old.arena front }
         ensures reads { Gives result self.new (spec.make_type_param (stands self.old.arena front) number

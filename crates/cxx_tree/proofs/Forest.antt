@@ -4,6 +4,7 @@ use Rattle.std.proofs.Math.ListN.{get_or, get_or-append}
 use Rattle.std.proofs.Math.Seq.{get_or-append_seam}
 use Rattle.std.proofs.lemmas.Grind.{common_steps}
 use Rattle.std.proofs.lemmas.List.{append-nil}
+use Rattle.std.specs.Prelude.{codes}
 use Rattle.std.specs.List.{AllByRecursion}
 use Rattle.cxx_tree.specs.declared.arena.Entry as entry
 use Rattle.cxx_tree.specs.declared.node.Range.{Range}
@@ -19,7 +20,7 @@ use Rattle.cxx_tree.specs.declared.node.Declaration.{Declaration}
 use Rattle.cxx_tree.specs.declared.node.Declaration.TheVariants as declaration
 use Rattle.cxx_tree.specs.declared.node.Node.{Node}
 use Rattle.cxx_tree.specs.declared.node.Node.TheVariants as node
-use Rattle.cxx_tree.specs.Tree.{Tree, named, phrase, data_name, listed, expansion, pack_param, qualified, pointer, reference, pack, no_trees, more_trees}
+use Rattle.cxx_tree.specs.Tree.{Tree, named, phrase, data_name, listed, expansion, type_param, pack_param, qualified, pointer, reference, pack, no_trees, more_trees}
 use Rattle.cxx_tree.specs.Stored.{Held, Store, text_at, list_at, parts_at, tree_at, trees_at, trees_in, option_at, trees_from_list, parts_of, parts_in, plain_tree, declaration_tree, tree_of, IsRange, IsText, IsListBelow, IsPartBelow, IsPartsBelow, IsOptionBelow, IsPlainBelow, IsDeclarationBelow, IsBelow, trees_from, forest, size, Begins, Extends}
 use Rattle.cxx_tree.specs.View.{AreStored, IsStore, IsKept}
 use Rattle.cxx_tree.specs.Counts.{AreCounted}
@@ -120,6 +121,7 @@ plain_tree-more h g e n ts us agree (plain.Param level index) b = refl
 
 declaration_tree-more : (h g : Held) → Extends h g → (n : ℕ) (ts us : List Tree) → Agree n us ts → (d : Declaration) → IsDeclarationBelow h n d → declaration_tree g us d ≡ declaration_tree h ts d
 unfolding declaration_tree IsDeclarationBelow
+declaration_tree-more h g e n ts us agree (declaration.Typename name) b = ap (type_param (named (codes "typename"))) (agree name b)
 declaration_tree-more h g e n ts us agree (declaration.TypeParam constraint name) b =
     let one = agree constraint b.0 in let two = agree name b.1 in cc
 declaration_tree-more h g e n ts us agree (declaration.NonTypeParam name t) b =
@@ -249,6 +251,7 @@ IsPlainBelow-more h g e n m le (plain.Param level index) b = b
 
 IsDeclarationBelow-more : (h g : Held) → Extends h g → (n m : ℕ) → n ≤ m → (d : Declaration) → IsDeclarationBelow h n d → IsDeclarationBelow g m d
 unfolding IsDeclarationBelow
+IsDeclarationBelow-more h g e n m le (declaration.Typename name) b = omega (arith, le, b)
 IsDeclarationBelow-more h g e n m le (declaration.TypeParam constraint name) b = (omega (arith, le, b.0), omega (arith, le, b.1))
 IsDeclarationBelow-more h g e n m le (declaration.NonTypeParam name t) b = (omega (arith, le, b.0), omega (arith, le, b.1))
 IsDeclarationBelow-more h g e n m le (declaration.TemplateParam name declarations rest) b =

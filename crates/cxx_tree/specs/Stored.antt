@@ -1,5 +1,5 @@
 -- What an arena holds, and the trees that its nodes stand for.
-use Rattle.std.specs.Prelude.{ℕ, ◌<◌, ◌≤◌, ◌≡◌, List, [], ◌∷◌, ◌++◌, false, map, length, slice_range, Option, Some, None, get_or, IfSome}
+use Rattle.std.specs.Prelude.{ℕ, ◌<◌, ◌≤◌, ◌≡◌, List, [], ◌∷◌, ◌++◌, false, map, length, codes, slice_range, Option, Some, None, get_or, IfSome}
 use Rattle.std.specs.List.{AllByRecursion}
 use Rattle.cxx_tree.specs.declared.node.Range.{Range}
 use Rattle.cxx_tree.specs.declared.node.NodeText.{NodeText}
@@ -79,6 +79,7 @@ plain_tree h ts (plain.Expansion t) = expansion (tree_at ts t)
 plain_tree h ts (plain.Param level index) = param level index
 
 unfoldable pub declaration_tree : Held → List Tree → Declaration → Tree
+declaration_tree h ts (declaration.Typename name) = type_param (named (codes "typename")) (tree_at ts name)
 declaration_tree h ts (declaration.TypeParam constraint name) = type_param (tree_at ts constraint) (tree_at ts name)
 declaration_tree h ts (declaration.NonTypeParam name t) = non_type_param (tree_at ts name) (tree_at ts t)
 declaration_tree h ts (declaration.TemplateParam name declarations rest) =
@@ -139,6 +140,7 @@ IsPlainBelow h n (plain.Expansion t) = t < n
 IsPlainBelow h n p = Unit {0}
 
 unfoldable pub IsDeclarationBelow : Held → ℕ → Declaration → Type 0
+IsDeclarationBelow h n (declaration.Typename name) = name < n
 IsDeclarationBelow h n (declaration.TypeParam constraint name) = (constraint < n) × (name < n)
 IsDeclarationBelow h n (declaration.NonTypeParam name t) = (name < n) × (t < n)
 IsDeclarationBelow h n (declaration.TemplateParam name declarations rest) =

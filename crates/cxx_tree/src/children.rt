@@ -389,6 +389,10 @@ fn bind_declaration(
         (measure (spec.bind (binding_at arena.old binding.now) (declaration_at arena.old declaration))).fits ≡ false }
 {
     match declaration {
+        Declaration::Typename(name) => {
+            let name = tri!(bind(arena, alloc, binding, name));
+            Ok(Declaration::Typename(name))
+        }
         Declaration::TypeParam(constraint, name) => {
             let (constraint, name) = tri!(bind_pair(arena, alloc, binding, i, constraint, name));
             Ok(Declaration::TypeParam(constraint, name))

@@ -224,6 +224,20 @@ fn of_plain(arena: &Arena, plain: Plain) -> Option<Measure>
     }
 }
 
+// The counts of the word `typename`, and of a name after it.
+#[tactic(auto, unfolding(crate::specs::Counts::Row, crate::specs::Counts::AreExact))]
+#[inline(always)]
+fn after_typename(name: Measure) -> Measure
+    ensures counts { (m : spec.Measure) → Row name m → Row result (spec.join (spec.around 9 spec.nothing) m) }
+{
+    let word = Measure {
+        height: 1,
+        each: 9,
+        ..nothing()
+    };
+    join(word, name)
+}
+
 // The counts of a declaration, or `None` if it isn't within the limits.
 #[inline(always)]
 fn of_declaration(arena: &Arena, declaration: Declaration) -> Option<Measure>
@@ -231,6 +245,7 @@ fn of_declaration(arena: &Arena, declaration: Declaration) -> Option<Measure>
     ensures counts { Tallied result (spec.measure (declaration_tree arena.now.held (forest arena.now) declaration)) }
 {
     match declaration {
+        Declaration::Typename(name) => around(1, after_typename(arena.measure(name))),
         Declaration::TypeParam(constraint, name) => around(1, pair(arena, constraint, name)),
         Declaration::NonTypeParam(name, t) => around(1, pair(arena, name, t)),
         Declaration::TemplateParam(name, declarations, rest) => {

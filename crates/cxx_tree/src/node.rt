@@ -67,7 +67,9 @@ pub enum Plain {
 /// The declaration of a template parameter. A `u32` is the index of a node.
 #[derive(Clone, Copy)]
 pub enum Declaration {
-    /// The constraint or `typename`, and the name.
+    /// The name of a type, after `typename`: one node for two trees.
+    Typename(u32),
+    /// The constraint, and the name.
     TypeParam(u32, u32),
     /// The name, and the type.
     NonTypeParam(u32, u32),
