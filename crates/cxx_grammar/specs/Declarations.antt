@@ -10,7 +10,6 @@ use Rattle.cxx_grammar.specs.declared.cases.DeclarationCase.TheVariants as decla
 use Rattle.cxx_grammar.specs.State.{Invented}
 use Rattle.cxx_grammar.specs.Parses.{Parses, ◌>>=◌, ◌>>◌, pure, refused, check, past, expect, by, if_next, item_more, repeat, make, level, at_level}
 use Rattle.cxx_grammar.specs.Cases.{case_of_declaration, is_declarations_end}
-
 use Rattle.cxx_grammar.specs.Binds.{bind_declared}
 use Rattle.cxx_grammar.specs.Productions.{Productions, name_tree}
 use Rattle.cxx_grammar.specs.Constraints.{parse_constraint}
