@@ -224,18 +224,25 @@ fn of_plain(arena: &Arena, plain: Plain) -> Option<Measure>
     }
 }
 
-// The counts of the word `typename`, and of a name after it.
+// The counts of the word `typename` as a name.
 #[tactic(auto, unfolding(crate::specs::Counts::Row, crate::specs::Counts::AreExact))]
+#[inline(always)]
+fn typename() -> Measure
+    ensures counts { Row result (spec.around 9 spec.nothing) }
+{
+    Measure {
+        height: 1,
+        each: 9,
+        ..nothing()
+    }
+}
+
+// The counts of `typename`, and of a name after it.
 #[inline(always)]
 fn after_typename(name: Measure) -> Measure
     ensures counts { (m : spec.Measure) → Row name m → Row result (spec.join (spec.around 9 spec.nothing) m) }
 {
-    let word = Measure {
-        height: 1,
-        each: 9,
-        ..nothing()
-    };
-    join(word, name)
+    join(typename(), name)
 }
 
 // The counts of a declaration, or `None` if it isn't within the limits.
