@@ -4,17 +4,20 @@ use Rattle.std.specs.Prelude.{option_map}
 use Rattle.std.specs.Str.{is_utf8, chars}
 use Rattle.std.proofs.lemmas.Str.{IsUtf8-from_is_utf8}
 use Rattle.abi_scalars.specs.Scalars.{front_digits, weighted, number, source_name, index_of}
+use Rattle.abi_scalars.specs.Indices.{sequence_id, level_of}
 use Rattle.abi_scalars.specs.Texts.{digits, number_text, optional_number_text, identifier}
 use Rattle.cxx_tree.specs.Measure.{measure, count}
 use Rattle.cxx_tree.specs.Bind.{bind, as_pack}
 use Rattle.cxx_grammar.specs.Words.{builtin_of, d_builtin_of, integer_of, std_of, operator_of}
 use Rattle.cxx_grammar.specs.Parses.{past_word_if, repeat_at_most}
-use Rattle.cxx_grammar.specs.Bases.{base_name, args_of, is_with_args, is_module, is_param, is_param_class, expand}
-use Rattle.cxx_grammar.specs.Binds.{bind_args, bind_declared, parse_closed, bind_encoding}
+use Rattle.cxx_grammar.specs.Bases.{base_name, args_of, is_with_args, is_module, is_param, is_param_class, expand, declared_name}
+use Rattle.cxx_grammar.specs.Binds.{bind_args, bind_declared, parse_closed, bind_encoding, names_of, bind_constraint}
+use Rattle.cxx_grammar.specs.Declarations.{invent_type, invent_value, invent_template, parse_declarations, declaration_as}
+use Rattle.cxx_grammar.specs.Requirements.{parse_constrained_arg, requirement_as}
 use Rattle.cxx_grammar.specs.Locals.{past_digits, past_discriminator, local_as}
 use Rattle.cxx_grammar.specs.Ordinals.{more_of, without_zeros, ordinal_digits}
 use Rattle.cxx_grammar.specs.Unnamed.{parse_closure, parse_lambda}
-use Rattle.cxx_grammar.specs.Leaves.{parse_call_offset, parse_temporary_id, parse_substitution, parse_template_param, parse_cv, parse_ref, parse_builtin, parse_bool, parse_null, parse_integer, parse_abi_tags, parse_float_type, parse_function_param, parse_float}
+use Rattle.cxx_grammar.specs.Leaves.{parse_call_offset, parse_temporary_id, parse_substitution, parse_template_param, parse_cv, parse_ref, parse_builtin, parse_bool, parse_null, parse_integer, parse_abi_tags, parse_float_type, parse_function_param, parse_float, parse_param_level}
 use Rattle.cxx_grammar.specs.Modules.{parse_subnames, parse_module, parse_module_substitution}
 use Rattle.cxx_grammar.specs.Floats.{are_hex, hex_three, significant_len, doubled_text, single_size, single_fraction, float_text, float_digits}
 use Rattle.cxx_grammar.specs.Args.{literal_as, arg_as}
@@ -56,6 +59,8 @@ unfolding productions parse_subnames parse_module parse_module_substitution pars
     parse_template_param parse_cv
     parse_ref parse_builtin parse_bool parse_null parse_integer builtin_of d_builtin_of integer_of std_of operator_of
     base_name args_of is_with_args is_module is_param expand bind_args parse_closed bind_encoding bind as_pack measure count
+    declared_name names_of bind_constraint invent_type invent_value invent_template parse_declarations declaration_as
+    parse_param_level parse_constrained_arg requirement_as sequence_id level_of
     front_digits weighted number source_name index_of digits number_text optional_number_text identifier
     print list_from last_ends sequence separated repeated ending short_std_text long_std_text std_text cv_text
     ref_text mark opened member_opened closed prec_of rank is_simple has_args is_designator is_scoped is_objc_object
