@@ -177,7 +177,7 @@ fn read_special(reader: &mut Reader, depth: usize) -> Result<u32, Stop>
 
 // Reads a name and what follows it, and binds its template parameters.
 #[cycle(reader)]
-#[inline(always)]
+#[inline(never)]
 fn read_named(reader: &mut Reader, depth: usize) -> Result<u32, Stop>
     ensures reads { Gives result reader.new (spec.parse_named_encoding (productions depth) (state reader.old)) }
     ensures moves { OnOk result (Moves reader.old reader.new) }
